@@ -1,0 +1,2 @@
+pub mod Shears
+pub mod Exact

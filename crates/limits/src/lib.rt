@@ -1,0 +1,4 @@
+// The quantities of a job.
+
+pub mod frame;
+pub mod site;

@@ -1,0 +1,41 @@
+-- Demand 3, of printed figures in N: the base shear v, and u x under level x, from 0.
+--   Number x             x stands for a number
+--   AtLeast v x          v is at least x;  LessBy v x y    v is less than x + y
+--   allowed s k f W      six s-ths of I·W/(1.4·alpha-y), plus one newton
+--   Demand3 s k f ws hs T v u    never below the exact figure, and above it by less than that margin, for a storey by less
+--                                than that whole margin plus two newtons
+use mathlib.Core.List.{List}
+use Prim.Native.Nat.{ℕ, _<_}
+use lib.ListN.{length}
+use Rattle.whole.specs.declared.Fraction.{Fraction}
+use Rattle.whole.specs.Cells.{sum}
+use Rattle.whole.specs.Fraction.{over, plus, times, AtMost, Less}
+use Rattle.limits.specs.declared.frame.Frame.{Frame}
+use Rattle.site.specs.declared.Hazards.{Hazards}
+use Rattle.base_shear.specs.Exact.{Roots, scale, exactBase}
+use Rattle.storeys.specs.Exact.{exactStorey}
+use Rattle.margin.specs.Roots.{Lowering, Raising}
+
+abbrev pub Number : Fraction → Type 0
+Number x = 0 < x .den
+
+abbrev pub AtLeast : ℕ → Fraction → Type 0
+AtLeast v x = AtMost x (over v 1)
+
+abbrev pub LessBy : ℕ → Fraction → Fraction → Type 0
+LessBy v x y = Less (over v 1) (plus x y)
+
+abbrev pub allowed : ℕ → Hazards → Frame → ℕ → Fraction
+allowed s k f W = plus (times (over 6 s) (scale (k .shear) f W)) (over 1 1)
+
+pub record Demand3 (s : ℕ) (k : Hazards) (f : Frame) (ws hs : List ℕ) (T v : ℕ) (u : ℕ → ℕ) : Type 0 where
+  pub never-below : (r : Roots) → Lowering k r
+      → Number (exactBase k f (sum ws) T r) × AtLeast v (exactBase k f (sum ws) T r)
+  pub close : (r : Roots) → Raising k r
+      → Number (exactBase k f (sum ws) T r) × LessBy v (exactBase k f (sum ws) T r) (allowed s k f (sum ws))
+  pub storey-never-below : (x : ℕ) → x < length ws → (r : Roots) → Lowering k r
+      → Number (exactStorey T ws hs (exactBase k f (sum ws) T r) x)
+      × AtLeast (u x) (exactStorey T ws hs (exactBase k f (sum ws) T r) x)
+  pub storey-close : (x : ℕ) → x < length ws → (r : Roots) → Raising k r
+      → Number (exactStorey T ws hs (exactBase k f (sum ws) T r) x)
+      × LessBy (u x) (exactStorey T ws hs (exactBase k f (sum ws) T r) x) (plus (allowed s k f (sum ws)) (over 2 1))

@@ -1,0 +1,2 @@
+pub mod Roots
+pub mod Demand3

@@ -1,0 +1,1 @@
+// Demand 3: how the printed figures stand to the exact ones.

@@ -1,0 +1,62 @@
+-- Document 01's 'Figures to hold it to': those that are proved together, as one table.
+--   computed    what the definitions give
+--   stated      what document 01 states, in its order: the hard site 80/45 at T = 112, 113, 563, 1406, 1407; the ratios 300001,
+--               800000, 800001; the lower roots of R = 480, design and MCE, and of R = 100, design and MCE; the period of
+--               kind 2 at 300 dm
+use mathlib.Core.Path.{_≡_, refl}
+use mathlib.Core.List.{List, [], _∷_}
+use Prim.Native.Nat.{ℕ}
+use Rattle.whole.specs.Rounding.{up, down}
+use Rattle.whole.specs.Search.{largest, bitsFrom}
+use Rattle.whole.specs.Line.{between}
+use Rattle.limits.specs.declared.site.Class.the-variants.{Hard}
+use Rattle.limits.specs.declared.frame.Kind.the-variants.{Concrete}
+use Rattle.site.specs.Coefficients.{factored, accelerationA, accelerationB}
+use Rattle.site.specs.Capacity.{designSquare, mceSquare}
+use Rattle.site.specs.Hazards.{lines}
+use Rattle.response.specs.Unit.{unit}
+use Rattle.response.specs.Period.{approximate}
+use Rattle.response.specs.Spectrum.{spectrum, exactSpectrum}
+use Rattle.whole.specs.Root.{lowerRoot}
+use Rattle.response.specs.Ratio.{modified, bent}
+
+abbrev hardSpectrum : ℕ → ℕ
+hardSpectrum T = spectrum unit (accelerationA Hard (factored 80 100)) (accelerationB Hard (factored 45 100)) T
+
+abbrev computed : List ℕ
+computed =
+    hardSpectrum 112
+    ∷ hardSpectrum 113
+    ∷ hardSpectrum 563
+    ∷ hardSpectrum 1406
+    ∷ hardSpectrum 1407
+    ∷ modified unit lines 300_001
+    ∷ modified unit lines 800_000
+    ∷ modified unit lines 800_001
+    ∷ lowerRoot unit (designSquare 480)
+    ∷ lowerRoot unit (mceSquare 480)
+    ∷ lowerRoot unit (designSquare 100)
+    ∷ lowerRoot unit (mceSquare 100)
+    ∷ approximate Concrete 300
+    ∷ []
+
+abbrev stated : List ℕ
+stated =
+    797_867
+    ∷ 800_000
+    ∷ 799_290
+    ∷ 320_057
+    ∷ 320_000
+    ∷ 300_001
+    ∷ 560_000
+    ∷ 560_001
+    ∷ 2_463_060
+    ∷ 2_932_575
+    ∷ 1_000_000
+    ∷ 1_000_000
+    ∷ 897
+    ∷ []
+
+pub figures : computed ≡ stated
+unfolding spectrum exactSpectrum modified bent lowerRoot approximate largest bitsFrom up down between
+figures = refl

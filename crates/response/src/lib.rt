@@ -1,0 +1,1 @@
+// The response of a frame: period, spectrum, roots, reduction factor, modified ratio.

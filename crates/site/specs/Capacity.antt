@@ -1,0 +1,19 @@
+-- The ductility capacity, and the square of its root (5), (6), (16); R in 0.01.
+--   designCapacity R, designSquare R    R_a = 1 + (R − 1)/1.5, and 2·R_a − 1
+--   mceCapacity R, mceSquare R          R itself, and 2·R − 1
+-- ℕ's subtraction stops at 0; R is at least 100.
+use Prim.Native.Nat.{ℕ, _+_, _-_, _*_}
+use Rattle.whole.specs.declared.Fraction.{Fraction}
+use Rattle.whole.specs.Fraction.{over}
+
+abbrev pub designCapacity : ℕ → Fraction
+designCapacity R = over (2 * R + 100) 300
+
+abbrev pub designSquare : ℕ → Fraction
+designSquare R = over (R - 25) 75
+
+abbrev pub mceCapacity : ℕ → Fraction
+mceCapacity R = over R 100
+
+abbrev pub mceSquare : ℕ → Fraction
+mceSquare R = over (R - 50) 50

@@ -1,0 +1,4 @@
+pub mod Table2
+pub mod Coefficients
+pub mod Capacity
+pub mod Hazards

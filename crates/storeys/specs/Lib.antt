@@ -1,0 +1,2 @@
+pub mod Storeys
+pub mod Exact

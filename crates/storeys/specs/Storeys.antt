@@ -1,0 +1,60 @@
+-- Storeys (21). V in N, T in ms, weights in kN, heights in dm, lowest level first; level x is counted from 0.
+--   roofPart T            0.07·(T in s)
+--   roofForce T v         F_t = 0.07·(T in s)·V, up
+--   moment ws hs          P, the sum of weight times height; P_x is that of what stands from level x to the roof
+--   shearUnder T v ws hs x    the shear under level x: F_t + (V − F_t)·P_x/P, quotient up
+--   shears T v ws hs      those of all levels
+--   forces us             a level's force: its shear less the one above
+--   bottom hs x           the height of the bottom of storey x: level x − 1, or the base
+--   about b fs hs         force times height above b, added
+--   overturning fs hs x   about the bottom of storey x, in N·dm, over the levels from x upward
+--   moments fs hs         those of all storeys
+-- ℕ's subtraction stops at 0; that no difference here goes below it is a law.
+use mathlib.Core.List.{List, [], _∷_}
+use Prim.Native.Nat.{ℕ, zero, suc, _+_, _-_, _*_}
+use lib.ListN.{length, drop, getD}
+use Rattle.whole.specs.declared.Fraction.{Fraction}
+use Rattle.whole.specs.Rounding.{up}
+use Rattle.whole.specs.Fraction.{over}
+use Rattle.whole.specs.Cells.{cells}
+
+abbrev pub roofPart : ℕ → Fraction
+roofPart T = over (7 * T) 100_000
+
+abbrev pub roofForce : ℕ → ℕ → ℕ
+roofForce T v = up (roofPart T .num * v) (roofPart T .den)
+
+unfoldable pub moment : List ℕ → List ℕ → ℕ
+moment [] hs = 0
+moment (w ∷ ws) [] = 0
+moment (w ∷ ws) (h ∷ hs) = w * h + moment ws hs
+
+abbrev pub shearUnder : ℕ → ℕ → List ℕ → List ℕ → ℕ → ℕ
+shearUnder T v ws hs x =
+    let ft = roofForce T v in
+    ft + up ((v - ft) * moment (drop x ws) (drop x hs)) (moment ws hs)
+
+abbrev pub shears : ℕ → ℕ → List ℕ → List ℕ → List ℕ
+shears T v ws hs = cells (shearUnder T v ws hs) (length ws)
+
+-- above the roof there is none, and `getD` gives 0
+abbrev pub force : List ℕ → ℕ → ℕ
+force us x = getD us x 0 - getD us (x + 1) 0
+
+abbrev pub forces : List ℕ → List ℕ
+forces us = cells (force us) (length us)
+
+abbrev pub bottom : List ℕ → ℕ → ℕ
+bottom hs zero = 0
+bottom hs (suc x) = getD hs x 0
+
+unfoldable pub about : ℕ → List ℕ → List ℕ → ℕ
+about b [] hs = 0
+about b (f ∷ fs) [] = 0
+about b (f ∷ fs) (h ∷ hs) = f * (h - b) + about b fs hs
+
+abbrev pub overturning : List ℕ → List ℕ → ℕ → ℕ
+overturning fs hs x = about (bottom hs x) (drop x fs) (drop x hs)
+
+abbrev pub moments : List ℕ → List ℕ → List ℕ
+moments fs hs = cells (overturning fs hs) (length fs)

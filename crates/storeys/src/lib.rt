@@ -1,0 +1,1 @@
+// The storeys: roof force, shears, forces, overturning.

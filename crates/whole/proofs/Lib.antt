@@ -1,0 +1,10 @@
+pub mod Choice
+pub mod Extreme
+pub mod Rounding
+pub mod Search
+pub mod Root
+pub mod Order
+pub mod Difference
+pub mod Floor
+pub mod Line
+pub mod Range

@@ -1,0 +1,1 @@
+"""Checks of the model; every module yields (label, function, wanted) from `checks()`."""

@@ -1,0 +1,68 @@
+"""One job: judged, then worked out with every figure on the way."""
+
+from typing import NamedTuple
+
+from . import limits, response, shears, site as sites, storeys
+
+
+class Job(NamedTuple):
+    """An accepted job; lists run lowest level first; design, mce and star are `shears.Response`."""
+
+    site: limits.Site
+    frame: limits.Frame
+    weights: list
+    heights: list
+    s: int
+    W: int
+    t: int
+    T: int
+    design: shears.Response
+    mce: shears.Response
+    star: shears.Response
+    q: int
+    m: int
+    q_M: int
+    m_M: int
+    p: int
+    V: int
+    V_M: int
+    V_star: int
+    V_D: int
+    F_t: int
+    forces: list
+    shears: list
+    moments: list
+
+
+def job(site, frame, weights, heights, buffer_lengths=(), s=response.UNIT):
+    """('refused', number, place), or the `Job` by "From map values to shear"."""
+    refusal = limits.judge(site, frame, weights, heights, buffer_lengths)
+    if refusal is not None:
+        return ('refused', *refusal)
+    site, frame = limits.Site(*site), limits.Frame(*frame)
+    weights, heights = list(weights), list(heights)
+    W = sum(weights)
+    t = response.approximate_period(frame.kind, heights[-1])
+    T = response.period(t, frame.calculated_period)
+
+    design = shears.respond(*sites.design(site), response.design_capacity(frame.R), T, s)
+    mce = shears.respond(*sites.mce(site), response.mce_capacity(frame.R), T, s)
+    star = shears.respond(*sites.star(site), response.design_capacity(frame.R), T, s)
+
+    q = response.ratio(design.spectrum, design.lower_factor, s)
+    m = response.modified_ratio(q, s)
+    q_M = response.ratio(mce.spectrum, mce.lower_factor, s)
+    m_M = response.modified_ratio(q_M, s)
+    p = response.p_of_star(star.spectrum, star.upper_factor)
+
+    V = shears.V(frame, m, W, s)
+    V_M = shears.V(frame, m_M, W, s)
+    V_star = shears.V_star(frame, p, W, s)
+    V_D = shears.V_D(V, V_M, V_star)
+
+    F_t = storeys.F_t(T, V_D)
+    storey_shears = storeys.shears(V_D, F_t, weights, heights)
+    forces = storeys.forces(storey_shears)
+    moments = storeys.overturning(forces, heights)
+    return Job(site, frame, weights, heights, s, W, t, T, design, mce, star, q, m, q_M, m_M, p,
+               V, V_M, V_star, V_D, F_t, forces, storey_shears, moments)

@@ -1,0 +1,93 @@
+"""Ranges of the quantities and the refusals of a job, in their order."""
+
+from typing import NamedTuple
+
+LEVELS = range(1, 50 + 1)
+WEIGHT = range(1, 20_000 + 1)
+HEIGHT = range(1, 2_000 + 1)
+S_S_DESIGN = (50, 60, 70, 80)
+S_1_DESIGN = (30, 35, 40, 45)
+S_S_MCE = (70, 80, 90, 100)
+S_1_MCE = (40, 45, 50, 55)
+N_A = range(100, 150 + 1)
+N_V = range(100, 200 + 1)
+CLASS = (1, 2, 3)
+R_RANGE = range(100, 600 + 1)
+I_VALUES = (100, 125, 150)
+ALPHA_Y = range(100, 200 + 1)
+KIND = (1, 2, 3, 4)
+CALCULATED_PERIOD = range(0, 60_000 + 1)
+
+
+class Site(NamedTuple):
+    """The numbers of a `site` line: "S_S D, S_1 D, S_S M, S_1 M, N_A, N_V, class"."""
+
+    SSD: int
+    S1D: int
+    SSM: int
+    S1M: int
+    NA: int
+    NV: int
+    cls: int
+
+
+class Frame(NamedTuple):
+    """The numbers of a `frame` line: "kind, calculated period, R, I, alpha-y"."""
+
+    kind: int
+    calculated_period: int
+    R: int
+    I: int
+    alphay: int
+
+
+def level_refusals(weights, heights, buffer_lengths):
+    """Refusals 1 to 4; "Number 1 is judged on the weight list", heights are "rising strictly"."""
+    if len(weights) not in LEVELS:
+        yield 1, 0
+    if len(heights) != len(weights) or any(length < len(weights) for length in buffer_lengths):
+        yield 2, 0
+    for level, weight in enumerate(weights, 1):
+        if weight not in WEIGHT:
+            yield 3, level
+    below = 0
+    for level, height in enumerate(heights, 1):
+        if height not in HEIGHT or height <= below:
+            yield 4, level
+        below = height
+
+
+def site_refusals(site):
+    """Refusals 5 to 7: "mapped value not listed", at "1 to 4, sheet order"; factor; class."""
+    mapped = (S_S_DESIGN, S_1_DESIGN, S_S_MCE, S_1_MCE)
+    for place, (value, listed) in enumerate(zip(site[:4], mapped), 1):
+        if value not in listed:
+            yield 5, place
+    for place, (value, allowed) in enumerate(((site.NA, N_A), (site.NV, N_V)), 1):
+        if value not in allowed:
+            yield 6, place
+    if site.cls not in CLASS:
+        yield 7, 0
+
+
+def frame_refusals(frame):
+    """Refusals 8 to 12: "R, I, alpha-y, kind, calculated period", place 0."""
+    judged = (
+        (frame.R, R_RANGE), (frame.I, I_VALUES), (frame.alphay, ALPHA_Y), (frame.kind, KIND),
+        (frame.calculated_period, CALCULATED_PERIOD),
+    )
+    for number, (value, allowed) in enumerate(judged, 8):
+        if value not in allowed:
+            yield number, 0
+
+
+def refusals(site, frame, weights, heights, buffer_lengths):
+    """Every refusal that applies to a job, by number and then by place."""
+    yield from level_refusals(weights, heights, buffer_lengths)
+    yield from site_refusals(Site(*site))
+    yield from frame_refusals(Frame(*frame))
+
+
+def judge(site, frame, weights, heights, buffer_lengths=()):
+    """None, or (number, place): "The lowest number that applies is given, at its lowest place"."""
+    return next(refusals(site, frame, weights, heights, buffer_lengths), None)

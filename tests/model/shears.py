@@ -1,0 +1,52 @@
+"""The three base shears and V_D, in N, with the figures that lead to each."""
+
+from fractions import Fraction
+from math import ceil
+from typing import NamedTuple
+
+from . import response
+
+
+class Response(NamedTuple):
+    """Figures of one hazard at T: A and B in 10^-8 g, T0 in ms, the others in the unit 1/s."""
+
+    A: int
+    B: int
+    T0: Fraction
+    spectrum: int
+    lower_root: int
+    upper_root: int
+    lower_factor: int
+    upper_factor: int
+
+
+def respond(A, B, capacity_and_square, T, s=response.UNIT):
+    """Spectrum (4) and reduction factor (5), (6), (16) of one hazard at T."""
+    capacity, square = capacity_and_square
+    T0 = response.corner(A, B)
+    return Response(
+        A, B, T0, response.spectrum(A, B, T, s),
+        response.lower_root(square, s), response.upper_root(square, s),
+        response.lower_factor(capacity, square, T0, T, s),
+        response.upper_factor(capacity, square, T0, T, s),
+    )
+
+
+def divisor(s=response.UNIT):
+    """The 1400 of "V = I*m*W/(1400*alpha-y)": 1.4 times the unit of m, over 1000 N in a kN."""
+    return Fraction(14, 10) * s / 1000
+
+
+def V(frame, m, W, s=response.UNIT):
+    """"V = I*m*W/(1400*alpha-y)", in N, W in kN, rounded up; V_M is the same."""
+    return ceil(frame.I * m * W / (divisor(s) * frame.alphay))
+
+
+def V_star(frame, p, W, s=response.UNIT):
+    """"V* = I*p*W/(4200*alpha-y)", in N, W in kN, rounded up."""
+    return ceil(frame.I * p * W / (3 * divisor(s) * frame.alphay))
+
+
+def V_D(v, v_m, v_star):
+    """(20): "V_D is the largest of the three"."""
+    return max(v, v_m, v_star)

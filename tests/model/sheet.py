@@ -1,0 +1,67 @@
+"""The sheet reader and the listing, bytes to bytes ("Sheet and listing")."""
+
+import re
+
+from . import job as jobs
+
+MOST_BYTES = 4_096
+NUMBER = rb'\t(0|[1-9][0-9]{0,8})'
+SITE = re.compile(rb'site' + NUMBER * 7)
+FRAME = re.compile(rb'frame' + NUMBER * 5)
+LEVEL = re.compile(rb'level' + NUMBER * 2)
+
+
+def layout(line_number):
+    """"Line 1 is `site`", "Line 2 is `frame`", "All later lines are `level`"."""
+    return {1: SITE, 2: FRAME}.get(line_number, LEVEL)
+
+
+def refused(number, place):
+    """"A refusal prints one line: `refused`, number, place"."""
+    return b'refused\t%d\t%d\n' % (number, place)
+
+
+def read(data):
+    """A refusal 17 or 16 as (number, place), or the numbers of every line."""
+    if len(data) > MOST_BYTES:
+        return (17, 0), None
+    *lines, rest = data.split(b'\n')
+    numbers = []
+    for line_number, line in enumerate(lines, 1):
+        match = layout(line_number).fullmatch(line)
+        if match is None:
+            return (16, line_number), None
+        numbers.append(tuple(int(field) for field in match.groups()))
+    if rest or len(lines) < 2:
+        return (16, len(lines) + 1), None
+    return None, numbers
+
+
+def listing(job):
+    """"V, V_M, V*, V_D and T, then per level, roof first, number, force, shear, overturning"."""
+    lines = [b'base\t%d\t%d\t%d\t%d\t%d\n' % (job.V, job.V_M, job.V_star, job.V_D, job.T)]
+    for level in range(len(job.forces), 0, -1):
+        figures = (level, job.forces[level - 1], job.shears[level - 1], job.moments[level - 1])
+        lines.append(b'level\t%d\t%d\t%d\t%d\n' % figures)
+    return b''.join(lines)
+
+
+def write(site, frame, weights, heights):
+    """The bytes of a sheet that holds these numbers."""
+    lines = [('site', *site), ('frame', *frame)]
+    lines += [('level', weight, height) for weight, height in zip(weights, heights)]
+    return ''.join('\t'.join(map(str, line)) + '\n' for line in lines).encode('ascii')
+
+
+def shear(data):
+    """What the program `shear` prints for the bytes of a sheet."""
+    refusal, numbers = read(data)
+    if refusal is not None:
+        return refused(*refusal)
+    site, frame, *levels = numbers
+    weights = [weight for weight, _ in levels]
+    heights = [height for _, height in levels]
+    result = jobs.job(site, frame, weights, heights)
+    if result[0] == 'refused':
+        return refused(*result[1:])
+    return listing(result)

@@ -1,0 +1,89 @@
+"""The soil log: velocities, times, class and refusals 2, 13, 14 and 15."""
+
+from fractions import Fraction
+from math import ceil, floor
+from typing import NamedTuple
+
+LAYERS = range(1, 40 + 1)
+THICKNESS_SUM = 3_000
+MEASURED, COHESIVE, COHESIONLESS = 1, 2, 3
+VALUE = {MEASURED: range(500, 30_000 + 1), COHESIVE: range(2, 25 + 1), COHESIONLESS: range(1, 50 + 1)}
+HARD, NORMAL, SOFT = 1, 2, 3
+
+
+class Log(NamedTuple):
+    """An accepted log: velocities in dm/s, the sums U and L in ns, the site class."""
+
+    velocities: list
+    U: int
+    L: int
+    cls: int
+
+
+def refusals(thicknesses, kinds, values):
+    """Every refusal of a log: "for a log 2 precedes 13"; "14 at a layer of thickness 0 if there is one"."""
+    if not len(thicknesses) == len(kinds) == len(values):
+        yield 2, 0
+    if len(thicknesses) not in LAYERS:
+        yield 13, 0
+    for layer, thickness in enumerate(thicknesses, 1):
+        if thickness == 0:
+            yield 14, layer
+    if sum(thicknesses) != THICKNESS_SUM:
+        yield 14, 0
+    for layer, (kind, value) in enumerate(zip(kinds, values), 1):
+        if kind not in VALUE or value not in VALUE[kind]:
+            yield 15, layer
+
+
+def judge(thicknesses, kinds, values):
+    """None, or the first (number, place)."""
+    return next(refusals(thicknesses, kinds, values), None)
+
+
+def cube_root(number):
+    """The largest whole v with v^3 <= number."""
+    v, above = 0, 1
+    while above**3 <= number:
+        above *= 2
+    while above - v > 1:
+        middle = (v + above) // 2
+        if middle**3 <= number:
+            v = middle
+        else:
+            above = middle
+    assert v**3 <= number < (v + 1)**3
+    return v
+
+
+def velocity(kind, value):
+    """Measured, or by (3.a) "v^3 <= 1000^3*N", (3.b) "v^3 <= 800^3*N likewise", in dm/s."""
+    if kind == MEASURED:
+        return value
+    return cube_root({COHESIVE: 1000, COHESIONLESS: 800}[kind]**3 * value)
+
+
+def time(thickness, v):
+    """"A layer's time is 10^8*d/v ns"."""
+    return Fraction(10**8 * thickness, v)
+
+
+def site_class(U, L):
+    """"Hard exactly if 27*U < 3*10^9; soft exactly if 18*L > 3*10^9; else normal"."""
+    if 27 * U < 3 * 10**9:
+        return HARD
+    if 18 * L > 3 * 10**9:
+        return SOFT
+    return NORMAL
+
+
+def log(thicknesses, kinds, values):
+    """('refused', number, place), or the `Log` by "Soil log"."""
+    refusal = judge(thicknesses, kinds, values)
+    if refusal is not None:
+        return ('refused', *refusal)
+    velocities = [velocity(kind, value) for kind, value in zip(kinds, values)]
+    times = [time(thickness, v) for thickness, v in zip(thicknesses, velocities)]
+    U = sum(ceil(each) for each in times)
+    L = sum(floor(each) for each in times)
+    return Log(velocities, U, L, site_class(U, L))
