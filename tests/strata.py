@@ -27,11 +27,13 @@ def side_of(value, mark):
 def at_corner(hazard, label, side):
     """T within 1 ms of a corner of a hazard, on the given side, by the calculated period."""
     def reach(draft):
+        """The calculated period put at the corner."""
         mark = CORNERS[label] * response.corner(*getattr(sites, hazard)(draft.site))
         T = {'below': ceil(mark) - 1, 'on': floor(mark), 'above': floor(mark) + 1}[side]
         return draft._replace(frame=draft.frame._replace(calculated_period=T))
 
     def holds(job):
+        """T lies there, the cut at 14*t/10 not in the way."""
         mark = CORNERS[label] * getattr(job, hazard).T0
         return abs(job.T - mark) <= 1 and side_of(job.T, mark) == side
 
@@ -49,6 +51,7 @@ def ratio_of(hazard, site, T, R):
 def at_ratio(hazard, threshold, side):
     """The ratio within 200 millionths of a threshold; R is sought, as the ratio falls with R."""
     def reach(draft):
+        """R put where the ratio passes the threshold."""
         site, frame, _, heights = draft
         T = response.period(response.approximate_period(frame.kind, heights[-1]), frame.calculated_period)
         low, high = limits.R_RANGE[0], limits.R_RANGE[-1]
@@ -61,6 +64,7 @@ def at_ratio(hazard, threshold, side):
         return draft._replace(frame=frame._replace(R=R))
 
     def holds(job):
+        """The ratio lies there."""
         ratio = ratio_of(hazard, job.site, job.T, job.frame.R)
         return abs(ratio - threshold) <= NEAR_RATIO and side_of(ratio, threshold) == side
 
@@ -75,6 +79,7 @@ def kept(name, holds):
 def in_table(field, factor, columns, place):
     """S = mapped value times near-fault factor, on, between or beyond the columns of Table 2."""
     def holds(job):
+        """S lies there."""
         S = getattr(job.site, field) * getattr(job.site, factor)
         return place == ('on' if S in columns else 'beyond' if S > columns[-1] else 'between')
 
@@ -84,6 +89,7 @@ def in_table(field, factor, columns, place):
 def with_number(part, field, value):
     """One number of the site or of the frame at a given value."""
     def reach(draft):
+        """The number put in its place."""
         return draft._replace(**{part: getattr(draft, part)._replace(**{field: value})})
 
     return Stratum(f'{field} {value}', reach, lambda job: getattr(getattr(job, part), field) == value)

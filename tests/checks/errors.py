@@ -15,13 +15,15 @@ MODIFIED = {
 P_OF_STAR = {
     (300_000, 1_000_000): 300_000, (300_001, 1_000_000): 300_001, (700_000, 2_000_000): 652_000,
     (800_000, 2_000_000): 704_000, (800_000, 1_000_000): 560_000, (850_000, 1_000_000): 595_000,
+    (850_001, 1_000_000): 595_001, (900_001, 1_000_000): 630_001,
     (450_001, 1_500_003): 450_001, (450_004, 1_500_003): 450_003,
 }
 
 
 def lower_factor_in_star():
-    """"The lower factor used in V*: too small between the thresholds"; R 490 makes p 774557.108 exactly."""
+    """Error: "The lower factor used in V*: too small between the thresholds"; the exact p is 774557.108..."""
     def figures():
+        """Both factors of V*, p and V*, demand 3 held."""
         result = job(SITE, limits.Frame(2, 200, 490, 150, 100), *HEAVY)
         exact.check(result)
         return result.star.lower_factor, result.star.upper_factor, result.p, result.V_star
@@ -29,11 +31,12 @@ def lower_factor_in_star():
 
 
 def near_fault_in_star():
-    """"Near-fault factors left in V*"; the coefficients of the mapped value, its own T0, Sa and F."""
+    """Error: "Near-fault factors left in V*"; it has the mapped values' own A, B, T0, Sa and F."""
     frame = limits.Frame(2, 700, 480, 125, 130)
     far = job(SITE._replace(cls=3), frame, *HEAVY)
     for NA, NV in ((150, 200), (101, 100), (100, 101), (133, 177)):
         def figures(near=SITE._replace(cls=3, NA=NA, NV=NV)):
+            """All that leads to V* at this near-fault site."""
             result = job(near, frame, *HEAVY)
             return result.star, result.p, result.V_star
         yield f'V* with N_A {NA}, N_V {NV}', figures, (far.star, far.p, far.V_star)
@@ -44,7 +47,7 @@ def near_fault_in_star():
 
 
 def rounded_corner():
-    """"T0 rounded to a millisecond before branches are chosen"; T0 is 3000/7 ms, 2.5 T0 is 1071.43."""
+    """Error: "T0 rounded to a millisecond before branches are chosen"; here T0 is 3000/7 ms."""
     A, B = 70_000_000, 30_000_000
     for T, wanted in {85: 696500, 86: 700000, 428: 700000, 429: 699301, 1071: 280113, 1072: 280000}.items():
         yield f'spectrum at {T}, T0 428.57', lambda T=T: response.spectrum(A, B, T), wanted
@@ -56,7 +59,7 @@ def rounded_corner():
 
 
 def thresholds():
-    """"Thresholds 0.4 and 0.9, which are the draft's"."""
+    """Error: "Thresholds 0.4 and 0.9, which are the draft's"."""
     for q, wanted in MODIFIED.items():
         yield f'modified ratio of {q}', lambda q=q: response.modified_ratio(q), wanted
     for (Sa, F), wanted in P_OF_STAR.items():
@@ -64,7 +67,7 @@ def thresholds():
 
 
 def forces_alone():
-    """"Each storey force rounded alone: the sum misses V_D"."""
+    """Error: "Each storey force rounded alone: the sum misses V_D"."""
     weights, heights = [1] * 7, [1, 2, 3, 4, 5, 6, 7]
     under = [1000, 967, 901, 801, 668, 502, 303]
     yield 'F_t', lambda: storeys.F_t(1000, 1000), 70

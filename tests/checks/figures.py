@@ -10,8 +10,13 @@ HARD_80_45 = (80_000_000, 45_000_000)
 
 SPECTRUM = {112: 797867, 113: 800000, 563: 799290, 1406: 320057, 1407: 320000}
 RATIO = {300001: 300001, 800000: 560000, 800001: 560001}
-PERIOD = {(2, 300): 897, (4, 1): 8, (1, 2000): 4520}
+PERIOD = {(2, 300): 897, (3, 300): 897, (4, 1): 8, (1, 2000): 4520}
 VELOCITY = {(2, 25): 2924, (3, 50): 2947}
+TABLE_2 = {
+    (site.F_a, 1): (100, 100, 100, 100, 100), (site.F_v, 1): (100, 100, 100, 100, 100),
+    (site.F_a, 2): (110, 110, 100, 100, 100), (site.F_v, 2): (150, 140, 130, 120, 110),
+    (site.F_a, 3): (120, 120, 110, 100, 100), (site.F_v, 3): (180, 170, 160, 150, 140),
+}
 ON_THE_WAY = {
     'W': 15000, 't': 897, 'T': 1000, 'q': 127359, 'm': 127359, 'q_M': 114584, 'm_M': 114584, 'p': 450000,
     'V': 909708, 'V_M': 818458, 'V_star': 1071429, 'V_D': 1071429, 'F_t': 75001,
@@ -27,7 +32,7 @@ STOREY_EXCESS_ABOVE_2 = (limits.Site(70, 30, 70, 40, 149, 135, 1), limits.Frame(
 
 
 def stated():
-    """Every figure of the section, the listing apart."""
+    """Every figure of the section, the listing apart; every cell of Table 2."""
     yield 'A and B, hard 80/45', lambda: site.design(SITE), HARD_80_45
     for T, wanted in SPECTRUM.items():
         yield f'spectrum at {T}', lambda T=T: response.spectrum(*HARD_80_45, T), wanted
@@ -41,6 +46,10 @@ def stated():
         yield f'period, kind {kind}, {h} dm', lambda k=kind, h=h: response.approximate_period(k, h), wanted
     for (kind, N), wanted in VELOCITY.items():
         yield f'velocity, kind {kind}, N {N}', lambda k=kind, N=N: soil.velocity(k, N), wanted
+    for (F, cls), row in TABLE_2.items():
+        S = (1, *range(5000, 9001, 1000), 15000) if F is site.F_a else (1, *range(3000, 5001, 500), 11000)
+        wanted = [100 * cell for cell in (row[0], *row, row[-1])]
+        yield f'{F.__name__}, class {cls}', lambda F=F, c=cls, S=S: [F(c, each) for each in S], wanted
     yield 'normal F_a at 6500', lambda: site.F_a(2, 6500), 10500
     yield 'soft F_v at 3200', lambda: site.F_v(3, 3200), 17600
 
@@ -53,6 +62,7 @@ def worked():
     yield 'T0, hard 80/45', lambda: 2 * response.corner(*HARD_80_45), 1125
     for T, wanted in LOWER_UPPER_FACTORS.items():
         def factors(T=T):
+            """Lower and upper factor at T."""
             arguments = (*response.design_capacity(480), response.corner(*HARD_80_45), T)
             return response.lower_factor(*arguments), response.upper_factor(*arguments)
         yield f'factors at {T}', factors, wanted
@@ -65,6 +75,7 @@ def worked():
 def storey_margin():
     """A roof storey shear of 924 N over an exact 921.7359 N: more than 2 N, within the margin."""
     def figures():
+        """Printed in N, exact in 0.0001 N rounded down."""
         result = job(*STOREY_EXCESS_ABOVE_2)
         exact.check(result)
         return result.shears[-1], int(exact.bounds(result)[0].storeys[-1] * 10_000)

@@ -19,9 +19,9 @@ REFUSALS = (
 )
 
 
-def two_layers():
-    """Two layers whose times are rounded each: U and L a whole number of ns apart."""
-    log = soil.log([1000, 2000], [1, 2], [2700, 8])
+def three_layers():
+    """Sums of "times each rounded up" and "each rounded down": 37037037.04 ns twice, 62500000 ns once."""
+    log = soil.log([1000, 1000, 1000], [1, 1, 3], [2700, 2700, 8])
     return log.velocities, log.U, log.L, log.cls
 
 
@@ -35,4 +35,4 @@ def checks():
     logs += [([1, 2999], [1, kind], [500, value], (15, 2)) for kind, value in BAD_VALUES]
     for *log, wanted in (*logs, *REFUSALS):
         yield f'log {log}', lambda log=log: soil.judge(*log), wanted
-    yield 'U and L of two layers', two_layers, ([2700, 2000], 137037038, 137037037, 2)
+    yield 'U and L of three layers', three_layers, ([2700, 2700, 1600], 136574076, 136574074, 2)

@@ -61,7 +61,7 @@ def limits_of_lists():
 
 
 def order():
-    """"The lowest number that applies is given, at its lowest place": repaired from the lowest on."""
+    """Order: "The lowest number that applies is given, at its lowest place"; repaired one by one."""
     site, frame = [1] * 4 + [99, 99, 0], [0, 60_001, 0, 0, 0]
     case = {'site': site, 'frame': frame, 'weights': [0] * 51, 'heights': [0] * 3, 'buffer_lengths': (1,)}
     repairs = [((1, 0), 'weights', [0, 0]), ((2, 0), 'heights', [0, 0]), ((2, 0), 'buffer_lengths', (2,)),

@@ -20,14 +20,14 @@ class Shears(NamedTuple):
 
 
 def low_fraction(square, digits=DIGITS):
-    """"a low fraction is at least 1 and has a square of at most root^2"; the largest of these digits."""
+    """Low: "at least 1 and has a square of at most root^2"; the largest of so many digits."""
     low = Fraction(isqrt(floor(square * 100**digits)), 10**digits)
     assert low >= 1 and low**2 <= square < (low + Fraction(1, 10**digits))**2
     return low
 
 
 def high_fraction(square, digits=DIGITS):
-    """"A high fraction is at least 1 and has a square of at least root^2"; the smallest likewise."""
+    """High: "at least 1 and has a square of at least root^2"; the smallest of so many digits."""
     high = Fraction(isqrt(ceil(square * 100**digits) - 1) + 1, 10**digits)
     assert high >= 1 and high**2 >= square > (high - Fraction(1, 10**digits))**2
     return high

@@ -8,7 +8,7 @@ PERIOD_C = {1: 85, 2: 70, 3: 70, 4: 50}
 
 
 def approximate_period(kind, h):
-    """"the largest whole t with 1000*t^4 <= c^4*h^3, h the top height"."""
+    """Approximate: "the largest whole t with 1000*t^4 <= c^4*h^3, h the top height"."""
     bound = PERIOD_C[kind]**4 * h**3
     t = isqrt(isqrt(bound // 1000))
     assert 1000 * t**4 <= bound < 1000 * (t + 1)**4
@@ -16,14 +16,14 @@ def approximate_period(kind, h):
 
 
 def period(t, calculated_period):
-    """"With a calculated period, T is the smaller of it and 14*t/10 rounded down; else T = t"."""
+    """T: "With a calculated period, T is the smaller of it and 14*t/10 rounded down; else T = t"."""
     if calculated_period == 0:
         return t
     return min(calculated_period, floor(Fraction(14 * t, 10)))
 
 
 def corner(A, B):
-    """"The corner T0 = 1000*B/A ms is never rounded"."""
+    """Corner in ms: "The corner T0 = 1000*B/A ms is never rounded"."""
     return Fraction(1000 * B, A)
 
 
@@ -47,24 +47,24 @@ def spectrum(A, B, T, s=UNIT):
 
 
 def design_capacity(R):
-    """"Design capacity is exactly (2R+100)/300, with root^2 = (R-25)/75": (capacity, root^2)."""
+    """(capacity, root^2): "Design capacity is exactly (2R+100)/300, with root^2 = (R-25)/75"."""
     return Fraction(2 * R + 100, 300), Fraction(R - 25, 75)
 
 
 def mce_capacity(R):
-    """"MCE capacity R/100, root^2 = (R-50)/50": (capacity, root^2)."""
+    """(capacity, root^2): "MCE capacity R/100, root^2 = (R-50)/50"."""
     return Fraction(R, 100), Fraction(R - 50, 50)
 
 
 def lower_root(square, s=UNIT):
-    """"the largest whole k with (k/10^6)^2 not above that"."""
+    """Lower root: "the largest whole k with (k/10^6)^2 not above that"."""
     k = isqrt(floor(square * s**2))
     assert k**2 <= square * s**2 < (k + 1)**2
     return k
 
 
 def upper_root(square, s=UNIT):
-    """"the smallest not below"."""
+    """Upper root: "the smallest not below"."""
     k = isqrt(ceil(square * s**2) - 1) + 1
     assert (k - 1)**2 < square * s**2 <= k**2
     return k
@@ -84,17 +84,17 @@ def factor(capacity, root, T0, T):
 
 
 def lower_factor(capacity, square, T0, T, s=UNIT):
-    """"Lower factor: lower root, result rounded down"."""
+    """In the unit 1/s: "Lower factor: lower root, result rounded down"."""
     return floor(s * factor(capacity, Fraction(lower_root(square, s), s), T0, T))
 
 
 def upper_factor(capacity, square, T0, T, s=UNIT):
-    """"Upper factor: upper root, rounded up"."""
+    """In the unit 1/s: "Upper factor: upper root, rounded up"."""
     return ceil(s * factor(capacity, Fraction(upper_root(square, s), s), T0, T))
 
 
 def ratio(Sa, F, s=UNIT):
-    """"q = spectrum over lower factor, rounded up"."""
+    """Ratio: "q = spectrum over lower factor, rounded up"."""
     return ceil(Fraction(s * Sa, F))
 
 
@@ -108,7 +108,7 @@ def modified_ratio(q, s=UNIT):
 
 
 def p_of_star(Sa, F):
-    """"p = Sa if 10*Sa <= 3*F; 0.52*Sa + 0.144*F, up, if 10*Sa <= 8*F; else 0.7*Sa, up"."""
+    """For V*: "p = Sa if 10*Sa <= 3*F; 0.52*Sa + 0.144*F, up, if 10*Sa <= 8*F; else 0.7*Sa, up"."""
     if 10 * Sa <= 3 * F:
         return Sa
     if 10 * Sa <= 8 * F:

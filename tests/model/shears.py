@@ -38,12 +38,12 @@ def divisor(s=response.UNIT):
 
 
 def V(frame, m, W, s=response.UNIT):
-    """"V = I*m*W/(1400*alpha-y)", in N, W in kN, rounded up; V_M is the same."""
+    """In N, rounded up, W in kN: "V = I*m*W/(1400*alpha-y)"; V_M is the same of its own m."""
     return ceil(frame.I * m * W / (divisor(s) * frame.alphay))
 
 
 def V_star(frame, p, W, s=response.UNIT):
-    """"V* = I*p*W/(4200*alpha-y)", in N, W in kN, rounded up."""
+    """In N, rounded up, W in kN: "V* = I*p*W/(4200*alpha-y)"."""
     return ceil(frame.I * p * W / (3 * divisor(s) * frame.alphay))
 
 

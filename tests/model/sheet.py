@@ -12,12 +12,12 @@ LEVEL = re.compile(rb'level' + NUMBER * 2)
 
 
 def layout(line_number):
-    """"Line 1 is `site`", "Line 2 is `frame`", "All later lines are `level`"."""
+    """Layout: "Line 1 is `site`", "Line 2 is `frame`", "All later lines are `level`"."""
     return {1: SITE, 2: FRAME}.get(line_number, LEVEL)
 
 
 def refused(number, place):
-    """"A refusal prints one line: `refused`, number, place"."""
+    """Refused: "A refusal prints one line: `refused`, number, place"."""
     return b'refused\t%d\t%d\n' % (number, place)
 
 
@@ -38,7 +38,7 @@ def read(data):
 
 
 def listing(job):
-    """"V, V_M, V*, V_D and T, then per level, roof first, number, force, shear, overturning"."""
+    """Prints "V, V_M, V*, V_D and T, then per level, roof first, number, force, shear, overturning"."""
     lines = [b'base\t%d\t%d\t%d\t%d\t%d\n' % (job.V, job.V_M, job.V_star, job.V_D, job.T)]
     for level in range(len(job.forces), 0, -1):
         figures = (level, job.forces[level - 1], job.shears[level - 1], job.moments[level - 1])

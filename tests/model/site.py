@@ -42,7 +42,7 @@ def F_v(cls, S_1):
 
 
 def A_and_B(mapped_S_S, mapped_S_1, NA, NV, cls):
-    """"S = mapped value times its near-fault factor"; "A = F_a*S_S and B = F_v*S_1, in 10^-8 g"."""
+    """A and B: "S = mapped value times its near-fault factor"; "A = F_a*S_S and B = F_v*S_1, in 10^-8 g"."""
     S_S = mapped_S_S * NA
     S_1 = mapped_S_1 * NV
     return F_a(cls, S_S) * S_S, F_v(cls, S_1) * S_1

@@ -64,12 +64,12 @@ def velocity(kind, value):
 
 
 def time(thickness, v):
-    """"A layer's time is 10^8*d/v ns"."""
+    """Time in ns: "A layer's time is 10^8*d/v ns"."""
     return Fraction(10**8 * thickness, v)
 
 
 def site_class(U, L):
-    """"Hard exactly if 27*U < 3*10^9; soft exactly if 18*L > 3*10^9; else normal"."""
+    """Class: "Hard exactly if 27*U < 3*10^9; soft exactly if 18*L > 3*10^9; else normal"."""
     if 27 * U < 3 * 10**9:
         return HARD
     if 18 * L > 3 * 10**9:

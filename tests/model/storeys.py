@@ -5,24 +5,24 @@ from math import ceil
 
 
 def F_t(T, V_D):
-    """"F_t = 0.07*(T in s)*V_D, up"."""
+    """The part at the top: "F_t = 0.07*(T in s)*V_D, up"."""
     return ceil(Fraction(7, 100) * Fraction(T, 1000) * V_D)
 
 
 def products_above(weights, heights):
-    """"P_x that sum [of weight times height] from level x to the roof", for each x; the first is P."""
+    """For each x, "P_x that sum [of weight times height] from level x to the roof"; the first is P."""
     products = [weight * height for weight, height in zip(weights, heights)]
     return [sum(products[x:]) for x in range(len(products))]
 
 
 def shears(V_D, top, weights, heights):
-    """"the shear under level x is F_t + (V_D-F_t)*P_x/P, quotient up"."""
+    """Shears: "the shear under level x is F_t + (V_D-F_t)*P_x/P, quotient up"."""
     P_x = products_above(weights, heights)
     return [top + ceil(Fraction((V_D - top) * part, P_x[0])) for part in P_x]
 
 
 def forces(storey_shears):
-    """"A level's force is its shear less the one above"."""
+    """Forces: "A level's force is its shear less the one above"."""
     return [under - above for under, above in zip(storey_shears, storey_shears[1:] + [0])]
 
 

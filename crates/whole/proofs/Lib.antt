@@ -8,3 +8,4 @@ pub mod Difference
 pub mod Floor
 pub mod Line
 pub mod Range
+pub mod Unique

@@ -1,0 +1,129 @@
+-- A job with what the model of tests/ makes of it, and what the definitions make of it.
+--   Vector           site, frame, weights and heights; fractions for the roots; the printed stages; the exact figures
+--   printed v        A and B of the three hazards, t, T, the three spectra, lower root, lower factor, q and m of V and of V_M,
+--                    upper root, upper factor and p of V*, V, V_M, V*, V_D; then shears, forces and overturning moments
+--   exact v          V, V_M, V* and V_D at the fractions, then the storey shears
+--   agrees v         both are the model's
+use mathlib.Core.Bool.{Bool, true, false, _&&_}
+use mathlib.Core.List.{List, [], _∷_, _++_}
+use Prim.Native.Nat.{ℕ, zero, suc, _*_}
+use lib.Dec.{eqb}
+use lib.ListN.{length, getD}
+use Rattle.whole.specs.declared.Fraction.{Fraction}
+use Rattle.whole.specs.Fraction.{over}
+use Rattle.whole.specs.Cells.{sum}
+use Rattle.whole.specs.Root.{lowerRoot, upperRoot}
+use Rattle.limits.specs.declared.site.Class.{Class}
+use Rattle.limits.specs.declared.site.Site.{Site}
+use Rattle.limits.specs.declared.frame.Kind.{Kind}
+use Rattle.limits.specs.declared.frame.Frame.{Frame}
+use Rattle.site.specs.declared.Hazard.{Hazard}
+use Rattle.site.specs.declared.Hazards.{Hazards}
+use Rattle.site.specs.Hazards.{hazardsOf}
+use Rattle.response.specs.Unit.{unit}
+use Rattle.response.specs.Period.{approximate, inUse}
+use Rattle.response.specs.Spectrum.{spectrum}
+use Rattle.response.specs.Factor.{lowerFactor, upperFactor}
+use Rattle.response.specs.Ratio.{modified, blended}
+use Rattle.base_shear.specs.declared.Figures.{Figures}
+use Rattle.base_shear.specs.Shears.{ratioAt, figures}
+use Rattle.base_shear.specs.Exact.{Roots, exactShear, exactLeast, exactBase}
+use Rattle.storeys.specs.Storeys.{shears, forces, moments}
+use Rattle.storeys.specs.Exact.{exactStorey}
+
+pub record Vector : Type 0 where
+  pub site : Site
+  pub frame : Frame
+  pub weights : List ℕ
+  pub heights : List ℕ
+  pub roots : Roots
+  pub printed : List ℕ
+  pub exact : List Fraction
+
+abbrev pub siteOf : ℕ → ℕ → ℕ → ℕ → ℕ → ℕ → Class → Site
+siteOf ssd s1d ssm s1m na nv c =
+    record { ssd = ssd; s1d = s1d; ssm = ssm; s1m = s1m; na = na; nv = nv; class = c }
+
+abbrev pub frameOf : Kind → ℕ → ℕ → ℕ → ℕ → Frame
+frameOf k calculated r i alpha = record { kind = k; calculated = calculated; r = r; i = i; alpha = alpha }
+
+abbrev pub rootsOf : ℕ → ℕ → ℕ → ℕ → ℕ → ℕ → Roots
+rootsOf a b c d e f = record { v = over a b; vm = over c d; least = over e f }
+
+abbrev pub vector : Site → Frame → List ℕ → List ℕ → Roots → List ℕ → List Fraction → Vector
+vector site frame ws hs r ns xs =
+    record { site = site; frame = frame; weights = ws; heights = hs; roots = r; printed = ns; exact = xs }
+
+abbrev pub last : List ℕ → ℕ
+last [] = 0
+last (a ∷ []) = a
+last (a ∷ (b ∷ l)) = last (b ∷ l)
+
+-- of one hazard with its lower root: spectrum, root, factor, q, m
+unfoldable pub stages : Hazards → Hazard → ℕ → List ℕ
+stages k h T =
+    spectrum unit (h .a) (h .b) T
+    ∷ lowerRoot unit (h .square)
+    ∷ lowerFactor unit (h .a) (h .b) T (h .capacity) (h .square)
+    ∷ ratioAt unit h T
+    ∷ modified unit (k .lines) (ratioAt unit h T)
+    ∷ []
+
+-- of the hazard of V*: spectrum, upper root, upper factor, p
+unfoldable pub leastStages : Hazards → Hazard → ℕ → List ℕ
+leastStages k h T =
+    let Sa = spectrum unit (h .a) (h .b) T in
+    let F = upperFactor unit (h .a) (h .b) T (h .capacity) (h .square) in
+    Sa ∷ upperRoot unit (h .square) ∷ F ∷ blended (k .lines) Sa F ∷ []
+
+unfoldable pub period : Vector → ℕ
+period v = inUse (v .frame .calculated) (approximate (v .frame .kind) (last (v .heights)))
+
+unfoldable pub printed : Vector → List ℕ
+printed v =
+    let k = hazardsOf (v .site) (v .frame .r) in
+    let T = period v in
+    let f = figures unit k (v .frame) (sum (v .weights)) T in
+    let us = shears T (f .vd) (v .weights) (v .heights) in
+    let fs = forces us in
+    (k .design .a ∷ k .design .b ∷ k .mce .a ∷ k .mce .b ∷ k .plain .a ∷ k .plain .b ∷ [])
+    ++ (approximate (v .frame .kind) (last (v .heights)) ∷ T ∷ [])
+    ++ stages k (k .design) T
+    ++ stages k (k .mce) T
+    ++ leastStages k (k .plain) T
+    ++ (f .v ∷ f .vm ∷ f .least ∷ f .vd ∷ [])
+    ++ us
+    ++ fs
+    ++ moments fs (v .heights)
+
+unfoldable pub places : (ℕ → Fraction) → ℕ → List Fraction
+places f zero = []
+places f (suc n) = places f n ++ (f n ∷ [])
+
+unfoldable pub exact : Vector → List Fraction
+exact v =
+    let k = hazardsOf (v .site) (v .frame .r) in
+    let T = period v in
+    let W = sum (v .weights) in
+    let base = exactBase k (v .frame) W T (v .roots) in
+    (exactShear k (k .design) (v .frame) W T (v .roots .v)
+    ∷ exactShear k (k .mce) (v .frame) W T (v .roots .vm)
+    ∷ exactLeast k (v .frame) W T (v .roots .least)
+    ∷ base
+    ∷ [])
+    ++ places (exactStorey T (v .weights) (v .heights) base) (length (v .weights))
+
+unfoldable pub sameNumbers : List ℕ → List ℕ → Bool
+sameNumbers [] [] = true
+sameNumbers [] (b ∷ m) = false
+sameNumbers (a ∷ l) [] = false
+sameNumbers (a ∷ l) (b ∷ m) = eqb a b && sameNumbers l m
+
+unfoldable pub sameFractions : List Fraction → List Fraction → Bool
+sameFractions [] [] = true
+sameFractions [] (b ∷ m) = false
+sameFractions (a ∷ l) [] = false
+sameFractions (a ∷ l) (b ∷ m) = eqb (a .num * b .den) (b .num * a .den) && sameFractions l m
+
+unfoldable pub agrees : Vector → Bool
+agrees v = sameNumbers (printed v) (v .printed) && sameFractions (exact v) (v .exact)
