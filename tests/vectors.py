@@ -17,7 +17,7 @@ CLASSES = {1: 'Hard', 2: 'Normal', 3: 'Soft'}
 KINDS = {1: 'Steel', 2: 'Concrete', 3: 'Braced', 4: 'Other'}
 
 HEAD = """-- {count} jobs with what the model of tests/ makes of them, as `python3 tests/vectors.py {seed} {count}` writes them: data.
--- Each row: the site; the frame; weights; heights; three fractions for the roots; the printed stages; the exact figures.
+-- A line a row: the site; the frame; weights; heights; three fractions for the roots; the printed stages; the exact figures.
 use mathlib.Core.List.{{List, [], _∷_}}
 use Rattle.whole.specs.Fraction.{{over}}
 use Rattle.limits.specs.declared.site.Class.the-variants.{{Hard, Normal, Soft}}
@@ -74,7 +74,7 @@ def row(rng, stratum, site, frame, weights, heights):
     values = [*chain[:4], *chain.storeys]
     *mapped, number = site
     kind, *frame_values = frame
-    return '\n    '.join((
+    return ' '.join((
         f'vector (siteOf {" ".join(map(str, mapped))} {CLASSES[number]}) '
         f'(frameOf {KINDS[kind]} {" ".join(map(str, frame_values))})',
         f'{numbers(weights)} {numbers(heights)}',
@@ -89,7 +89,7 @@ def main(seed=SEED, count=COUNT):
     rng = random.Random(seed)
     print(HEAD.format(seed=seed, count=count))
     for each in accepted_jobs(seed, count):
-        print('    ' + row(rng, *each) + '\n    ∷')
+        print('    ' + row(rng, *each) + ' ∷')
     print('    []')
 
 
