@@ -1,4 +1,12 @@
-// The frame kind: 1 steel frame, 2 RC or SRC frame, 3 eccentric brace, 4 other.
+use crate::ranges::listed;
+use crate::ranges::within;
+use crate::refusal::Refusal;
+use crate::refusal::Verdict;
+ghost use mathlib.Core.Path.{_≡_};
+ghost use Rattle.limits.specs.Frame.{judgedKind, kindOutcome, judgedPeriod, judgedFrame, frameOutcome};
+ghost use Rattle.limits.specs.Outcome.{verdictOutcome};
+
+// The frame kind: steel frame, RC or SRC frame, eccentric brace, other.
 pub enum Kind {
     Steel,
     Concrete,
@@ -6,11 +14,156 @@ pub enum Kind {
     Other,
 }
 
-// The frame line: the kind; the calculated period in ms, 0 for none; R, I and alpha-y in 0.01.
+pub enum KindAnswer {
+    Taken(Kind),
+    Refused(Refusal),
+}
+
+impl Kind {
+    pub const STEEL: u64 = 1;
+
+    pub const CONCRETE: u64 = 2;
+
+    pub const BRACED: u64 = 3;
+
+    pub const OTHER: u64 = 4;
+
+    pub fn judged(number: u64) -> KindAnswer
+        ensures { λ a. ⌜ kindOutcome a ≡ judgedKind number ⌝ }
+    {
+        if number == Self::STEEL {
+            return KindAnswer::Taken(Kind::Steel);
+        }
+        if number == Self::CONCRETE {
+            return KindAnswer::Taken(Kind::Concrete);
+        }
+        if number == Self::BRACED {
+            return KindAnswer::Taken(Kind::Braced);
+        }
+        if number == Self::OTHER {
+            return KindAnswer::Taken(Kind::Other);
+        }
+        KindAnswer::Refused(Refusal {
+            number: Refusal::KIND,
+            place: Refusal::NOWHERE,
+        })
+    }
+}
+
+// The frame line as it comes: kind; calculated period in ms; R, I and alpha-y in 0.01.
+pub struct FrameValues {
+    pub kind: u64,
+    pub calculated: u64,
+    pub r: u64,
+    pub i: u64,
+    pub alpha: u64,
+}
+
+// The frame line, judged.
 pub struct Frame {
     pub kind: Kind,
     pub calculated: u64,
     pub r: u64,
     pub i: u64,
     pub alpha: u64,
+}
+
+pub enum FrameAnswer {
+    Taken(Frame),
+    Refused(Refusal),
+}
+
+impl Frame {
+    pub const R_LEAST: u64 = 100;
+
+    pub const R_MOST: u64 = 600;
+
+    pub const I_VALUES: [u64; 3] = [100, 125, 150];
+
+    pub const ALPHA_LEAST: u64 = 100;
+
+    pub const ALPHA_MOST: u64 = 200;
+    // Zero means 'none' for the calculated period, and for nothing else.
+    pub const NO_PERIOD: u64 = 0;
+
+    pub const PERIOD_LEAST: u64 = 1;
+
+    pub const PERIOD_MOST: u64 = 60_000;
+
+    // 12: the calculated period.
+    fn judged_period(calculated: u64) -> Verdict
+        ensures { λ a. ⌜ verdictOutcome a ≡ judgedPeriod calculated ⌝ }
+    {
+        if calculated == Self::NO_PERIOD {
+            return Verdict::Passed;
+        }
+        let most = Self::PERIOD_MOST;
+        within(
+            Self::PERIOD_LEAST,
+            most,
+            calculated,
+            Refusal::PERIOD,
+            Refusal::NOWHERE,
+        )
+    }
+
+    // 8 to 12 in turn.
+    pub fn judged(v: FrameValues) -> FrameAnswer
+        ensures { λ a. ⌜ frameOutcome a ≡ judgedFrame v ⌝ }
+    {
+        let ductility = within(
+            Self::R_LEAST,
+            Self::R_MOST,
+            v.r,
+            Refusal::R,
+            Refusal::NOWHERE,
+        );
+        let Verdict::Passed = ductility else {
+            let Verdict::Refused(r) = ductility else {
+                return FrameAnswer::Refused(Refusal::none());
+            };
+            return FrameAnswer::Refused(r);
+        };
+        let importance = listed(&Self::I_VALUES, v.i, Refusal::I, Refusal::NOWHERE);
+        let Verdict::Passed = importance else {
+            let Verdict::Refused(r) = importance else {
+                return FrameAnswer::Refused(Refusal::none());
+            };
+            return FrameAnswer::Refused(r);
+        };
+        let alpha = within(
+            Self::ALPHA_LEAST,
+            Self::ALPHA_MOST,
+            v.alpha,
+            Refusal::ALPHA_Y,
+            Refusal::NOWHERE,
+        );
+        let Verdict::Passed = alpha else {
+            let Verdict::Refused(r) = alpha else {
+                return FrameAnswer::Refused(Refusal::none());
+            };
+            return FrameAnswer::Refused(r);
+        };
+        let k = Kind::judged(v.kind);
+        let KindAnswer::Taken(kind) = k else {
+            let KindAnswer::Refused(r) = k else {
+                return FrameAnswer::Refused(Refusal::none());
+            };
+            return FrameAnswer::Refused(r);
+        };
+        let period = Self::judged_period(v.calculated);
+        let Verdict::Passed = period else {
+            let Verdict::Refused(r) = period else {
+                return FrameAnswer::Refused(Refusal::none());
+            };
+            return FrameAnswer::Refused(r);
+        };
+        FrameAnswer::Taken(Frame {
+            kind,
+            calculated: v.calculated,
+            r: v.r,
+            i: v.i,
+            alpha: v.alpha,
+        })
+    }
 }

@@ -1,11 +1,62 @@
-// The site class of Table 3: 1 hard, 2 normal, 3 soft.
+use crate::ranges::listed;
+use crate::ranges::within;
+use crate::refusal::Refusal;
+use crate::refusal::Verdict;
+ghost use mathlib.Core.Path.{_≡_};
+ghost use Rattle.limits.specs.Site.{judgedClass, classOutcome, judgedMapped, judgedNearFault, judgedSite, siteOutcome};
+ghost use Rattle.limits.specs.Outcome.{verdictOutcome};
+ghost use Rattle.limits.specs.Ranges.{listed};
+
+// The site class of Table 3.
 pub enum Class {
     Hard,
     Normal,
     Soft,
 }
 
-// The site line: S_S and S_1 of the design level, S_S and S_1 of the MCE level, in 0.01 g; N_A and N_V in 0.01; the class.
+pub enum ClassAnswer {
+    Taken(Class),
+    Refused(Refusal),
+}
+
+impl Class {
+    pub const HARD: u64 = 1;
+
+    pub const NORMAL: u64 = 2;
+
+    pub const SOFT: u64 = 3;
+
+    pub fn judged(number: u64) -> ClassAnswer
+        ensures { λ a. ⌜ classOutcome a ≡ judgedClass number ⌝ }
+    {
+        if number == Self::HARD {
+            return ClassAnswer::Taken(Class::Hard);
+        }
+        if number == Self::NORMAL {
+            return ClassAnswer::Taken(Class::Normal);
+        }
+        if number == Self::SOFT {
+            return ClassAnswer::Taken(Class::Soft);
+        }
+        ClassAnswer::Refused(Refusal {
+            number: Refusal::CLASS,
+            place: Refusal::NOWHERE,
+        })
+    }
+}
+
+// The site line as it comes: S_S and S_1 of the design level, S_S and S_1 of the MCE level, in 0.01 g; N_A and N_V in 0.01; class.
+pub struct SiteValues {
+    pub ssd: u64,
+    pub s1d: u64,
+    pub ssm: u64,
+    pub s1m: u64,
+    pub na: u64,
+    pub nv: u64,
+    pub class: u64,
+}
+
+// The site line, judged.
 pub struct Site {
     pub ssd: u64,
     pub s1d: u64,
@@ -14,4 +65,124 @@ pub struct Site {
     pub na: u64,
     pub nv: u64,
     pub class: Class,
+}
+
+pub enum SiteAnswer {
+    Taken(Site),
+    Refused(Refusal),
+}
+
+impl Site {
+    pub const SS_DESIGN: [u64; 4] = [50, 60, 70, 80];
+
+    pub const S1_DESIGN: [u64; 4] = [30, 35, 40, 45];
+
+    pub const SS_MCE: [u64; 4] = [70, 80, 90, 100];
+
+    pub const S1_MCE: [u64; 4] = [40, 45, 50, 55];
+
+    pub const NA_LEAST: u64 = 100;
+
+    pub const NA_MOST: u64 = 150;
+
+    pub const NV_LEAST: u64 = 100;
+
+    pub const NV_MOST: u64 = 200;
+
+    // The places of a mapped value, in sheet order, and of a near-fault factor.
+    pub const AT_SS_DESIGN: u64 = 1;
+
+    pub const AT_S1_DESIGN: u64 = 2;
+
+    pub const AT_SS_MCE: u64 = 3;
+
+    pub const AT_S1_MCE: u64 = 4;
+
+    pub const AT_NA: u64 = 1;
+
+    pub const AT_NV: u64 = 2;
+
+    // 5: the mapped values.
+    pub fn judged_mapped(v: SiteValues) -> Verdict
+        ensures { λ r. ⌜ verdictOutcome r ≡ judgedMapped v ⌝ }
+    {
+        let a = Self::mapped(&Self::SS_DESIGN, v.ssd, Self::AT_SS_DESIGN);
+        let Verdict::Passed = a else {
+            return a;
+        };
+        let b = Self::mapped(&Self::S1_DESIGN, v.s1d, Self::AT_S1_DESIGN);
+        let Verdict::Passed = b else {
+            return b;
+        };
+        let c = Self::mapped(&Self::SS_MCE, v.ssm, Self::AT_SS_MCE);
+        let Verdict::Passed = c else {
+            return c;
+        };
+        Self::mapped(&Self::S1_MCE, v.s1m, Self::AT_S1_MCE)
+    }
+
+    fn mapped(values: &[u64], x: u64, place: u64) -> Verdict
+        ensures { λ r. ⌜ verdictOutcome r ≡ listed (now (values .entry)) x 5 place ⌝ }
+    {
+        listed(values, x, Refusal::MAPPED, place)
+    }
+
+    // 6: the near-fault factors.
+    pub fn judged_near_fault(v: SiteValues) -> Verdict
+        ensures { λ r. ⌜ verdictOutcome r ≡ judgedNearFault v ⌝ }
+    {
+        let a = within(
+            Self::NA_LEAST,
+            Self::NA_MOST,
+            v.na,
+            Refusal::NEAR_FAULT,
+            Self::AT_NA,
+        );
+        let Verdict::Passed = a else {
+            return a;
+        };
+        within(
+            Self::NV_LEAST,
+            Self::NV_MOST,
+            v.nv,
+            Refusal::NEAR_FAULT,
+            Self::AT_NV,
+        )
+    }
+
+    // 5, 6, 7 in turn.
+    pub fn judged(v: SiteValues) -> SiteAnswer
+        ensures { λ a. ⌜ siteOutcome a ≡ judgedSite v ⌝ }
+    {
+        let m = Self::judged_mapped(v);
+        let Verdict::Passed = m else {
+            let Verdict::Refused(r) = m else {
+                return SiteAnswer::Refused(Refusal::none());
+            };
+            return SiteAnswer::Refused(r);
+        };
+        let n = Self::judged_near_fault(v);
+        let Verdict::Passed = n else {
+            let Verdict::Refused(r) = n else {
+                return SiteAnswer::Refused(Refusal::none());
+            };
+            return SiteAnswer::Refused(r);
+        };
+        let c = Class::judged(v.class);
+        let ClassAnswer::Taken(class) = c else {
+            let ClassAnswer::Refused(r) = c else {
+                return SiteAnswer::Refused(Refusal::none());
+            };
+            return SiteAnswer::Refused(r);
+        };
+        SiteAnswer::Taken(Site {
+            ssd: v.ssd,
+            s1d: v.s1d,
+            ssm: v.ssm,
+            s1m: v.s1m,
+            na: v.na,
+            nv: v.nv,
+            class,
+        })
+    }
 }

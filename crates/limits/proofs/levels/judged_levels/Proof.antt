@@ -1,0 +1,95 @@
+-- `limits::levels::judged_levels` meets its contract. Assumes nothing.
+use borrow.Author.Needs.{needs}
+use mathlib.Core.Path.{ap}
+use Rattle.limits.proofs.Stages.{says}
+use Rattle.limits.specs.Levels.{judgedLevels}
+use Rattle.limits.specs.Outcome.{verdictOutcome}
+use Rattle.limits.proofs.levels.judged_levels.Statement.{statement}
+use Rattle.limits.proofs.levels.judged_levels.Tie as tie
+
+counted-requires : tie.Need-counted-requires
+counted-requires c κs = search needs
+
+enum-told : tie.Need-enum-told
+enum-told c = search needs
+
+enum-told-2 : tie.Need-enum-told-2
+enum-told-2 c = search needs
+
+returns : tie.Need-returns
+unfolding judgedLevels
+returns c =
+    simp (says verdictOutcome (c .before .before .counted .ensures) (c .enum-told2 .given .1)) (ap verdictOutcome (c .enum-told2 .given .1))
+
+paired-requires : tie.Need-paired-requires
+paired-requires c κs = search needs
+
+enum-told-3 : tie.Need-enum-told-3
+enum-told-3 c = search needs
+
+enum-told-4 : tie.Need-enum-told-4
+enum-told-4 c = search needs
+
+returns-2 : tie.Need-returns-2
+unfolding judgedLevels
+returns-2 c =
+    simp (says verdictOutcome (c .before .before .before .before .before .counted .ensures) (c .before .before .before .enum-told .given .1), says verdictOutcome (c .before .before .paired .ensures) (c .enum-told4 .given .1)) (ap verdictOutcome (c .enum-told4 .given .1))
+
+roomy-requires : tie.Need-roomy-requires
+roomy-requires c κs = search needs
+
+enum-told-5 : tie.Need-enum-told-5
+enum-told-5 c = search needs
+
+enum-told-6 : tie.Need-enum-told-6
+enum-told-6 c = search needs
+
+returns-3 : tie.Need-returns-3
+unfolding judgedLevels
+returns-3 c =
+    simp (says verdictOutcome (c .before .before .before .before .before .before .before .before .counted .ensures) (c .before .before .before .before .before .before .enum-told .given .1), says verdictOutcome (c .before .before .before .before .before .paired .ensures) (c .before .before .before .enum-told3 .given .1), says verdictOutcome (c .before .before .roomy .ensures) (c .enum-told6 .given .1)) (ap verdictOutcome (c .enum-told6 .given .1))
+
+weighed-requires : tie.Need-weighed-requires
+weighed-requires c κs = search needs
+
+enum-told-7 : tie.Need-enum-told-7
+enum-told-7 c = search needs
+
+enum-told-8 : tie.Need-enum-told-8
+enum-told-8 c = search needs
+
+returns-4 : tie.Need-returns-4
+unfolding judgedLevels
+returns-4 c =
+    simp (says verdictOutcome (c .before .before .before .before .before .before .before .before .before .before .before .counted .ensures) (c .before .before .before .before .before .before .before .before .before .enum-told .given .1), says verdictOutcome (c .before .before .before .before .before .before .before .before .paired .ensures) (c .before .before .before .before .before .before .enum-told3 .given .1), says verdictOutcome (c .before .before .before .before .before .roomy .ensures) (c .before .before .before .enum-told5 .given .1), says verdictOutcome (c .before .before .weighed .ensures) (c .enum-told8 .given .1)) (ap verdictOutcome (c .enum-told8 .given .1))
+
+raised-requires : tie.Need-raised-requires
+raised-requires c κs = search needs
+
+returns-5 : tie.Need-returns-5
+unfolding judgedLevels
+returns-5 c =
+    simp (says verdictOutcome (c .before .before .before .before .before .before .before .before .before .before .before .before .counted .ensures) (c .before .before .before .before .before .before .before .before .before .before .enum-told .given .1), says verdictOutcome (c .before .before .before .before .before .before .before .before .before .paired .ensures) (c .before .before .before .before .before .before .before .enum-told3 .given .1), says verdictOutcome (c .before .before .before .before .before .before .roomy .ensures) (c .before .before .before .before .enum-told5 .given .1), says verdictOutcome (c .before .before .before .weighed .ensures) (c .before .enum-told7 .given .1)) (c .raised .ensures)
+
+pub judged-levels-spec : {M : Type 1} → statement M
+judged-levels-spec =
+    tie.close
+    (tie.spec
+    counted-requires
+    enum-told
+    enum-told-2
+    returns
+    paired-requires
+    enum-told-3
+    enum-told-4
+    returns-2
+    roomy-requires
+    enum-told-5
+    enum-told-6
+    returns-3
+    weighed-requires
+    enum-told-7
+    enum-told-8
+    returns-4
+    raised-requires
+    returns-5)

@@ -1,0 +1,34 @@
+-- `limits::site::Site::judged_near_fault` meets its contract. Assumes nothing.
+use borrow.Author.Needs.{needs}
+use mathlib.Core.Path.{ap}
+use Rattle.limits.proofs.Stages.{says}
+use Rattle.limits.specs.Outcome.{verdictOutcome}
+use Rattle.limits.specs.Site.{judgedNearFault}
+use Rattle.limits.proofs.site.Site.judged_near_fault.Statement.{statement}
+use Rattle.limits.proofs.site.Site.judged_near_fault.Tie as tie
+
+within-requires : tie.Need-within-requires
+within-requires c κs = search needs
+
+enum-told : tie.Need-enum-told
+enum-told c = search needs
+
+enum-told-2 : tie.Need-enum-told-2
+enum-told-2 c = search needs
+
+returns : tie.Need-returns
+unfolding judgedNearFault
+returns c =
+    simp (says verdictOutcome (c .before .before .within .ensures) (c .enum-told2 .given .1)) (ap verdictOutcome (c .enum-told2 .given .1))
+
+within-requires-2 : tie.Need-within-requires-2
+within-requires-2 c κs = search needs
+
+returns-2 : tie.Need-returns-2
+unfolding judgedNearFault
+returns-2 c =
+    simp (says verdictOutcome (c .before .before .before .within .ensures) (c .before .enum-told .given .1)) (c .within2 .ensures)
+
+pub judged-near-fault-spec : {M : Type 1} → statement M
+judged-near-fault-spec =
+    tie.close (tie.spec within-requires enum-told enum-told-2 returns within-requires-2 returns-2)

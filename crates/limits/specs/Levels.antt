@@ -1,0 +1,50 @@
+-- Numbers 1 to 4: the levels of a job.
+--   counted n          1: no level, or over 50, at 0; judged on the weight list
+--   paired n m         2: m heights for n weights, at 0
+--   roomy n cells      2: a result buffer of fewer cells than levels, at 0
+--   weighed p ws       3: the first weight that is not 1 to 20,000 kN; the first of the list stands at place p
+--   raised b p hs      4: the first height that is not 1 to 2,000 dm or not above the one below it, b below the first
+--   judgedLevels ws hs room    1, 2, 3, 4 in turn; room is the length of the shortest result buffer
+use mathlib.Core.List.{List, [], _∷_}
+use Prim.Native.Nat.{ℕ, _+_}
+use lib.Dec.{leb, ltb, eqb}
+use lib.ListN.{length}
+use Rattle.limits.specs.Ranges.{within}
+use Rattle.limits.specs.Outcome.{Outcome, accepted, Done, require, _>>_}
+
+abbrev pub counted : ℕ → Outcome Done
+counted n = within 1 50 n 1 0
+
+abbrev pub paired : ℕ → ℕ → Outcome Done
+paired n m = require (eqb m n) 2 0
+
+abbrev pub roomy : ℕ → ℕ → Outcome Done
+roomy n cells = require (leb n cells) 2 0
+
+abbrev pub judgedWeight : ℕ → ℕ → Outcome Done
+judgedWeight w p = within 1 20_000 w 3 p
+
+abbrev pub judgedHeight : ℕ → ℕ → ℕ → Outcome Done
+judgedHeight b h p = do
+  within 1 2_000 h 4 p
+  require (ltb b h) 4 p
+
+unfoldable pub weighed : ℕ → List ℕ → Outcome Done
+weighed p [] = accepted tt
+weighed p (w ∷ ws) = do
+  judgedWeight w p
+  weighed (p + 1) ws
+
+unfoldable pub raised : ℕ → ℕ → List ℕ → Outcome Done
+raised b p [] = accepted tt
+raised b p (h ∷ hs) = do
+  judgedHeight b h p
+  raised h (p + 1) hs
+
+unfoldable pub judgedLevels : List ℕ → List ℕ → ℕ → Outcome Done
+judgedLevels ws hs room = do
+  counted (length ws)
+  paired (length ws) (length hs)
+  roomy (length ws) room
+  weighed 1 ws
+  raised 0 1 hs

@@ -1,0 +1,6 @@
+pub mod Outcome
+pub mod Ranges
+pub mod Levels
+pub mod Site
+pub mod Frame
+pub mod Judging

@@ -1,0 +1,63 @@
+use crate::ranges::within;
+use crate::refusal::Refusal;
+use crate::refusal::Verdict;
+ghost use mathlib.Core.Path.{_≡_};
+ghost use Rattle.limits.specs.Levels.{judgedWeight, judgedHeight};
+ghost use Rattle.limits.specs.Outcome.{verdictOutcome};
+
+// A level: its weight in kN, its height above the base in dm.
+pub struct Level {
+    pub weight: u64,
+    pub height: u64,
+}
+
+impl Level {
+    pub const FEWEST: u64 = 1;
+
+    pub const MOST: u64 = 50;
+
+    pub const WEIGHT_LEAST: u64 = 1;
+
+    pub const WEIGHT_MOST: u64 = 20_000;
+
+    pub const HEIGHT_LEAST: u64 = 1;
+
+    pub const HEIGHT_MOST: u64 = 2_000;
+    // What the lowest level rises above.
+    pub const BASE: u64 = 0;
+
+    // Weight and height are judged apart: every weight comes before any height.
+    pub fn judged_weight(weight: u64, place: u64) -> Verdict
+        ensures { λ v. ⌜ verdictOutcome v ≡ judgedWeight weight place ⌝ }
+    {
+        within(
+            Self::WEIGHT_LEAST,
+            Self::WEIGHT_MOST,
+            weight,
+            Refusal::WEIGHT,
+            place,
+        )
+    }
+
+    pub fn judged_height(below: u64, height: u64, place: u64) -> Verdict
+        ensures { λ v. ⌜ verdictOutcome v ≡ judgedHeight below height place ⌝ }
+    {
+        let v = within(
+            Self::HEIGHT_LEAST,
+            Self::HEIGHT_MOST,
+            height,
+            Refusal::HEIGHT,
+            place,
+        );
+        let Verdict::Passed = v else {
+            return v;
+        };
+        if below < height {
+            return Verdict::Passed;
+        }
+        Verdict::Refused(Refusal {
+            number: Refusal::HEIGHT,
+            place,
+        })
+    }
+}

@@ -1,0 +1,63 @@
+ghost use mathlib.Core.Path.{_≡_};
+
+// A refusal: document 01's number, and its place.
+pub struct Refusal {
+    pub number: u64,
+    pub place: u64,
+}
+
+// The numbers of 'What comes back when data is bad'.
+impl Refusal {
+    // no level, or over 50
+    pub const LEVELS: u64 = 1;
+    // lists of unequal length, or a result buffer shorter than them
+    pub const LENGTHS: u64 = 2;
+
+    pub const WEIGHT: u64 = 3;
+
+    pub const HEIGHT: u64 = 4;
+
+    pub const MAPPED: u64 = 5;
+
+    pub const NEAR_FAULT: u64 = 6;
+
+    pub const CLASS: u64 = 7;
+
+    pub const R: u64 = 8;
+
+    pub const I: u64 = 9;
+
+    pub const ALPHA_Y: u64 = 10;
+
+    pub const KIND: u64 = 11;
+
+    pub const PERIOD: u64 = 12;
+    // no layer, or over 40
+    pub const LAYERS: u64 = 13;
+
+    pub const THICKNESS: u64 = 14;
+    // unknown layer kind, or value out of range
+    pub const LAYER: u64 = 15;
+    // sheet line not as laid out
+    pub const LINE: u64 = 16;
+    // sheet over 4,096 bytes
+    pub const SHEET: u64 = 17;
+    // the place of a refusal for which none is named
+    pub const NOWHERE: u64 = 0;
+
+    // What stands where nothing is refused.
+    pub fn none() -> Refusal
+        ensures { λ r. ⌜ r ≡ record { number = 0; place = 0 } ⌝ }
+    {
+        Refusal {
+            number: 0,
+            place: 0,
+        }
+    }
+}
+
+// What a judgment answers that hands on no value.
+pub enum Verdict {
+    Passed,
+    Refused(Refusal),
+}
