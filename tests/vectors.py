@@ -9,15 +9,18 @@ from fractions import Fraction
 
 from model import exact
 from model.job import job
+from model.response import UNIT
 from sample import accepted_jobs
 
 SEED, COUNT = 2005, 520
+FINER = 10  # every so many rows the unit is ten-millionths
 FEW_LEVELS = 4
 CLASSES = {1: 'Hard', 2: 'Normal', 3: 'Soft'}
 KINDS = {1: 'Steel', 2: 'Concrete', 3: 'Braced', 4: 'Other'}
 
-HEAD = """-- {count} jobs with what the model of tests/ makes of them, as `python3 tests/vectors.py {seed} {count}` writes them: data.
--- A line a row: the site; the frame; weights; heights; three fractions for the roots; the printed stages; the exact figures.
+HEAD = """-- {count} jobs with what the model of tests/ makes of them: data.
+-- `python3 tests/vectors.py {seed} {count}` writes it. A line a row: the unit; the site; the frame; weights; heights; three
+-- fractions for the roots; the printed stages; the exact figures.
 use mathlib.Core.List.{{List, [], _∷_}}
 use Rattle.whole.specs.Fraction.{{over}}
 use Rattle.limits.specs.declared.site.Class.the-variants.{{Hard, Normal, Soft}}
@@ -38,7 +41,8 @@ def fewer(rng, stratum, weights, heights):
 
 def some_root(rng, low, high, s):
     """A fraction of at least 1: a printed root, or any other."""
-    return rng.choice((Fraction(low, s), Fraction(high, s), 1 + Fraction(rng.randint(0, 999), rng.randint(1, 400))))
+    other = 1 + Fraction(rng.randint(0, 999), rng.randint(1, 400))
+    return rng.choice((Fraction(low, s), Fraction(high, s), other))
 
 
 def numbers(values):
@@ -64,10 +68,10 @@ def printed(result):
     ]
 
 
-def row(rng, stratum, site, frame, weights, heights):
+def row(rng, s, stratum, site, frame, weights, heights):
     """One row: the job, and what the model makes of it."""
     weights, heights = fewer(rng, stratum, weights, heights)
-    result = job(site, frame, weights, heights)
+    result = job(site, frame, weights, heights, s=s)
     roots = [some_root(rng, each.lower_root, each.upper_root, result.s)
              for each in (result.design, result.mce, result.star)]
     chain = exact.chain(result, roots)
@@ -75,7 +79,7 @@ def row(rng, stratum, site, frame, weights, heights):
     *mapped, number = site
     kind, *frame_values = frame
     return ' '.join((
-        f'vector (siteOf {" ".join(map(str, mapped))} {CLASSES[number]}) '
+        f'vector {s} (siteOf {" ".join(map(str, mapped))} {CLASSES[number]}) '
         f'(frameOf {KINDS[kind]} {" ".join(map(str, frame_values))})',
         f'{numbers(weights)} {numbers(heights)}',
         '(rootsOf ' + ' '.join(f'{root.numerator} {root.denominator}' for root in roots) + ')',
@@ -88,8 +92,9 @@ def main(seed=SEED, count=COUNT):
     """Write the file."""
     rng = random.Random(seed)
     print(HEAD.format(seed=seed, count=count))
-    for each in accepted_jobs(seed, count):
-        print('    ' + row(rng, *each) + ' ∷')
+    for number, each in enumerate(accepted_jobs(seed, count)):
+        s = 10 * UNIT if number % FINER == 0 else UNIT
+        print('    ' + row(rng, s, *each) + ' ∷')
     print('    []')
 
 

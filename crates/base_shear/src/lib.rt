@@ -4,7 +4,7 @@
 pub struct Figures {
     pub v: u64,
     pub vm: u64,
-    pub least: u64,
+    pub star: u64,
     pub vd: u64,
     pub t: u64,
 }

@@ -1,3 +1,4 @@
 pub mod Listed
 pub mod Stages
 pub mod Lists
+pub mod Unique

@@ -9,11 +9,11 @@ use Prim.Native.Nat.{ℕ, _<_}
 use lib.ListN.{length}
 use Rattle.whole.specs.declared.Fraction.{Fraction}
 use Rattle.whole.specs.Cells.{sum}
-use Rattle.whole.specs.Fraction.{over, plus, times, AtMost, Less}
+use Rattle.whole.specs.Fraction.{over, plus, AtMost, Less}
 use Rattle.limits.specs.declared.frame.Frame.{Frame}
 use Rattle.site.specs.declared.Hazards.{Hazards}
-use Rattle.base_shear.specs.Exact.{Roots, scale, exactBase}
-use Rattle.storeys.specs.Exact.{exactStorey}
+use Rattle.base_shear.specs.Exact.{Roots, exactNewtons, exactBase}
+use Rattle.storeys.specs.Exact.{exactShearUnder}
 use Rattle.margin.specs.Roots.{Lowering, Raising}
 
 abbrev pub Number : Fraction → Type 0
@@ -26,7 +26,7 @@ abbrev pub LessBy : ℕ → Fraction → Fraction → Type 0
 LessBy v x y = Less (over v 1) (plus x y)
 
 abbrev pub allowed : ℕ → Hazards → Frame → ℕ → Fraction
-allowed s k f W = plus (times (over 6 s) (scale (k .shear) f W)) (over 1 1)
+allowed s k f W = plus (exactNewtons (k .divisor) f W (over 6 s)) (over 1 1)
 
 pub record Demand3 (s : ℕ) (k : Hazards) (f : Frame) (ws hs : List ℕ) (T v : ℕ) (u : ℕ → ℕ) : Type 0 where
   pub never-below : (r : Roots) → Lowering k r
@@ -34,8 +34,8 @@ pub record Demand3 (s : ℕ) (k : Hazards) (f : Frame) (ws hs : List ℕ) (T v :
   pub close : (r : Roots) → Raising k r
       → Number (exactBase k f (sum ws) T r) × LessBy v (exactBase k f (sum ws) T r) (allowed s k f (sum ws))
   pub storey-never-below : (x : ℕ) → x < length ws → (r : Roots) → Lowering k r
-      → Number (exactStorey T ws hs (exactBase k f (sum ws) T r) x)
-      × AtLeast (u x) (exactStorey T ws hs (exactBase k f (sum ws) T r) x)
+      → Number (exactShearUnder T ws hs (exactBase k f (sum ws) T r) x)
+      × AtLeast (u x) (exactShearUnder T ws hs (exactBase k f (sum ws) T r) x)
   pub storey-close : (x : ℕ) → x < length ws → (r : Roots) → Raising k r
-      → Number (exactStorey T ws hs (exactBase k f (sum ws) T r) x)
-      × LessBy (u x) (exactStorey T ws hs (exactBase k f (sum ws) T r) x) (plus (allowed s k f (sum ws)) (over 2 1))
+      → Number (exactShearUnder T ws hs (exactBase k f (sum ws) T r) x)
+      × LessBy (u x) (exactShearUnder T ws hs (exactBase k f (sum ws) T r) x) (plus (allowed s k f (sum ws)) (over 2 1))

@@ -22,9 +22,9 @@ pub record Low (ρ r : Fraction) : Type 0 where
 pub record Lowering (k : Hazards) (r : Roots) : Type 0 where
   pub v : High (k .design .square) (r .v)
   pub vm : High (k .mce .square) (r .vm)
-  pub least : Low (k .plain .square) (r .least)
+  pub star : Low (k .star .square) (r .star)
 
 pub record Raising (k : Hazards) (r : Roots) : Type 0 where
   pub v : Low (k .design .square) (r .v)
   pub vm : Low (k .mce .square) (r .vm)
-  pub least : High (k .plain .square) (r .least)
+  pub star : High (k .star .square) (r .star)

@@ -9,9 +9,9 @@ use Prim.Native.Nat.{ℕ}
 use Rattle.whole.specs.Rounding.{up, down}
 use Rattle.whole.specs.Search.{largest, bitsFrom}
 use Rattle.whole.specs.Line.{between}
-use Rattle.limits.specs.declared.site.Class.the-variants.{Hard}
-use Rattle.limits.specs.declared.frame.Kind.the-variants.{Concrete}
-use Rattle.site.specs.Coefficients.{factored, accelerationA, accelerationB}
+use Rattle.limits.specs.declared.site.Class.the-variants.{Hard, Normal, Soft}
+use Rattle.limits.specs.declared.frame.Kind.the-variants.{Steel, Concrete, Other}
+use Rattle.site.specs.Coefficients.{factored, fa, fv, accelerationA, accelerationB}
 use Rattle.site.specs.Capacity.{designSquare, mceSquare}
 use Rattle.site.specs.Hazards.{lines}
 use Rattle.response.specs.Unit.{unit}
@@ -57,6 +57,13 @@ stated =
     ∷ 897
     ∷ []
 
-pub figures : computed ≡ stated
+pub figures-hold : computed ≡ stated
 unfolding spectrum exactSpectrum modified bent lowerRoot approximate largest bitsFrom up down between
-figures = refl
+figures-hold = refl
+
+-- The definitions at the figures that are run: the periods of kind 4 at 1 dm and of kind 1 at 2,000 dm; normal F_a at 6500; soft
+-- F_v at 3200.
+pub run-figures-hold : (approximate Other 1 ∷ approximate Steel 2000 ∷ fa Normal 6500 ∷ fv Soft 3200 ∷ [])
+    ≡ (8 ∷ 4520 ∷ 10_500 ∷ 17_600 ∷ [])
+unfolding approximate largest bitsFrom down between
+run-figures-hold = refl

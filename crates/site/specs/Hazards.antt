@@ -2,7 +2,8 @@
 --   designLevel c ss s1 na nv R    A, B and the capacity from design values
 --   mceLevel c ss s1 na nv R       the same from MCE values and R itself
 --   lines               (8), (18): 0.3, 0.8; 0.52, 0.144; 0.7
---   hazardsOf site R    V's, V_M's, and V*'s with both near-fault factors taken as 100; 1.4 (7), (17) and 4.2 (19)
+--   hazardsOf site R    V's, V_M's, and V*'s with both near-fault factors taken as 100; the divisors 1.4 of (7), (17) and 4.2 of
+--                       (19), in tenths
 use Prim.Native.Nat.{ℕ}
 use Rattle.limits.specs.declared.site.Class.{Class}
 use Rattle.limits.specs.declared.site.Site.{Site}
@@ -38,8 +39,8 @@ hazardsOf site R =
     record {
       design = designLevel (site .class) (site .ssd) (site .s1d) (site .na) (site .nv) R;
       mce = mceLevel (site .class) (site .ssm) (site .s1m) (site .na) (site .nv) R;
-      plain = designLevel (site .class) (site .ssd) (site .s1d) 100 100 R;
+      star = designLevel (site .class) (site .ssd) (site .s1d) 100 100 R;
       lines = lines;
-      shear = 14;
-      least = 42;
+      divisor = 14;
+      stardivisor = 42;
     }

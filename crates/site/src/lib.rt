@@ -19,12 +19,12 @@ pub struct Lines {
     pub last: u64,
 }
 
-// The hazards of V, V_M and V*, the lines, and the divisors 1.4 of V and V_M and 4.2 of V*, in tenths.
+// The hazards of V, V_M and V*, the lines, and the overstrength in tenths: 1.4 of V and V_M, 4.2 of V*.
 pub struct Hazards {
     pub design: Hazard,
     pub mce: Hazard,
-    pub plain: Hazard,
+    pub star: Hazard,
     pub lines: Lines,
-    pub shear: u64,
-    pub least: u64,
+    pub divisor: u64,
+    pub stardivisor: u64,
 }

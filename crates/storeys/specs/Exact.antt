@@ -1,22 +1,22 @@
 -- The storey shears of the exact figure of demand 3: no rounding, V a fraction in N.
 --   exactRoofForce T v           F_t = 0.07·(T in s)·V
---   exactStorey T ws hs v x      the shear under level x: F_t + (V − F_t)·P_x/P, which is V·(t + (1 − t)·P_x/P) with t = 0.07·T
+--   rest t                       1 − t of a part t
+--   exactShearUnder T ws hs v x  the shear under level x: F_t + (V − F_t)·P_x/P, which is V·(t + (1 − t)·P_x/P) with t = 0.07·T
 -- ℕ's subtraction stops at 0; 7·T is at most 100,000.
 use mathlib.Core.List.{List}
 use Prim.Native.Nat.{ℕ, _-_}
 use lib.ListN.{drop}
 use Rattle.whole.specs.declared.Fraction.{Fraction}
 use Rattle.whole.specs.Fraction.{over, plus, times}
-use Rattle.storeys.specs.Storeys.{roofPart, moment}
+use Rattle.storeys.specs.Storeys.{roofPart, weightHeight}
 
 abbrev pub exactRoofForce : ℕ → Fraction → Fraction
 exactRoofForce T v = times (roofPart T) v
 
--- 1 − t of a part t
 abbrev pub rest : Fraction → Fraction
 rest t = over (t .den - t .num) (t .den)
 
-abbrev pub exactStorey : ℕ → List ℕ → List ℕ → Fraction → ℕ → Fraction
-exactStorey T ws hs v x =
+abbrev pub exactShearUnder : ℕ → List ℕ → List ℕ → Fraction → ℕ → Fraction
+exactShearUnder T ws hs v x =
     plus (exactRoofForce T v)
-    (times (times (rest (roofPart T)) v) (over (moment (drop x ws) (drop x hs)) (moment ws hs)))
+    (times (times (rest (roofPart T)) v) (over (weightHeight (drop x ws) (drop x hs)) (weightHeight ws hs)))

@@ -1,14 +1,14 @@
 -- Storeys (21). V in N, T in ms, weights in kN, heights in dm, lowest level first; level x is counted from 0.
 --   roofPart T            0.07·(T in s)
 --   roofForce T v         F_t = 0.07·(T in s)·V, up
---   moment ws hs          P, the sum of weight times height; P_x is that of what stands from level x to the roof
+--   weightHeight ws hs    P, the sum of weight times height; P_x is that of what stands from level x to the roof
 --   shearUnder T v ws hs x    the shear under level x: F_t + (V − F_t)·P_x/P, quotient up
 --   shears T v ws hs      those of all levels
---   forces us             a level's force: its shear less the one above
+--   force us x, forces us    a level's force: its shear less the one above; of all levels
 --   bottom hs x           the height of the bottom of storey x: level x − 1, or the base
 --   about b fs hs         force times height above b, added
---   overturning fs hs x   about the bottom of storey x, in N·dm, over the levels from x upward
---   moments fs hs         those of all storeys
+--   overturning fs hs x   (23) without its factor, about the bottom of storey x, in N·dm, over the levels from x upward
+--   overturnings fs hs    those of all storeys
 -- ℕ's subtraction stops at 0; that no difference here goes below it is a law.
 use mathlib.Core.List.{List, [], _∷_}
 use Prim.Native.Nat.{ℕ, zero, suc, _+_, _-_, _*_}
@@ -24,15 +24,15 @@ roofPart T = over (7 * T) 100_000
 abbrev pub roofForce : ℕ → ℕ → ℕ
 roofForce T v = up (roofPart T .num * v) (roofPart T .den)
 
-unfoldable pub moment : List ℕ → List ℕ → ℕ
-moment [] hs = 0
-moment (w ∷ ws) [] = 0
-moment (w ∷ ws) (h ∷ hs) = w * h + moment ws hs
+unfoldable pub weightHeight : List ℕ → List ℕ → ℕ
+weightHeight [] hs = 0
+weightHeight (w ∷ ws) [] = 0
+weightHeight (w ∷ ws) (h ∷ hs) = w * h + weightHeight ws hs
 
 abbrev pub shearUnder : ℕ → ℕ → List ℕ → List ℕ → ℕ → ℕ
 shearUnder T v ws hs x =
     let ft = roofForce T v in
-    ft + up ((v - ft) * moment (drop x ws) (drop x hs)) (moment ws hs)
+    ft + up ((v - ft) * weightHeight (drop x ws) (drop x hs)) (weightHeight ws hs)
 
 abbrev pub shears : ℕ → ℕ → List ℕ → List ℕ → List ℕ
 shears T v ws hs = cells (shearUnder T v ws hs) (length ws)
@@ -56,5 +56,5 @@ about b (f ∷ fs) (h ∷ hs) = f * (h - b) + about b fs hs
 abbrev pub overturning : List ℕ → List ℕ → ℕ → ℕ
 overturning fs hs x = about (bottom hs x) (drop x fs) (drop x hs)
 
-abbrev pub moments : List ℕ → List ℕ → List ℕ
-moments fs hs = cells (overturning fs hs) (length fs)
+abbrev pub overturnings : List ℕ → List ℕ → List ℕ
+overturnings fs hs = cells (overturning fs hs) (length fs)

@@ -1,5 +1,5 @@
 -- A job with what the model of tests/ makes of it, and what the definitions make of it.
---   Vector           site, frame, weights and heights; fractions for the roots; the printed stages; the exact figures
+--   Vector           the unit s; site, frame, weights and heights; fractions for the roots; the printed stages; the exact figures
 --   printed v        A and B of the three hazards, t, T, the three spectra, lower root, lower factor, q and m of V and of V_M,
 --                    upper root, upper factor and p of V*, V, V_M, V*, V_D; then shears, forces and overturning moments
 --   exact v          V, V_M, V* and V_D at the fractions, then the storey shears
@@ -20,18 +20,18 @@ use Rattle.limits.specs.declared.frame.Frame.{Frame}
 use Rattle.site.specs.declared.Hazard.{Hazard}
 use Rattle.site.specs.declared.Hazards.{Hazards}
 use Rattle.site.specs.Hazards.{hazardsOf}
-use Rattle.response.specs.Unit.{unit}
 use Rattle.response.specs.Period.{approximate, inUse}
 use Rattle.response.specs.Spectrum.{spectrum}
 use Rattle.response.specs.Factor.{lowerFactor, upperFactor}
 use Rattle.response.specs.Ratio.{modified, blended}
 use Rattle.base_shear.specs.declared.Figures.{Figures}
 use Rattle.base_shear.specs.Shears.{ratioAt, figures}
-use Rattle.base_shear.specs.Exact.{Roots, exactShear, exactLeast, exactBase}
-use Rattle.storeys.specs.Storeys.{shears, forces, moments}
-use Rattle.storeys.specs.Exact.{exactStorey}
+use Rattle.base_shear.specs.Exact.{Roots, exactShear, exactStar, exactBase}
+use Rattle.storeys.specs.Storeys.{shears, forces, overturnings}
+use Rattle.storeys.specs.Exact.{exactShearUnder}
 
 pub record Vector : Type 0 where
+  pub unit : ℕ
   pub site : Site
   pub frame : Frame
   pub weights : List ℕ
@@ -48,11 +48,11 @@ abbrev pub frameOf : Kind → ℕ → ℕ → ℕ → ℕ → Frame
 frameOf k calculated r i alpha = record { kind = k; calculated = calculated; r = r; i = i; alpha = alpha }
 
 abbrev pub rootsOf : ℕ → ℕ → ℕ → ℕ → ℕ → ℕ → Roots
-rootsOf a b c d e f = record { v = over a b; vm = over c d; least = over e f }
+rootsOf a b c d e f = record { v = over a b; vm = over c d; star = over e f }
 
-abbrev pub vector : Site → Frame → List ℕ → List ℕ → Roots → List ℕ → List Fraction → Vector
-vector site frame ws hs r ns xs =
-    record { site = site; frame = frame; weights = ws; heights = hs; roots = r; printed = ns; exact = xs }
+abbrev pub vector : ℕ → Site → Frame → List ℕ → List ℕ → Roots → List ℕ → List Fraction → Vector
+vector s site frame ws hs r ns xs =
+    record { unit = s; site = site; frame = frame; weights = ws; heights = hs; roots = r; printed = ns; exact = xs }
 
 abbrev pub last : List ℕ → ℕ
 last [] = 0
@@ -60,21 +60,21 @@ last (a ∷ []) = a
 last (a ∷ (b ∷ l)) = last (b ∷ l)
 
 -- of one hazard with its lower root: spectrum, root, factor, q, m
-unfoldable pub stages : Hazards → Hazard → ℕ → List ℕ
-stages k h T =
-    spectrum unit (h .a) (h .b) T
-    ∷ lowerRoot unit (h .square)
-    ∷ lowerFactor unit (h .a) (h .b) T (h .capacity) (h .square)
-    ∷ ratioAt unit h T
-    ∷ modified unit (k .lines) (ratioAt unit h T)
+unfoldable pub stages : ℕ → Hazards → Hazard → ℕ → List ℕ
+stages s k h T =
+    spectrum s (h .a) (h .b) T
+    ∷ lowerRoot s (h .square)
+    ∷ lowerFactor s (h .a) (h .b) T (h .capacity) (h .square)
+    ∷ ratioAt s h T
+    ∷ modified s (k .lines) (ratioAt s h T)
     ∷ []
 
 -- of the hazard of V*: spectrum, upper root, upper factor, p
-unfoldable pub leastStages : Hazards → Hazard → ℕ → List ℕ
-leastStages k h T =
-    let Sa = spectrum unit (h .a) (h .b) T in
-    let F = upperFactor unit (h .a) (h .b) T (h .capacity) (h .square) in
-    Sa ∷ upperRoot unit (h .square) ∷ F ∷ blended (k .lines) Sa F ∷ []
+unfoldable pub starStages : ℕ → Hazards → Hazard → ℕ → List ℕ
+starStages s k h T =
+    let Sa = spectrum s (h .a) (h .b) T in
+    let F = upperFactor s (h .a) (h .b) T (h .capacity) (h .square) in
+    Sa ∷ upperRoot s (h .square) ∷ F ∷ blended (k .lines) Sa F ∷ []
 
 unfoldable pub period : Vector → ℕ
 period v = inUse (v .frame .calculated) (approximate (v .frame .kind) (last (v .heights)))
@@ -83,18 +83,18 @@ unfoldable pub printed : Vector → List ℕ
 printed v =
     let k = hazardsOf (v .site) (v .frame .r) in
     let T = period v in
-    let f = figures unit k (v .frame) (sum (v .weights)) T in
+    let f = figures (v .unit) k (v .frame) (sum (v .weights)) T in
     let us = shears T (f .vd) (v .weights) (v .heights) in
     let fs = forces us in
-    (k .design .a ∷ k .design .b ∷ k .mce .a ∷ k .mce .b ∷ k .plain .a ∷ k .plain .b ∷ [])
-    ++ (approximate (v .frame .kind) (last (v .heights)) ∷ T ∷ [])
-    ++ stages k (k .design) T
-    ++ stages k (k .mce) T
-    ++ leastStages k (k .plain) T
-    ++ (f .v ∷ f .vm ∷ f .least ∷ f .vd ∷ [])
+    (k .design .a ∷ k .design .b ∷ k .mce .a ∷ k .mce .b ∷ k .star .a ∷ k .star .b ∷ [])
+    ++ (approximate (v .frame .kind) (last (v .heights)) ∷ f .t ∷ [])
+    ++ stages (v .unit) k (k .design) T
+    ++ stages (v .unit) k (k .mce) T
+    ++ starStages (v .unit) k (k .star) T
+    ++ (f .v ∷ f .vm ∷ f .star ∷ f .vd ∷ [])
     ++ us
     ++ fs
-    ++ moments fs (v .heights)
+    ++ overturnings fs (v .heights)
 
 unfoldable pub places : (ℕ → Fraction) → ℕ → List Fraction
 places f zero = []
@@ -108,10 +108,10 @@ exact v =
     let base = exactBase k (v .frame) W T (v .roots) in
     (exactShear k (k .design) (v .frame) W T (v .roots .v)
     ∷ exactShear k (k .mce) (v .frame) W T (v .roots .vm)
-    ∷ exactLeast k (v .frame) W T (v .roots .least)
+    ∷ exactStar k (v .frame) W T (v .roots .star)
     ∷ base
     ∷ [])
-    ++ places (exactStorey T (v .weights) (v .heights) base) (length (v .weights))
+    ++ places (exactShearUnder T (v .weights) (v .heights) base) (length (v .weights))
 
 unfoldable pub sameNumbers : List ℕ → List ℕ → Bool
 sameNumbers [] [] = true

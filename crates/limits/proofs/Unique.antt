@@ -1,0 +1,78 @@
+-- No second answer meets the contract of a judging function: what an answer says determines it.
+-- Assumes nothing.
+use mathlib.Core.Path.{_≡_, refl, sym, ap, _∙_}
+use Rattle.limits.specs.declared.frame.Frame.{Frame}
+use Rattle.limits.specs.declared.frame.FrameAnswer.{FrameAnswer}
+use Rattle.limits.specs.declared.frame.FrameAnswer.the-variants.{Taken as TakenFrame, Refused as RefusedFrame}
+use Rattle.limits.specs.declared.frame.Kind.{Kind}
+use Rattle.limits.specs.declared.frame.KindAnswer.{KindAnswer}
+use Rattle.limits.specs.declared.frame.KindAnswer.the-variants.{Taken as TakenKind, Refused as RefusedKind}
+use Rattle.limits.specs.declared.judging.Given.{Given}
+use Rattle.limits.specs.declared.judging.GivenAnswer.{GivenAnswer}
+use Rattle.limits.specs.declared.judging.GivenAnswer.the-variants.{Taken as TakenGiven, Refused as RefusedGiven}
+use Rattle.limits.specs.declared.refusal.Refusal.{Refusal}
+use Rattle.limits.specs.declared.refusal.Verdict.{Verdict}
+use Rattle.limits.specs.declared.refusal.Verdict.the-variants.{Passed, Refused as RefusedVerdict}
+use Rattle.limits.specs.declared.site.Class.{Class}
+use Rattle.limits.specs.declared.site.ClassAnswer.{ClassAnswer}
+use Rattle.limits.specs.declared.site.ClassAnswer.the-variants.{Taken as TakenClass, Refused as RefusedClass}
+use Rattle.limits.specs.declared.site.Site.{Site}
+use Rattle.limits.specs.declared.site.SiteAnswer.{SiteAnswer}
+use Rattle.limits.specs.declared.site.SiteAnswer.the-variants.{Taken as TakenSite, Refused as RefusedSite}
+use Rattle.limits.specs.Frame.{kindOutcome, frameOutcome}
+use Rattle.limits.specs.Judging.{givenOutcome}
+use Rattle.limits.specs.Outcome.{Outcome, accepted, refused, Done, verdictOutcome}
+use Rattle.limits.specs.Site.{classOutcome, siteOutcome}
+
+-- an answer read back from what it says: `taken` of what is accepted, `stopped` of a refusal
+abbrev pub back : {A B : Type 0} → (B → A) → (Refusal → A) → Outcome B → A
+back taken stopped (accepted b) = taken b
+back taken stopped (refused n p) = stopped (record { number = n; place = p })
+
+-- two answers that say the same are one
+pub one-answer : {A B : Type 0} {a b : A} {o : Outcome B} (says : A → Outcome B) (taken : B → A) (stopped : Refusal → A)
+    → ((x : A) → back taken stopped (says x) ≡ x) → says a ≡ o → says b ≡ o → a ≡ b
+one-answer {a = a} {b = b} says taken stopped same p q =
+    sym (same a) ∙ ap (back taken stopped) (p ∙ sym q) ∙ same b
+
+pub verdict-unique : {a b : Verdict} {o : Outcome Done} → verdictOutcome a ≡ o → verdictOutcome b ≡ o → a ≡ b
+verdict-unique = one-answer verdictOutcome (λ _. Passed) RefusedVerdict same
+  where
+    same : (x : Verdict) → back (λ _. Passed) RefusedVerdict (verdictOutcome x) ≡ x
+    same Passed = refl
+    same (RefusedVerdict r) = refl
+
+pub class-unique : {a b : ClassAnswer} {o : Outcome Class} → classOutcome a ≡ o → classOutcome b ≡ o → a ≡ b
+class-unique = one-answer classOutcome TakenClass RefusedClass same
+  where
+    same : (x : ClassAnswer) → back TakenClass RefusedClass (classOutcome x) ≡ x
+    same (TakenClass c) = refl
+    same (RefusedClass r) = refl
+
+pub site-unique : {a b : SiteAnswer} {o : Outcome Site} → siteOutcome a ≡ o → siteOutcome b ≡ o → a ≡ b
+site-unique = one-answer siteOutcome TakenSite RefusedSite same
+  where
+    same : (x : SiteAnswer) → back TakenSite RefusedSite (siteOutcome x) ≡ x
+    same (TakenSite s) = refl
+    same (RefusedSite r) = refl
+
+pub kind-unique : {a b : KindAnswer} {o : Outcome Kind} → kindOutcome a ≡ o → kindOutcome b ≡ o → a ≡ b
+kind-unique = one-answer kindOutcome TakenKind RefusedKind same
+  where
+    same : (x : KindAnswer) → back TakenKind RefusedKind (kindOutcome x) ≡ x
+    same (TakenKind k) = refl
+    same (RefusedKind r) = refl
+
+pub frame-unique : {a b : FrameAnswer} {o : Outcome Frame} → frameOutcome a ≡ o → frameOutcome b ≡ o → a ≡ b
+frame-unique = one-answer frameOutcome TakenFrame RefusedFrame same
+  where
+    same : (x : FrameAnswer) → back TakenFrame RefusedFrame (frameOutcome x) ≡ x
+    same (TakenFrame f) = refl
+    same (RefusedFrame r) = refl
+
+pub given-unique : {a b : GivenAnswer} {o : Outcome Given} → givenOutcome a ≡ o → givenOutcome b ≡ o → a ≡ b
+given-unique = one-answer givenOutcome TakenGiven RefusedGiven same
+  where
+    same : (x : GivenAnswer) → back TakenGiven RefusedGiven (givenOutcome x) ≡ x
+    same (TakenGiven g) = refl
+    same (RefusedGiven r) = refl
