@@ -8,8 +8,8 @@ use Prim.Native.Nat.{ℕ, _*_}
 use Rattle.whole.specs.declared.Fraction.{Fraction}
 use Rattle.whole.specs.Fraction.{over, times, larger}
 use Rattle.limits.specs.declared.frame.Frame.{Frame}
-use Rattle.site.specs.declared.Hazard.{Hazard}
-use Rattle.site.specs.declared.Hazards.{Hazards}
+use Rattle.site.specs.declared.hazard.Hazard.{Hazard}
+use Rattle.site.specs.declared.hazard.Hazards.{Hazards}
 use Rattle.response.specs.Spectrum.{exactSpectrum}
 use Rattle.response.specs.Factor.{exactFactor}
 use Rattle.response.specs.Ratio.{exactRatio, exactModified, exactBlended}

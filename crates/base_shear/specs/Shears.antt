@@ -9,8 +9,8 @@
 use Prim.Native.Nat.{ℕ, _*_, max}
 use Rattle.whole.specs.Rounding.{up}
 use Rattle.limits.specs.declared.frame.Frame.{Frame}
-use Rattle.site.specs.declared.Hazard.{Hazard}
-use Rattle.site.specs.declared.Hazards.{Hazards}
+use Rattle.site.specs.declared.hazard.Hazard.{Hazard}
+use Rattle.site.specs.declared.hazard.Hazards.{Hazards}
 use Rattle.response.specs.Spectrum.{spectrum}
 use Rattle.response.specs.Factor.{lowerFactor, upperFactor}
 use Rattle.response.specs.Ratio.{ratio, modified, blended}

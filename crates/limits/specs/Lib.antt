@@ -4,3 +4,4 @@ pub mod Levels
 pub mod Site
 pub mod Frame
 pub mod Judging
+pub mod Allowed

@@ -11,7 +11,7 @@ use Rattle.whole.specs.declared.Fraction.{Fraction}
 use Rattle.whole.specs.Cells.{sum}
 use Rattle.whole.specs.Fraction.{over, plus, AtMost, Less}
 use Rattle.limits.specs.declared.frame.Frame.{Frame}
-use Rattle.site.specs.declared.Hazards.{Hazards}
+use Rattle.site.specs.declared.hazard.Hazards.{Hazards}
 use Rattle.base_shear.specs.Exact.{Roots, exactNewtons, exactBase}
 use Rattle.storeys.specs.Exact.{exactShearUnder}
 use Rattle.margin.specs.Roots.{Lowering, Raising}

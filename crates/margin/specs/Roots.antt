@@ -6,7 +6,7 @@
 use Prim.Native.Nat.{_<_}
 use Rattle.whole.specs.declared.Fraction.{Fraction}
 use Rattle.whole.specs.Fraction.{over, square, AtMost}
-use Rattle.site.specs.declared.Hazards.{Hazards}
+use Rattle.site.specs.declared.hazard.Hazards.{Hazards}
 use Rattle.base_shear.specs.Exact.{Roots}
 
 pub record High (ρ r : Fraction) : Type 0 where

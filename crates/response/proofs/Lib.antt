@@ -1,2 +1,6 @@
 pub mod Periods
 pub mod Literal
+pub mod Mean
+pub mod Branches
+pub mod Values
+pub mod Printed

@@ -5,3 +5,4 @@ pub mod Spectrum
 pub mod Factor
 pub mod Ratio
 pub mod Figures
+pub mod Reach

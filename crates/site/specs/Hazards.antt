@@ -1,35 +1,41 @@
 -- The three hazards of a site and an R, with the constants of the shears.
---   designLevel c ss s1 na nv R    A, B and the capacity from design values
---   mceLevel c ss s1 na nv R       the same from MCE values and R itself
+--   Mapped ss s1 na nv  mapped values and near-fault factors of either level, as allowed
+--   levelOf c ss s1 na nv k q      A and B from mapped values and near-fault factors, with a capacity k and its square q
+--   designLevel c ss s1 na nv R    with the design capacity of R
+--   mceLevel c ss s1 na nv R       with R itself
 --   lines               (8), (18): 0.3, 0.8; 0.52, 0.144; 0.7
 --   hazardsOf site R    V's, V_M's, and V*'s with both near-fault factors taken as 100; the divisors 1.4 of (7), (17) and 4.2 of
 --                       (19), in tenths
-use Prim.Native.Nat.{ℕ}
+use Prim.Native.Nat.{ℕ, _≤_}
+use Rattle.whole.specs.declared.Fraction.{Fraction}
 use Rattle.limits.specs.declared.site.Class.{Class}
 use Rattle.limits.specs.declared.site.Site.{Site}
-use Rattle.site.specs.declared.Hazard.{Hazard}
-use Rattle.site.specs.declared.Lines.{Lines}
-use Rattle.site.specs.declared.Hazards.{Hazards}
+use Rattle.site.specs.declared.hazard.Hazard.{Hazard}
+use Rattle.site.specs.declared.hazard.Lines.{Lines}
+use Rattle.site.specs.declared.hazard.Hazards.{Hazards}
 use Rattle.site.specs.Coefficients.{factored, accelerationA, accelerationB}
 use Rattle.site.specs.Capacity.{designCapacity, designSquare, mceCapacity, mceSquare}
 
-abbrev pub designLevel : Class → ℕ → ℕ → ℕ → ℕ → ℕ → Hazard
-designLevel c ss s1 na nv R =
+pub record Mapped (ss s1 na nv : ℕ) : Type 0 where
+  pub s-s : (50 ≤ ss) × (ss ≤ 100)
+  pub s-1 : (30 ≤ s1) × (s1 ≤ 55)
+  pub n-a : (100 ≤ na) × (na ≤ 150)
+  pub n-v : (100 ≤ nv) × (nv ≤ 200)
+
+abbrev pub levelOf : Class → ℕ → ℕ → ℕ → ℕ → Fraction → Fraction → Hazard
+levelOf c ss s1 na nv capacity square =
     record {
       a = accelerationA c (factored ss na);
       b = accelerationB c (factored s1 nv);
-      capacity = designCapacity R;
-      square = designSquare R;
+      capacity = capacity;
+      square = square;
     }
 
+abbrev pub designLevel : Class → ℕ → ℕ → ℕ → ℕ → ℕ → Hazard
+designLevel c ss s1 na nv R = levelOf c ss s1 na nv (designCapacity R) (designSquare R)
+
 abbrev pub mceLevel : Class → ℕ → ℕ → ℕ → ℕ → ℕ → Hazard
-mceLevel c ss s1 na nv R =
-    record {
-      a = accelerationA c (factored ss na);
-      b = accelerationB c (factored s1 nv);
-      capacity = mceCapacity R;
-      square = mceSquare R;
-    }
+mceLevel c ss s1 na nv R = levelOf c ss s1 na nv (mceCapacity R) (mceSquare R)
 
 abbrev pub lines : Lines
 lines = record { first = 300; second = 800; slope = 520; add = 144; last = 700 }

@@ -1,30 +1,7 @@
-// What the calculation goes by: three hazards, and the constants of the shears.
-use whole::Fraction;
+// From a site to the hazards of its shears.
 
-// One hazard: A and B in 10⁻⁸ g, the ductility capacity, and the square of its root.
-pub struct Hazard {
-    pub a: u64,
-    pub b: u64,
-    pub capacity: Fraction,
-    pub square: Fraction,
-}
-
-// The three lines of the modified ratio, in thousandths: where the second and the third begin, the second's slope and
-// what it adds, and the third's slope.
-pub struct Lines {
-    pub first: u64,
-    pub second: u64,
-    pub slope: u64,
-    pub add: u64,
-    pub last: u64,
-}
-
-// The hazards of V, V_M and V*, the lines, and the overstrength in tenths: 1.4 of V and V_M, 4.2 of V*.
-pub struct Hazards {
-    pub design: Hazard,
-    pub mce: Hazard,
-    pub star: Hazard,
-    pub lines: Lines,
-    pub divisor: u64,
-    pub stardivisor: u64,
-}
+pub mod capacity;
+pub mod coefficients;
+pub mod hazard;
+pub mod hazards;
+pub mod table2;

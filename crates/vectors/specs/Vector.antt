@@ -17,8 +17,8 @@ use Rattle.limits.specs.declared.site.Class.{Class}
 use Rattle.limits.specs.declared.site.Site.{Site}
 use Rattle.limits.specs.declared.frame.Kind.{Kind}
 use Rattle.limits.specs.declared.frame.Frame.{Frame}
-use Rattle.site.specs.declared.Hazard.{Hazard}
-use Rattle.site.specs.declared.Hazards.{Hazards}
+use Rattle.site.specs.declared.hazard.Hazard.{Hazard}
+use Rattle.site.specs.declared.hazard.Hazards.{Hazards}
 use Rattle.site.specs.Hazards.{hazardsOf}
 use Rattle.response.specs.Period.{approximate, inUse}
 use Rattle.response.specs.Spectrum.{spectrum}

@@ -1,4 +1,4 @@
--- Rounding toward minus and toward plus infinity: from the machine's quotient and remainder, and of a difference.
+-- Rounding toward minus and toward plus infinity: from the machine's quotient and remainder, and of a number below 0.
 -- Assumes nothing.
 use mathlib.Core.Path.{_≡_, refl, sym, ap, ap₂, _∙_}
 use mathlib.Core.Bool.{Bool, true, false}
@@ -16,8 +16,8 @@ use mir.Facts.{toZ-pos, toZ-ofZ}
 use borrow.Author.Tests.{ltb-true, ltb-false}
 use Rattle.whole.specs.Signed.{floor, ceiling}
 use Rattle.whole.specs.Rounding.{up, down}
-use Rattle.whole.proofs.Rounding.{up-at, down-at, up-law, down-law}
-use Rattle.whole.proofs.Difference.{_⊝_, minus-ge, minus-le}
+use Rattle.whole.proofs.Rounding.{up-at}
+use Rattle.whole.proofs.Difference.{_⊝_, minus-ge}
 
 -- ---- the quotient of the number before, by what the remainder is
 -- where something is left of suc n, the same
@@ -144,3 +144,22 @@ module _ (z : ℤ) (d : ℕ) (hz : SFits w64 z) (hd : d < 2 ^ 63) where
 -- a signed result that is passed on: read back from its bits, it is itself
 pub back : (z : ℤ) → mag z < 2 ^ 63 → toZ w64 (ofZ w64 z) ≡ z
 back z h = toZ-ofZ {w = w64} (record { sfits = h })
+
+-- ---- of a number that is not above 0: the other rounding, taken off
+pub floor-neg : (n d : ℕ) → 0 < d → floor (negℤ (pos n)) d ≡ negℤ (pos (up n d))
+unfolding floor
+floor-neg zero d h = ap pos (zero-div d) ∙ ap (λ (k : ℕ). negℤ (pos k)) (up-at 0 d 0 h (omega arith) (omega arith))
+floor-neg (suc n) d h =
+    ap (λ (k : ℕ). negℤ (pos k))
+    (up-at (suc n) d (suc (n / d)) h
+    (omega (arith, div-add-mod' n d, mod-lt n h))
+    (omega (arith, div-add-mod' n d)))
+
+pub ceiling-neg : (n d : ℕ) → ceiling (negℤ (pos n)) d ≡ negℤ (pos (down n d))
+unfolding floor ceiling down
+ceiling-neg zero d = refl
+ceiling-neg (suc n) d = refl
+
+-- and what is left of a whole number
+pub less : (a n : ℕ) → n ≤ a → pos a +ℤ negℤ (pos n) ≡ pos (a - n)
+less a n h = minus-ge a n h

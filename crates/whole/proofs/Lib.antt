@@ -6,6 +6,7 @@ pub mod Root
 pub mod Order
 pub mod Difference
 pub mod Floor
+pub mod Stands
 pub mod Line
 pub mod Range
 pub mod Unique

@@ -1,7 +1,7 @@
 -- Rounding up and down: `up` and `down` are the numbers of `Up` and `Down`, which no other is; how they move, and what
 -- drops out of them.
 -- Assumes nothing.
-use mathlib.Core.Path.{_≡_, sym, ap, _∙_}
+use mathlib.Core.Path.{_≡_, sym, ap, ap₂, _∙_}
 use Prim.Native.Nat.{ℕ, suc, _+_, _*_, _-_, _/_, _≤_, _<_}
 use native.Mathlib.Nat.{le-antisymm, lt-div-mul-add, div-mul-le-self, lt-of-mul-lt-mul-left, mul-le-mul-left, mul-le-mul-right, mul-pos, mul-lt-mul-of-pos-left, mul-lt-mul-of-pos-right}
 use native.Mathlib.Omega.{arith}
@@ -106,3 +106,21 @@ up-exact n d p = sym (up-at (d * n) d n p (omega arith) (omega arith))
 
 pub down-exact : (n d : ℕ) → 0 < d → down (d * n) d ≡ n
 down-exact n d p = sym (down-at (d * n) d n p (omega arith) (omega arith))
+
+-- the same number over another divisor is rounded alike
+pub up-same : (n d m e : ℕ) → 0 < d → 0 < e → n * e ≡ m * d → up n d ≡ up m e
+up-same n d m e pd pe h =
+    sym (up-scale e n d pe pd) ∙ ap₂ up (omega arith) (omega arith) ∙ up-scale d m e pd pe
+
+pub down-same : (n d m e : ℕ) → 0 < d → 0 < e → n * e ≡ m * d → down n d ≡ down m e
+down-same n d m e pd pe h =
+    sym (down-scale e n d pe pd) ∙ ap₂ down (omega arith) (omega arith) ∙ down-scale d m e pd pe
+
+-- what is taken off a whole number before a quotient is rounded up comes off it rounded down
+pub up-less : (a n d : ℕ) → 0 < d → n ≤ d * a → a - down n d ≡ up (d * a - n) d
+up-less a n d p h =
+    let u = down-law n d p in
+    let f : down n d ≤ a = cancel d (down n d) a (omega arith) in
+    let e : (a - down n d) + down n d ≡ a = omega arith in
+    let m : d * ((a - down n d) + down n d) ≡ d * a = ap (λ (x : ℕ). d * x) e in
+    up-at (d * a - n) d (a - down n d) p (omega arith) (omega arith)

@@ -1,0 +1,32 @@
+-- What the leaves are made for, wide enough for every unit, profile and curve to come.
+--   Unit s           millionths to ten-millionths, a divisor of 10⁸
+--   Shape a b t      A and B to 2 g, T to 509,000 ms
+--   Ductile s c ρ    a capacity of 1 to 6 in whole thirds of the unit, a square of 1 to 11, and an upper root not above the capacity
+use mathlib.Core.Path.{_≡_}
+use Prim.Native.Nat.{ℕ, _*_, _/_, _≤_, _<_}
+use Rattle.whole.specs.declared.Fraction.{Fraction}
+use Rattle.whole.specs.Root.{upperRoot}
+
+pub record Unit (s : ℕ) : Type 0 where
+  pub positive : 0 < s
+  pub most : s ≤ 10_000_000
+  pub divides : 100_000_000 / s * s ≡ 100_000_000
+
+pub record Shape (a b t : ℕ) : Type 0 where
+  pub a-positive : 0 < a
+  pub a-most : a ≤ 200_000_000
+  pub b-positive : 0 < b
+  pub b-most : b ≤ 200_000_000
+  pub t-most : t ≤ 509_000
+
+pub record Ductile (s : ℕ) (c ρ : Fraction) : Type 0 where
+  pub cap-positive : 0 < c .den
+  pub cap-small : c .den ≤ 1000
+  pub cap-one : c .den ≤ c .num
+  pub cap-most : c .num ≤ 6 * c .den
+  pub thirds : 3 * s / c .den * c .den ≡ 3 * s
+  pub square-positive : 0 < ρ .den
+  pub square-small : ρ .den ≤ 1000
+  pub square-one : ρ .den ≤ ρ .num
+  pub square-most : ρ .num ≤ 11 * ρ .den
+  pub root-most : upperRoot s ρ * c .den ≤ s * c .num

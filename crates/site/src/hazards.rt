@@ -1,0 +1,99 @@
+// The makers of the three hazards from a judged site.
+use crate::capacity::design_capacity;
+use crate::capacity::design_square;
+use crate::capacity::mce_capacity;
+use crate::capacity::mce_square;
+use crate::coefficients::acceleration_a;
+use crate::coefficients::acceleration_b;
+use crate::hazard::Hazard;
+use crate::hazard::Hazards;
+use crate::hazard::Lines;
+use limits::site::Class;
+use limits::site::Site;
+use whole::Fraction;
+ghost use mathlib.Core.Path.{_≡_};
+ghost use Prim.Native.Nat.{_≤_};
+ghost use Rattle.limits.specs.Allowed.{AllowedSite};
+ghost use Rattle.site.specs.Hazards.{Mapped, levelOf, hazardsOf};
+
+// The near-fault factor of a site that has none, in 0.01.
+const NO_FACTOR: u64 = 100;
+
+// The lines of (8) and (18).
+const LINES: Lines = Lines {
+    first: 300,
+    second: 800,
+    slope: 520,
+    add: 144,
+    last: 700,
+};
+
+// The overstrength of (7) and (17), and that of (19), in tenths.
+const DIVISOR: u64 = 14;
+
+const STAR_DIVISOR: u64 = 42;
+
+// A and B from mapped values and near-fault factors, with a capacity and its square.
+pub fn level(
+    class: Class,
+    ss: u64,
+    s1: u64,
+    na: u64,
+    nv: u64,
+    capacity: Fraction,
+    square: Fraction,
+) -> Hazard
+    requires { ⌜ Mapped ss s1 na nv ⌝ }
+    ensures { λ h. ⌜ h ≡ levelOf class ss s1 na nv capacity square ⌝ }
+{
+    let a = acceleration_a(class, ss * na);
+    let b = acceleration_b(class, s1 * nv);
+    Hazard {
+        a,
+        b,
+        capacity,
+        square,
+    }
+}
+
+// V's, V_M's, and V*'s with both near-fault factors taken as 100.
+pub fn hazards_of(site: Site, r: u64) -> Hazards
+    requires { ⌜ AllowedSite site × (100 ≤ r) × (r ≤ 600) ⌝ }
+    ensures { λ k. ⌜ k ≡ hazardsOf site r ⌝ }
+{
+    let class = site.class;
+    let allowable = design_capacity(r);
+    let square = design_square(r);
+    Hazards {
+        design: level(
+            class,
+            site.ssd,
+            site.s1d,
+            site.na,
+            site.nv,
+            allowable,
+            square,
+        ),
+        mce: level(
+            class,
+            site.ssm,
+            site.s1m,
+            site.na,
+            site.nv,
+            mce_capacity(r),
+            mce_square(r),
+        ),
+        star: level(
+            class,
+            site.ssd,
+            site.s1d,
+            NO_FACTOR,
+            NO_FACTOR,
+            allowable,
+            square,
+        ),
+        lines: LINES,
+        divisor: DIVISOR,
+        stardivisor: STAR_DIVISOR,
+    }
+}
