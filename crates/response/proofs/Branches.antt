@@ -74,16 +74,18 @@ module _ (A B T : ℕ) where
   pub level : T * A < 600 * B → 200 * B ≤ T * A → weights A B T ≡ record { one = 0; root = 1; cap = 0 }
   unfolding weights
   level h l =
-      simp
-      (lt-leb (1000 * B * 1) (T * A) (omega arith),
-      lt-leb (6 * (1000 * B) * 1) (T * (10 * A)) (omega arith),
-      le-leb (2 * (1000 * B) * 1) (T * (10 * A)) (omega arith))
+      simp (
+        lt-leb (1000 * B * 1) (T * A) (omega arith),
+        lt-leb (6 * (1000 * B) * 1) (T * (10 * A)) (omega arith),
+        le-leb (2 * (1000 * B) * 1) (T * (10 * A)) (omega arith),
+      )
 
   pub below : T * A < 200 * B
       → weights A B T ≡ record { one = 10 * (200 * B - T * A); root = 10 * (T * A); cap = 0 }
   unfolding weights
   below h =
-      simp
-      (lt-leb (1000 * B * 1) (T * A) (omega arith),
-      lt-leb (6 * (1000 * B) * 1) (T * (10 * A)) (omega arith),
-      lt-leb (2 * (1000 * B) * 1) (T * (10 * A)) (omega arith))
+      simp (
+        lt-leb (1000 * B * 1) (T * A) (omega arith),
+        lt-leb (6 * (1000 * B) * 1) (T * (10 * A)) (omega arith),
+        lt-leb (2 * (1000 * B) * 1) (T * (10 * A)) (omega arith),
+      )

@@ -4,3 +4,5 @@ pub mod Mean
 pub mod Branches
 pub mod Values
 pub mod Printed
+pub mod Spectra
+pub mod Reached

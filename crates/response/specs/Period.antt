@@ -2,6 +2,7 @@
 --   c kind                 85, 70, 70, 50 for kinds 1 to 4
 --   approximate kind h     the largest whole t with 1000·t⁴ ≤ c⁴·h³, h the top height in dm
 --   inUse calculated t     T: with a calculated period the smaller of it and 14·t/10 rounded down; else t (0 is 'none')
+--   periodOf kind calculated h    T of a frame of top height h
 use Prim.Native.Nat.{ℕ, _*_, _/_, _^_, min}
 use lib.Dec.{leb, eqb}
 use Rattle.whole.specs.Choice.{pick}
@@ -21,3 +22,6 @@ approximate kind h = largest (λ t. leb (1000 * t ^ 4) (c kind ^ 4 * h ^ 3))
 
 unfoldable pub inUse : ℕ → ℕ → ℕ
 inUse calculated t = pick (eqb calculated 0) t (min calculated (down (14 * t) 10))
+
+abbrev pub periodOf : Kind → ℕ → ℕ → ℕ
+periodOf kind calculated h = inUse calculated (approximate kind h)

@@ -1,11 +1,13 @@
 -- What the leaves are made for, wide enough for every unit, profile and curve to come.
 --   Unit s           millionths to ten-millionths, a divisor of 10⁸
 --   Shape a b t      A and B to 2 g, T to 509,000 ms
+--   Thousandths l    lines whose constants are at most 1
 --   Ductile s c ρ    a capacity of 1 to 6 in whole thirds of the unit, a square of 1 to 11, and an upper root not above the capacity
 use mathlib.Core.Path.{_≡_}
 use Prim.Native.Nat.{ℕ, _*_, _/_, _≤_, _<_}
 use Rattle.whole.specs.declared.Fraction.{Fraction}
 use Rattle.whole.specs.Root.{upperRoot}
+use Rattle.site.specs.declared.hazard.Lines.{Lines}
 
 pub record Unit (s : ℕ) : Type 0 where
   pub positive : 0 < s
@@ -30,3 +32,10 @@ pub record Ductile (s : ℕ) (c ρ : Fraction) : Type 0 where
   pub square-one : ρ .den ≤ ρ .num
   pub square-most : ρ .num ≤ 11 * ρ .den
   pub root-most : upperRoot s ρ * c .den ≤ s * c .num
+
+pub record Thousandths (l : Lines) : Type 0 where
+  pub first : l .first ≤ 1000
+  pub second : l .second ≤ 1000
+  pub slope : l .slope ≤ 1000
+  pub add : l .add ≤ 1000
+  pub last : l .last ≤ 1000

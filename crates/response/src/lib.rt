@@ -1,1 +1,10 @@
-// The response of a frame: period, spectrum, roots, reduction factor, modified ratio.
+// The response of a frame: period, spectrum, roots, reduction factor, modified ratio. Everything takes its unit s: figures are
+// whole numbers of s-ths.
+
+pub mod factor;
+pub mod period;
+pub mod ratio;
+pub mod spectrum;
+
+// Millionths.
+pub const UNIT: u64 = 1_000_000;

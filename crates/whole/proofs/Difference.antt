@@ -119,3 +119,7 @@ times-difference a b c d = go (decLe d c)
         ∙ negated (a * (d - c)) (b * (d - c))
         ∙ same-difference (b * (d - c)) (a * (d - c)) (a * c + b * d) (a * d + b * c)
         (omega (arith, ap (λ (z : ℕ). a * z) e, ap (λ (z : ℕ). b * z) e))
+
+-- a difference that is not below 0 times one that is not above
+pub fall : (a b c d : ℕ) → b ≤ a → c ≤ d → (a ⊝ b) *ℤ (c ⊝ d) ≡ negℤ (pos ((a - b) * (d - c)))
+fall a b c d h l = ap₂ (λ (y z : ℤ). y *ℤ z) (minus-ge a b h) (minus-le c d l) ∙ times-neg (pos (a - b)) (d - c)
