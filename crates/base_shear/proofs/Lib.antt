@@ -1,1 +1,3 @@
 pub mod Literal
+pub mod Within
+pub mod Accepted

@@ -1,2 +1,3 @@
 pub mod Shears
 pub mod Exact
+pub mod Ready

@@ -3,14 +3,21 @@
 --                         a kN are 10⁴. In millionths I·x·W/(1400·alpha-y) for n = 14 and I·x·W/(4200·alpha-y) for n = 42
 --   ratioAt s h T         q of a hazard: its spectrum over its lower factor
 --   shear s k h f W T     V of the design hazard and V_M of the MCE hazard: I·m·W/(1400·alpha-y)
+--   starAt s l h T        p of a hazard: its spectrum against its upper factor
 --   star s k f W T        V*: I·p·W/(4200·alpha-y), p by the upper factor of the hazard without near-fault factors
 --   base s k f W T        V_D, the largest of the three
 --   figures s k f W T     V, V_M, V*, V_D and T
+--   figuresOf site f W h  those of a site, a frame, a total weight and a top height h in dm, in millionths
 use Prim.Native.Nat.{ℕ, _*_, max}
 use Rattle.whole.specs.Rounding.{up}
 use Rattle.limits.specs.declared.frame.Frame.{Frame}
+use Rattle.limits.specs.declared.site.Site.{Site}
+use Rattle.site.specs.declared.hazard.Lines.{Lines}
 use Rattle.site.specs.declared.hazard.Hazard.{Hazard}
 use Rattle.site.specs.declared.hazard.Hazards.{Hazards}
+use Rattle.site.specs.Hazards.{hazardsOf}
+use Rattle.response.specs.Period.{periodOf}
+use Rattle.response.specs.Unit.{unit}
 use Rattle.response.specs.Spectrum.{spectrum}
 use Rattle.response.specs.Factor.{lowerFactor, upperFactor}
 use Rattle.response.specs.Ratio.{ratio, modified, blended}
@@ -26,12 +33,12 @@ ratioAt s h T =
 unfoldable pub shear : ℕ → Hazards → Hazard → Frame → ℕ → ℕ → ℕ
 shear s k h f W T = newtons s (k .divisor) f W (modified s (k .lines) (ratioAt s h T))
 
+abbrev pub starAt : ℕ → Lines → Hazard → ℕ → ℕ
+starAt s l h T =
+    blended l (spectrum s (h .a) (h .b) T) (upperFactor s (h .a) (h .b) T (h .capacity) (h .square))
+
 unfoldable pub star : ℕ → Hazards → Frame → ℕ → ℕ → ℕ
-star s k f W T =
-    let h = k .star in
-    let Sa = spectrum s (h .a) (h .b) T in
-    let F = upperFactor s (h .a) (h .b) T (h .capacity) (h .square) in
-    newtons s (k .stardivisor) f W (blended (k .lines) Sa F)
+star s k f W T = newtons s (k .stardivisor) f W (starAt s (k .lines) (k .star) T)
 
 unfoldable pub base : ℕ → Hazards → Frame → ℕ → ℕ → ℕ
 base s k f W T = max (max (shear s k (k .design) f W T) (shear s k (k .mce) f W T)) (star s k f W T)
@@ -45,3 +52,6 @@ figures s k f W T =
       vd = base s k f W T;
       t = T;
     }
+
+abbrev pub figuresOf : Site → Frame → ℕ → ℕ → Figures
+figuresOf site f W h = figures unit (hazardsOf site (f .r)) f W (periodOf (f .kind) (f .calculated) h)

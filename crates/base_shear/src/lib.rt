@@ -1,4 +1,6 @@
 // The base shear.
+pub mod base;
+pub mod shears;
 
 // V, V_M, V* and V_D in N, and the period in use in ms.
 pub struct Figures {

@@ -6,3 +6,4 @@ pub mod Values
 pub mod Printed
 pub mod Spectra
 pub mod Reached
+pub mod Most

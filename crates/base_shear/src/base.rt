@@ -1,0 +1,52 @@
+// V, V_M, V*, V_D and T.
+use crate::Figures;
+use crate::shears::blended_at;
+use crate::shears::modified_at;
+use crate::shears::newtons;
+use limits::frame::Frame;
+use limits::site::Site;
+use response::UNIT;
+use response::period::period_of;
+use site::hazard::Hazards;
+use site::hazards::hazards_of;
+ghost use mathlib.Core.Path.{_≡_};
+ghost use Prim.Native.Nat.{_≤_, max};
+ghost use Rattle.limits.specs.Allowed.{AllowedFrame, AllowedSite};
+ghost use Rattle.base_shear.specs.Ready.{Shearing};
+ghost use Rattle.base_shear.specs.Shears.{figures, figuresOf};
+
+fn larger(a: u64, b: u64) -> u64
+    ensures { λ r. ⌜ r ≡ max a b ⌝ }
+{
+    if a <= b {
+        return b;
+    }
+    a
+}
+
+// The figures of three hazards, whatever made them: s is the unit.
+pub fn figures_of(s: u64, k: Hazards, f: Frame, w: u64, t: u64) -> Figures
+    requires { ⌜ Shearing s k t × AllowedFrame f × (w ≤ 1_000_000) ⌝ }
+    ensures { λ r. ⌜ r ≡ figures s k f w t ⌝ }
+{
+    let lines = k.lines;
+    let design = k.design;
+    let mce = k.mce;
+    let plain = k.star;
+    let v = newtons(s, k.divisor, f, w, modified_at(s, lines, design, t));
+    let vm = newtons(s, k.divisor, f, w, modified_at(s, lines, mce, t));
+    let star = newtons(s, k.stardivisor, f, w, blended_at(s, lines, plain, t));
+    let vd = larger(larger(v, vm), star);
+    Figures { v, vm, star, vd, t }
+}
+
+// The five figures of a judged site and frame, a total weight in kN and a top height in dm.
+pub fn base_figures(site: Site, frame: Frame, weight: u64, height: u64) -> Figures
+    requires { ⌜ AllowedSite site × AllowedFrame frame × (weight ≤ 1_000_000) × (1 ≤ height) × (height ≤ 2000) ⌝ }
+    ensures { λ r. ⌜ r ≡ figuresOf site frame weight height ⌝ }
+{
+    let kind = frame.kind;
+    let t = period_of(kind, frame.calculated, height);
+    let hazards = hazards_of(site, frame.r);
+    figures_of(UNIT, hazards, frame, weight, t)
+}

@@ -1,0 +1,112 @@
+-- How large the printed stages come: the spectrum at most 2 g, the factors 1 to 6, the ratio at most the spectrum.
+-- Assumes nothing.
+use mathlib.Core.Path.{_≡_, refl, sym, subst}
+use Prim.Native.Nat.{ℕ, _+_, _-_, _*_, _^_, _≤_, _<_}
+use native.Mathlib.Nat.{mul-le-mul-left, mul-le-mul-right, mul-pos, le-of-mul-le-mul-right}
+use native.Mathlib.Omega.{arith}
+use Rattle.whole.specs.declared.Fraction.{Fraction}
+use Rattle.whole.specs.Fraction.{over, upIn, downIn}
+use Rattle.whole.specs.Root.{lowerRoot, upperRoot}
+use Rattle.whole.specs.Rounding.{up, down}
+use Rattle.whole.proofs.Choice.{by-leb}
+use Rattle.whole.proofs.Rounding.{up-most, down-is}
+use Rattle.site.specs.declared.hazard.Lines.{Lines}
+use Rattle.response.specs.Factor.{lowerFactor, upperFactor}
+use Rattle.response.specs.Ratio.{bent, ratio, modified, blended}
+use Rattle.response.specs.Reach.{Unit, Shape, Ductile, Thousandths}
+use Rattle.response.specs.Spectrum.{exactSpectrum, spectrum}
+use Rattle.response.proofs.Branches.{weights-positive, lower-is-mean, upper-is-mean}
+use Rattle.response.proofs.Mean.{Weights, total, mean, weights}
+use Rattle.response.proofs.Reached.{root-least, roots-ordered}
+use Rattle.response.proofs.Spectra.{left-positive}
+
+-- ---- the spectrum
+pub spectrum-positive : (A B T : ℕ) → 0 < B → 0 < exactSpectrum A B T .den
+unfolding exactSpectrum
+spectrum-positive A B T pb =
+    by-leb (λ (z : Fraction). 0 < z .den) (T * (10 * A)) (2 * (1000 * B) * 1) _ _ (λ _. omega arith)
+    (λ _.
+    by-leb (λ (z : Fraction). 0 < z .den) (T * A) (1000 * B * 1) _ _ (λ _. omega arith)
+    (λ past.
+    let pt : 0 < T = left-positive T A (T * A) refl (omega arith) in
+    by-leb (λ (z : Fraction). 0 < z .den) (T * (10 * A)) (25 * (1000 * B) * 1) _ _ (λ _. omega arith) (λ _. omega arith)))
+
+pub spectrum-small : (A B T : ℕ) → A ≤ 200_000_000 → exactSpectrum A B T .num ≤ 2 * exactSpectrum A B T .den
+unfolding exactSpectrum
+spectrum-small A B T h =
+    by-leb (λ (z : Fraction). z .num ≤ 2 * z .den) (T * (10 * A)) (2 * (1000 * B) * 1) _ _
+    (λ a.
+    let g : 4 * (1 * (1000 * B)) + 3 * T * A * 10 ≤ 10 * (1 * (1000 * B)) = omega arith in
+    omega (arith, mul-le-mul-left A g, mul-le-mul-right (10 * (1 * (1000 * B))) h))
+    (λ _.
+    by-leb (λ (z : Fraction). z .num ≤ 2 * z .den) (T * A) (1000 * B * 1) _ _ (λ _. omega arith)
+    (λ a.
+    by-leb (λ (z : Fraction). z .num ≤ 2 * z .den) (T * (10 * A)) (25 * (1000 * B) * 1) _ _
+    (λ _. omega (arith, mul-le-mul-right T h))
+    (λ _. omega arith)))
+
+pub spectrum-most : (s A B T : ℕ) → 0 < B → A ≤ 200_000_000 → spectrum s A B T ≤ 2 * s
+unfolding spectrum
+spectrum-most s A B T pb h =
+    let x = exactSpectrum A B T in
+    up-most (s * x .num) (x .den) (2 * s) (spectrum-positive A B T pb)
+    (omega (arith, mul-le-mul-left s (spectrum-small A B T h)))
+
+-- ---- the factors: a mean of 1, a root from 1 on and a capacity from 1 on is at least 1
+mean-least : (w : Weights) (r c : Fraction) → r .den ≤ r .num → c .den ≤ c .num → mean w r c .den ≤ mean w r c .num
+mean-least w r c h k =
+    omega (arith, mul-le-mul-right (w .root * c .den) h, mul-le-mul-right (w .cap * r .den) k)
+
+mean-most : (w : Weights) (r c : Fraction) → r .num ≤ 6 * r .den → c .num ≤ 6 * c .den → mean w r c .num ≤ 6 * mean w r c .den
+mean-most w r c h k =
+    omega (
+      arith,
+      mul-le-mul-right (w .root * c .den) h,
+      mul-le-mul-right (w .cap * r .den) k,
+    )
+
+module _ (s A B T : ℕ) (c ρ : Fraction) (u : Unit s) (sh : Shape A B T) (d : Ductile s c ρ) where
+  mean-positive : (k : ℕ) → 0 < mean (weights A B T) (over k s) c .den
+  mean-positive k = mul-pos (weights-positive A B T (sh .b-positive)) (mul-pos (u .positive) (d .cap-positive))
+
+  pub lower-factor-least : s ≤ lowerFactor s A B T c ρ
+  lower-factor-least =
+      let k = lowerRoot s ρ in
+      let x = mean (weights A B T) (over k s) c in
+      let l = mean-least (weights A B T) (over k s) c (root-least s c ρ u d) (d .cap-one) in
+      subst (λ (f : ℕ). s ≤ f)
+      (sym (lower-is-mean s A B T c ρ (u .positive) (sh .a-positive) (sh .b-positive) (d .cap-positive)))
+      (down-is (s * x .num) (x .den) (mean-positive k) .largest s (omega (arith, mul-le-mul-left s l)))
+
+  pub upper-factor-most : upperFactor s A B T c ρ ≤ 6 * s
+  upper-factor-most =
+      let k = upperRoot s ρ in
+      let x = mean (weights A B T) (over k s) c in
+      let small : k ≤ 6 * s =
+      le-of-mul-le-mul-right {k = c .den} (omega (arith, d .root-most, mul-le-mul-left s (d .cap-most))) (d .cap-positive) in
+      let m = mean-most (weights A B T) (over k s) c small (d .cap-most) in
+      subst (λ (f : ℕ). f ≤ 6 * s)
+      (sym (upper-is-mean s A B T c ρ (u .positive) (sh .a-positive) (sh .b-positive) (d .cap-positive)))
+      (up-most (s * x .num) (x .den) (6 * s) (mean-positive k) (omega (arith, mul-le-mul-left s m)))
+
+-- ---- ratio, m and p
+pub ratio-most : (s Sa F : ℕ) → 0 < F → s ≤ F → ratio s Sa F ≤ Sa
+unfolding ratio
+ratio-most s Sa F p h = up-most (s * Sa) F Sa p (mul-le-mul-right Sa h)
+
+bent-most : (l : Lines) (x y : ℕ) → Thousandths l → bent l x y ≤ 1000 * (x + y)
+unfolding bent
+bent-most l x y t =
+    by-leb (λ (z : ℕ). z ≤ 1000 * (x + y)) (1000 * x) (l .first * y) _ _ (λ _. omega arith)
+    (λ _.
+    by-leb (λ (z : ℕ). z ≤ 1000 * (x + y)) (1000 * x) (l .second * y) _ _
+    (λ _. omega (arith, mul-le-mul-right x (t .slope), mul-le-mul-right y (t .add)))
+    (λ _. omega (arith, mul-le-mul-right x (t .last))))
+
+pub modified-most : (s : ℕ) (l : Lines) (q : ℕ) → Thousandths l → modified s l q ≤ q + s
+unfolding modified
+modified-most s l q t = up-most (bent l q s) 1000 (q + s) (omega arith) (bent-most l q s t)
+
+pub blended-most : (l : Lines) (Sa F : ℕ) → Thousandths l → blended l Sa F ≤ Sa + F
+unfolding blended
+blended-most l Sa F t = up-most (bent l Sa F) 1000 (Sa + F) (omega arith) (bent-most l Sa F t)
