@@ -20,7 +20,7 @@ ghost use Rattle.site.specs.Hazards.{Mapped, levelOf, hazardsOf};
 const NO_FACTOR: u64 = 100;
 
 // The lines of (8) and (18).
-const LINES: Lines = Lines {
+pub const LINES: Lines = Lines {
     first: 300,
     second: 800,
     slope: 520,

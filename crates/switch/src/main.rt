@@ -1,0 +1,74 @@
+// One job with class 2, 3 and 2 again: the first and the third run agree, and the second is that of a fresh run.
+use base_shear::Figures;
+use base_shear::base::base_figures;
+use libc::STDOUT_FILENO;
+use limits::frame::Frame;
+use limits::frame::Kind;
+use limits::site::Class;
+use limits::site::Site;
+
+fn run(class: Class) -> Figures {
+    let site = Site {
+        ssd: 70,
+        s1d: 40,
+        ssm: 90,
+        s1m: 50,
+        na: 112,
+        nv: 123,
+        class,
+    };
+    let frame = Frame {
+        kind: Kind::Concrete,
+        calculated: 700,
+        r: 480,
+        i: 125,
+        alpha: 150,
+    };
+    base_figures(site, frame, 15_000, 300)
+}
+
+fn number(n: u64) {
+    io::write_all(STDOUT_FILENO, b"\t");
+    io::print_decimal(STDOUT_FILENO, n);
+}
+
+fn say(name: &[u8], f: Figures) {
+    io::write_all(STDOUT_FILENO, name);
+    number(f.v);
+    number(f.vm);
+    number(f.star);
+    number(f.vd);
+    number(f.t);
+    io::write_all(STDOUT_FILENO, b"\n");
+}
+
+fn same(a: Figures, b: Figures) -> bool {
+    if a.v != b.v {
+        return false;
+    }
+    if a.vm != b.vm {
+        return false;
+    }
+    if a.star != b.star {
+        return false;
+    }
+    if a.vd != b.vd {
+        return false;
+    }
+    a.t == b.t
+}
+
+fn main() {
+    let first = run(Class::Normal);
+    let second = run(Class::Soft);
+    let third = run(Class::Normal);
+    say(b"class 2", first);
+    say(b"class 3", second);
+    say(b"class 2", third);
+    if same(first, third) {
+        io::write_all(STDOUT_FILENO, b"first and third: the same\n");
+    }
+    if same(first, second) {
+        io::write_all(STDOUT_FILENO, b"first and second: the same\n");
+    }
+}
