@@ -2,6 +2,7 @@
 -- Assumes nothing.
 use mathlib.Core.Path.{_≡_, refl}
 use mathlib.Core.Bool.{Bool, _&&_}
+use mathlib.Core.List.{List}
 use Prim.Native.Nat.{ℕ, _+_, _-_, _*_, _/_, _≤_, _<_}
 use native.Mathlib.Omega.{arith}
 use lib.Dec.{T, leb, leb→le}
@@ -11,7 +12,14 @@ use Rattle.whole.specs.Root.{upperRoot}
 use Rattle.whole.specs.Search.{largest, smallest, bitsFrom}
 use Rattle.whole.proofs.Range.{allBelow, all-from}
 use Rattle.limits.specs.Allowed.{AllowedSite, AllowedFrame}
+use Rattle.limits.specs.Judging.{judgedJob}
+use Rattle.limits.specs.Levels.{topHeight}
+use Rattle.limits.specs.Outcome.{accepted}
+use Rattle.limits.proofs.Accepted.{given-allowed}
 use Rattle.limits.specs.declared.frame.Frame.{Frame}
+use Rattle.limits.specs.declared.frame.FrameValues.{FrameValues}
+use Rattle.limits.specs.declared.judging.Given.{Given}
+use Rattle.limits.specs.declared.site.SiteValues.{SiteValues}
 use Rattle.limits.specs.declared.site.Class.{Class}
 use Rattle.limits.specs.declared.site.Site.{Site}
 use Rattle.site.specs.Capacity.{designCapacity, designSquare, mceCapacity, mceSquare}
@@ -124,3 +132,12 @@ shearing site f h a b lo hi =
       divisor = omega arith;
       stardivisor = omega arith;
     }
+
+-- ---- the period in use of every accepted job is 1 to 6328 ms
+pub period-accepted : (s : SiteValues) (f : FrameValues) (ws hs : List ℕ) (room : ℕ) (g : Given)
+    → judgedJob s f ws hs room ≡ accepted g
+    → (1 ≤ periodOf (g .frame .kind) (g .frame .calculated) (topHeight hs))
+    × (periodOf (g .frame .kind) (g .frame .calculated) (topHeight hs) ≤ 6328)
+period-accepted s f ws hs room g e =
+    let a = given-allowed s f ws hs room g e in
+    period-bounds (g .frame .kind) (g .frame .calculated) (topHeight hs) (a .2) (a .3)

@@ -2,3 +2,4 @@ pub mod Listed
 pub mod Stages
 pub mod Lists
 pub mod Unique
+pub mod Accepted

@@ -13,6 +13,7 @@ use Rattle.whole.specs.declared.Fraction.{Fraction}
 use Rattle.whole.specs.Fraction.{over}
 use Rattle.whole.specs.Cells.{sum}
 use Rattle.whole.specs.Root.{lowerRoot, upperRoot}
+use Rattle.limits.specs.Levels.{topHeight}
 use Rattle.limits.specs.declared.site.Class.{Class}
 use Rattle.limits.specs.declared.site.Site.{Site}
 use Rattle.limits.specs.declared.frame.Kind.{Kind}
@@ -20,7 +21,7 @@ use Rattle.limits.specs.declared.frame.Frame.{Frame}
 use Rattle.site.specs.declared.hazard.Hazard.{Hazard}
 use Rattle.site.specs.declared.hazard.Hazards.{Hazards}
 use Rattle.site.specs.Hazards.{hazardsOf}
-use Rattle.response.specs.Period.{approximate, inUse}
+use Rattle.response.specs.Period.{approximate, periodOf}
 use Rattle.response.specs.Spectrum.{spectrum}
 use Rattle.response.specs.Factor.{lowerFactor, upperFactor}
 use Rattle.response.specs.Ratio.{modified, blended}
@@ -54,11 +55,6 @@ abbrev pub vector : ℕ → Site → Frame → List ℕ → List ℕ → Roots �
 vector s site frame ws hs r ns xs =
     record { unit = s; site = site; frame = frame; weights = ws; heights = hs; roots = r; printed = ns; exact = xs }
 
-abbrev pub last : List ℕ → ℕ
-last [] = 0
-last (a ∷ []) = a
-last (a ∷ (b ∷ l)) = last (b ∷ l)
-
 -- of one hazard with its lower root: spectrum, root, factor, q, m
 unfoldable pub stages : ℕ → Hazards → Hazard → ℕ → List ℕ
 stages s k h T =
@@ -77,7 +73,7 @@ starStages s k h T =
     Sa ∷ upperRoot s (h .square) ∷ F ∷ blended (k .lines) Sa F ∷ []
 
 unfoldable pub period : Vector → ℕ
-period v = inUse (v .frame .calculated) (approximate (v .frame .kind) (last (v .heights)))
+period v = periodOf (v .frame .kind) (v .frame .calculated) (topHeight (v .heights))
 
 unfoldable pub printed : Vector → List ℕ
 printed v =
@@ -87,7 +83,7 @@ printed v =
     let us = shears T (f .vd) (v .weights) (v .heights) in
     let fs = forces us in
     (k .design .a ∷ k .design .b ∷ k .mce .a ∷ k .mce .b ∷ k .star .a ∷ k .star .b ∷ [])
-    ++ (approximate (v .frame .kind) (last (v .heights)) ∷ f .t ∷ [])
+    ++ (approximate (v .frame .kind) (topHeight (v .heights)) ∷ f .t ∷ [])
     ++ stages (v .unit) k (k .design) T
     ++ stages (v .unit) k (k .mce) T
     ++ starStages (v .unit) k (k .star) T

@@ -2,18 +2,13 @@
 -- Assumes nothing.
 use mathlib.Core.Path.{_≡_, sym, _∙_}
 use Prim.Native.Nat.{ℕ, _*_, _^_, _≤_}
-use lib.IntN.{ℤ, pos, _+ℤ_, _-ℤ_, _*ℤ_}
-use Rattle.whole.specs.declared.Column.{Column}
+use lib.IntN.{ℤ, pos, _+ℤ_}
 use Rattle.whole.specs.Extreme.{Largest, Smallest}
-use Rattle.whole.specs.Fraction.{over, downIn}
-use Rattle.whole.specs.Line.{line, between}
-use Rattle.whole.specs.Root.{lowerRoot, upperRoot}
-use Rattle.whole.specs.Rounding.{up, down}
-use Rattle.whole.specs.Signed.{floor, ceiling}
 use Rattle.whole.proofs.Extreme.{largest-unique, smallest-unique}
 
 -- a contract 'the result is what the definition gives' determines the result, whatever the type and the definition: that of
--- `up`, `down`, `power`, `lower_root`, `upper_root`, `minus`, `times`, `floor_div`, `ceil_div`, `line` and `between`
+-- `up`, `down`, `power`, `lower_root`, `upper_root`, `minus`, `times`, `floor_div`, `ceil_div`, `line` and `between` here, and of
+-- every function of `site`, `response` and `base_shear`
 pub determined : {A : Type 0} {given r r′ : A} → r ≡ given → r′ ≡ given → r ≡ r′
 determined p q = p ∙ sym q
 

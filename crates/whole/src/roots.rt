@@ -44,7 +44,8 @@ pub fn smallest(m: u64, p: u64, n: u64, top: u64) -> u64
     largest(m, p, n - 1, top) + 1
 }
 
-// Roots of num / den in s-ths, for every unit up to ten-millionths and every square up to 11, which is 2 R - 1 at R = 6.
+// Past every root of num / den in s-ths: 2^25 is above 10^7 times the root of 11, for a unit up to ten-millionths and a square
+// up to 11, which is 2 R - 1 at R = 6; and 1000 * 2^50 fits 64 bits.
 const PAST: u64 = 33_554_432;
 
 // The largest k with (k / s)^2 <= num / den.

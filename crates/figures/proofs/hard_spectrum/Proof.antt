@@ -18,15 +18,16 @@ spectrum-requires c κs =
     let a = a-bounds Hard 8000 (omega arith) (omega arith) in
     let b = b-bounds Hard 4500 (omega arith) (omega arith) in
     let ea = c .before .acceleration-a .ensures in
-    let eb = c .acceleration-b .ensures in
-    (record { positive = omega arith; most = omega arith; divides = refl },
-    record {
-      a-positive = omega (arith, ea, a);
-      a-most = omega (arith, ea, a);
-      b-positive = omega (arith, eb, b);
-      b-most = omega (arith, eb, b);
-      t-most = c .before .before .pre;
-    })
+    let eb = c .acceleration-b .ensures in (
+      record { positive = omega arith; most = omega arith; divides = refl },
+      record {
+        a-positive = omega (arith, ea, a);
+        a-most = omega (arith, ea, a);
+        b-positive = omega (arith, eb, b);
+        b-most = omega (arith, eb, b);
+        t-most = c .before .before .pre;
+      },
+    )
 
 returns : tie.Need-returns
 returns c = search needs
