@@ -1,0 +1,4 @@
+pub mod Velocity
+pub mod Times
+pub mod Class
+pub mod Log
