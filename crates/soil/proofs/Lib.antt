@@ -5,3 +5,7 @@ pub mod Sums
 pub mod Layers
 pub mod Adding
 pub mod Sound
+pub mod Slowness
+pub mod Classes
+pub mod Average
+pub mod Rounded

@@ -1,6 +1,6 @@
 -- What is known of a log that passes: before its kinds and values are looked at, and of its times.
 -- Assumes nothing.
-use mathlib.Core.Path.{_≡_, subst}
+use mathlib.Core.Path.{_≡_, sym, subst, _∙_}
 use mathlib.Core.Bool.{not}
 use mathlib.Core.List.{List}
 use Prim.Native.Nat.{ℕ, _*_, _≤_}
@@ -12,8 +12,11 @@ use Rattle.whole.specs.Cells.{sum}
 use Rattle.whole.specs.Rounding.{up, down}
 use Rattle.limits.specs.Levels.{paired}
 use Rattle.limits.specs.Outcome.{Outcome, accepted, _>>=_, _>>_}
+use Rattle.limits.specs.declared.site.Class.{Class}
+use Rattle.soil.specs.declared.class.ClassLimits.{ClassLimits}
 use Rattle.soil.specs.declared.times.Times.{Times}
-use Rattle.soil.specs.Log.{counted, thick, deep, judgedLog}
+use Rattle.soil.specs.Class.{classOf}
+use Rattle.soil.specs.Log.{counted, thick, deep, judgedLog, siteClass}
 use Rattle.soil.specs.Times.{times, judgedTimes}
 use Rattle.soil.specs.Velocity.{velocities}
 use Rattle.soil.proofs.Adding.{up-most, down-most, added-most}
@@ -54,3 +57,17 @@ times-most ds ks xs t e =
     let p = velocities-positive 1 ks xs (a .0) (a .1) in
     subst (λ (t : Times). (t .up ≤ 100_000_000 * sum ds) × (t .down ≤ 100_000_000 * sum ds)) (one-value (a .2))
     (added-most up up-most ds (a .0) p, added-most down down-most ds (a .0) p)
+
+-- ---- the class of a log with velocities vs
+module _ (l : ClassLimits) (ds ks xs vs : List ℕ) (given : velocities 1 ks xs ≡ accepted vs) where
+  pub class-given : judgedLog ds (length ks) (length xs) ≡ accepted tt
+      → siteClass l ds ks xs ≡ accepted (classOf l (times ds vs))
+  unfolding siteClass judgedTimes
+  class-given j = simp (j, given)
+
+  pub class-judged : {c : Class} → siteClass l ds ks xs ≡ accepted c
+      → (judgedLog ds (length ks) (length xs) ≡ accepted tt) × (classOf l (times ds vs) ≡ c)
+  unfolding siteClass
+  class-judged e =
+      let j = then-passed (judgedLog ds (length ks) (length xs)) _ e .0 in
+      (j, one-value (sym (class-given j) ∙ e))

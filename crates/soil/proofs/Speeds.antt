@@ -1,12 +1,13 @@
--- A layer's velocity is at least 500 dm/s, so that no time is a quotient by 0.
+-- A layer's velocity is at least 500 dm/s, so that no time is a quotient by 0; there are as many velocities as layers.
 --   Positive vs    every velocity of the list is above 0
 -- Assumes nothing.
-use mathlib.Core.Path.{_≡_, subst, sym}
+use mathlib.Core.Path.{_≡_, sym, ap, subst}
 use mathlib.Core.List.{List, [], _∷_}
 use Prim.Native.Nat.{ℕ, _+_, _*_, _^_, _≤_, _<_}
 use native.Mathlib.Nat.{le-mul-of-pos-right}
 use native.Mathlib.Omega.{arith}
 use lib.Dec.{eqb}
+use lib.ListN.{length}
 use Rattle.whole.proofs.Choice.{by-test}
 use Rattle.limits.specs.Outcome.{Outcome, accepted, refused, _>>=_}
 use Rattle.limits.specs.Ranges.{within}
@@ -55,3 +56,13 @@ velocities-positive p (k ∷ ks) (x ∷ xs) vs e =
     let b = bind-passed (velocities (p + 1) ks xs) _ (a .2) in
     subst Positive (one-value (b .2))
     (omega (arith, velocity-least k x p (a .0) (a .1)), velocities-positive (p + 1) ks xs (b .0) (b .1))
+
+pub velocities-length : (p : ℕ) (ks xs vs : List ℕ) → length xs ≡ length ks → velocities p ks xs ≡ accepted vs
+    → length vs ≡ length ks
+unfolding velocities
+velocities-length p [] xs vs h e = ap length (sym (one-value e))
+velocities-length p (k ∷ ks) [] vs h e = absurd (omega arith)
+velocities-length p (k ∷ ks) (x ∷ xs) vs h e =
+    let a = bind-passed (velocity k x p) _ e in
+    let b = bind-passed (velocities (p + 1) ks xs) _ (a .2) in
+    omega (arith, ap length (one-value (b .2)), velocities-length (p + 1) ks xs (b .0) (omega arith) (b .1))

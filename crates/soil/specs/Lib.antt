@@ -2,3 +2,4 @@ pub mod Velocity
 pub mod Times
 pub mod Class
 pub mod Log
+pub mod Exact
