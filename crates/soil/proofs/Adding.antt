@@ -2,7 +2,7 @@
 --   left u l ds o     U and L where u and l are added already, and ds and the velocities of o are what is left
 --   Small ds i u      u, with the layers from the i-th on at 1 dm/s, is no more than all layers at 1 dm/s
 -- Assumes nothing.
-use mathlib.Core.Path.{_≡_, refl, sym, ap, _∙_}
+use mathlib.Core.Path.{_≡_, refl}
 use mathlib.Core.List.{List, [], _∷_}
 use Prim.Native.Nat.{ℕ, _+_, _*_, _≤_, _<_}
 use native.Mathlib.Nat.{zero-add, add-zero, add-assoc, mul-le-mul-right}
@@ -15,7 +15,7 @@ use Rattle.whole.specs.Cells.{sum}
 use Rattle.whole.proofs.Rounding.{up-is, down-law}
 use Rattle.limits.specs.Outcome.{Outcome, accepted, refused, _>>=_}
 use Rattle.soil.specs.declared.times.Times.{Times}
-use Rattle.soil.specs.Times.{nsAtUnit, added, times, judgedTimes}
+use Rattle.soil.specs.Times.{nsAtUnit, added, judgedTimes}
 use Rattle.soil.specs.Velocity.{velocity, velocities}
 use Rattle.soil.proofs.Layers.{velocities-step}
 use Rattle.soil.proofs.Speeds.{Positive}

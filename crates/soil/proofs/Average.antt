@@ -3,7 +3,7 @@
 -- Assumes nothing.
 use mathlib.Core.Path.{_≡_}
 use mathlib.Core.List.{List}
-use Prim.Native.Nat.{ℕ, _+_, _*_, _≤_, _<_}
+use Prim.Native.Nat.{ℕ, _≤_, _<_}
 use native.Mathlib.Nat.{mul-le-mul-left, mul-le-mul-right, mul-lt-mul-of-pos-left, mul-lt-mul-of-pos-right, le-of-mul-le-mul-right, lt-of-mul-lt-mul-right}
 use native.Mathlib.Omega.{arith}
 use lib.ListN.{length}
@@ -11,7 +11,7 @@ use Rattle.whole.specs.Fraction.{over, plus, AtMost, Less}
 use Rattle.whole.specs.Rounding.{up, down}
 use Rattle.limits.specs.declared.site.Class.the-variants.{Hard, Normal, Soft}
 use Rattle.soil.specs.declared.class.ClassLimits.{ClassLimits}
-use Rattle.soil.specs.Class.{depthTime, classOf}
+use Rattle.soil.specs.Class.{classOf}
 use Rattle.soil.specs.Exact.{slowness, exactTime, timeAt}
 use Rattle.soil.specs.Times.{added, times}
 use Rattle.soil.proofs.Classes.{hard-where, soft-where, normal-where, hard-shows, soft-shows}

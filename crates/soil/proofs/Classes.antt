@@ -6,13 +6,22 @@ use Prim.Native.Nat.{ℕ, _*_, _≤_, _<_}
 use native.Mathlib.Nat.{mul-le-mul}
 use native.Mathlib.Omega.{arith}
 use lib.Dec.{ltb}
-use borrow.Author.Tests.{ltb-true, ltb-false, lt-ltb, le-ltb}
+use borrow.Author.Tests.{ltb-true, lt-ltb, le-ltb}
 use Rattle.whole.proofs.Choice.{by-test}
 use Rattle.limits.specs.declared.site.Class.{Class}
 use Rattle.limits.specs.declared.site.Class.the-variants.{Hard, Normal, Soft}
+use Rattle.limits.specs.Outcome.{accepted}
+use Rattle.limits.specs.Site.{judgedClass}
 use Rattle.soil.specs.declared.class.ClassLimits.{ClassLimits}
 use Rattle.soil.specs.declared.times.Times.{Times}
-use Rattle.soil.specs.Class.{depthTime, classOf}
+use Rattle.soil.specs.Class.{depthTime, classOf, classNumber}
+
+-- the class's number is the one that a site line gives it by
+pub class-number : (c : Class) → judgedClass (classNumber c) ≡ accepted c
+unfolding judgedClass
+class-number Hard = refl
+class-number Normal = refl
+class-number Soft = refl
 
 module _ (l : ClassLimits) (t : Times) where
   pub hard-where : l .hard * t .up < depthTime → classOf l t ≡ Hard

@@ -2,8 +2,8 @@
 -- to 50.
 -- Assumes nothing.
 use mathlib.Core.Path.{_≡_, ap, _∙_}
-use Prim.Native.Nat.{ℕ, _*_, _^_, _≤_, _<_}
-use native.Mathlib.Nat.{mul-le-mul, pow-le-pow-left, pow-suc, one-mul}
+use Prim.Native.Nat.{ℕ, _*_, _^_, _≤_}
+use native.Mathlib.Nat.{mul-le-mul, pow-le-pow-left, pow-suc}
 use native.Mathlib.Omega.{arith}
 use Rattle.whole.specs.Extreme.{Largest}
 use Rattle.whole.proofs.Extreme.{Rises, largest-unique, largest-same}

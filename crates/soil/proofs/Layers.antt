@@ -1,14 +1,14 @@
 -- Layers judged one after the other, from the i-th on.
 -- Assumes nothing.
-use mathlib.Core.Path.{_≡_, refl}
+use mathlib.Core.Path.{_≡_}
 use mathlib.Core.Bool.{not}
-use mathlib.Core.List.{List, [], _∷_}
+use mathlib.Core.List.{List, _∷_}
 use Prim.Native.Nat.{ℕ, _+_, _<_}
 use native.Mathlib.Numerals.{add-one}
 use lib.Dec.{eqb}
 use lib.ListN.{length, getD, drop}
 use lib.Seq.{drop-cons, drop-length}
-use Rattle.limits.specs.Outcome.{Outcome, accepted, refused, require, _>>=_, _>>_}
+use Rattle.limits.specs.Outcome.{accepted, require, _>>=_, _>>_}
 use Rattle.soil.specs.Log.{thick}
 use Rattle.soil.specs.Velocity.{velocity, velocities}
 

@@ -9,3 +9,8 @@ pub mod Slowness
 pub mod Classes
 pub mod Average
 pub mod Rounded
+pub mod Examples
+pub mod Unique
+pub mod Refusing
+pub mod Ahead
+pub mod Foremost

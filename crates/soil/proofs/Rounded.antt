@@ -4,7 +4,7 @@
 use mathlib.Core.Path.{_≡_, ap, _∙_}
 use mathlib.Core.Bool.{not}
 use mathlib.Core.List.{List, [], _∷_}
-use Prim.Native.Nat.{ℕ, _+_, _*_, _≤_, _<_}
+use Prim.Native.Nat.{ℕ, _*_, _<_}
 use native.Mathlib.Nat.{mul-pos}
 use native.Mathlib.Omega.{arith}
 use lib.Dec.{eqb}
@@ -14,10 +14,9 @@ use Rattle.whole.specs.Cells.{sum}
 use Rattle.whole.specs.Fraction.{over, plus, AtMost, Less}
 use Rattle.limits.specs.declared.site.Class.the-variants.{Hard, Normal, Soft}
 use Rattle.limits.specs.Outcome.{accepted, require}
-use Rattle.soil.specs.Class.{table3, classOf}
+use Rattle.soil.specs.Class.{table3}
 use Rattle.soil.specs.Exact.{slowness, average, exactTime, timeAt}
 use Rattle.soil.specs.Log.{thick, judgedLog, siteClass}
-use Rattle.soil.specs.Times.{times}
 use Rattle.soil.specs.Velocity.{velocities}
 use Rattle.soil.proofs.Average.{hard-is-faster, soft-is-slower, between-is-normal, faster-is-hard, slower-is-soft}
 use Rattle.soil.proofs.Passed.{then-passed, require-passed}

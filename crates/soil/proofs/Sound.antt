@@ -1,17 +1,14 @@
 -- What is known of a log that passes: before its kinds and values are looked at, and of its times.
 -- Assumes nothing.
 use mathlib.Core.Path.{_≡_, sym, subst, _∙_}
-use mathlib.Core.Bool.{not}
 use mathlib.Core.List.{List}
 use Prim.Native.Nat.{ℕ, _*_, _≤_}
-use native.Mathlib.Omega.{arith}
-use lib.Dec.{eqb}
 use lib.ListN.{length}
 use borrow.Author.Tests.{eqb-true}
 use Rattle.whole.specs.Cells.{sum}
 use Rattle.whole.specs.Rounding.{up, down}
 use Rattle.limits.specs.Levels.{paired}
-use Rattle.limits.specs.Outcome.{Outcome, accepted, _>>=_, _>>_}
+use Rattle.limits.specs.Outcome.{accepted}
 use Rattle.limits.specs.declared.site.Class.{Class}
 use Rattle.soil.specs.declared.class.ClassLimits.{ClassLimits}
 use Rattle.soil.specs.declared.times.Times.{Times}

@@ -3,13 +3,13 @@
 -- Assumes nothing.
 use mathlib.Core.Path.{_≡_, sym, ap, subst}
 use mathlib.Core.List.{List, [], _∷_}
-use Prim.Native.Nat.{ℕ, _+_, _*_, _^_, _≤_, _<_}
+use Prim.Native.Nat.{ℕ, _+_, _^_, _≤_, _<_}
 use native.Mathlib.Nat.{le-mul-of-pos-right}
 use native.Mathlib.Omega.{arith}
 use lib.Dec.{eqb}
 use lib.ListN.{length}
 use Rattle.whole.proofs.Choice.{by-test}
-use Rattle.limits.specs.Outcome.{Outcome, accepted, refused, _>>=_}
+use Rattle.limits.specs.Outcome.{Outcome, accepted}
 use Rattle.limits.specs.Ranges.{within}
 use Rattle.soil.specs.Velocity.{cubeRoot, measured, byCount, velocity, velocities}
 use Rattle.soil.proofs.Cubes.{cube-root-is}

@@ -3,3 +3,4 @@ pub mod Times
 pub mod Class
 pub mod Log
 pub mod Exact
+pub mod Applies

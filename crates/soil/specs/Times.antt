@@ -7,7 +7,7 @@
 use mathlib.Core.List.{List, [], _∷_}
 use Prim.Native.Nat.{ℕ, _+_, _*_}
 use Rattle.whole.specs.Rounding.{up, down}
-use Rattle.limits.specs.Outcome.{Outcome, accepted, refused, _>>=_, _>>_}
+use Rattle.limits.specs.Outcome.{Outcome, accepted, refused, _>>=_}
 use Rattle.soil.specs.declared.times.Times.{Times}
 use Rattle.soil.specs.declared.times.TimesAnswer.{TimesAnswer}
 use Rattle.soil.specs.declared.times.TimesAnswer.the-variants.{Taken, Refused}

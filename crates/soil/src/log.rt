@@ -9,7 +9,6 @@ use limits::refusal::Refusal;
 use limits::refusal::Verdict;
 use limits::site::ClassAnswer;
 ghost use mathlib.Core.Path.{_≡_};
-ghost use lib.ListN.{length};
 ghost use Rattle.limits.specs.Outcome.{verdictOutcome};
 ghost use Rattle.soil.specs.Log.{counted, thick, deep, judgedLog, Answers};
 

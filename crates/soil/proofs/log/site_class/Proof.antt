@@ -6,7 +6,7 @@ use lib.ListN.{length}
 use Rattle.limits.proofs.Stages.{says}
 use Rattle.limits.specs.Outcome.{accepted, verdictOutcome}
 use Rattle.soil.proofs.Sound.{log-sound, times-most}
-use Rattle.soil.specs.Class.{table3, classOf}
+use Rattle.soil.specs.Class.{classOf}
 use Rattle.soil.specs.Log.{siteClass}
 use Rattle.soil.specs.Times.{timesOutcome}
 use Rattle.soil.specs.declared.class.ClassLimits.{ClassLimits}
