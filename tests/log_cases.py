@@ -39,7 +39,7 @@ def three(*speeds):
 
 
 def class_cases():
-    """Exactly 270 and 180 m/s and one unit to either side, in one layer and in 40; averages of three layers at and about them."""
+    """Exactly 270 and 180 m/s and one unit to either side, in one layer and in 40; three layers at and about them."""
     for layers in (1, 40):
         yield from ((plain(layers, speed), []) for speed in (500, 1_799, 1_800, 1_801, 2_699, 2_700, 2_701, 30_000))
     yield three(2_000, 2_000, 9_000)        # exactly 270 m/s
@@ -63,8 +63,8 @@ def count_cases():
 
 
 def thickness_cases():
-    """Sums of 2,999 and 3,001, thicknesses of 0 with a right and with a wrong sum, and of 2^64 - 1, at the first, middle and last
-    layer; sums that wrap to 3,000."""
+    """Sums of 2,999 and 3,001, thicknesses of 0 with a right and with a wrong sum, and of 2^64 - 1, at the first, middle
+    and last layer; sums that wrap to 3,000."""
     for layer, beside in ((1, 2), (3, 4), (5, 1)):
         yield from ((plain(5), [at('thickness', layer, value)]) for value in (0, 1, 599, 601, MOST))
         yield plain(5), [at('thickness', layer, 0), at('thickness', beside, 1_200)]
@@ -89,12 +89,12 @@ def layer_cases():
 
 
 WRONG = {'2': lambda layer: [count('values', 1)], '13': lambda layer: [],
-         '14 at a layer': lambda layer: [at('thickness', layer, 0)], '14 at 0': lambda layer: [at('thickness', layer, 599)],
-         '15': lambda layer: [at('kind', layer, 4)]}
+         '14 at a layer': lambda layer: [at('thickness', layer, 0), at('thickness', 5, 1_200)],
+         '14 at 0': lambda layer: [at('thickness', layer, 599)], '15': lambda layer: [at('kind', layer, 4)]}
 
 
 def pair_cases():
-    """Every ordered pair of refusals at once, the first at layer 2 and the second at layer 4: the one that comes first is given."""
+    """Every ordered pair of refusals at once, the first at layer 2, the second at layer 4."""
     for first, second in itertools.permutations(WRONG, 2):
         yield plain(41 if '13' in (first, second) else 5), WRONG[first](2) + WRONG[second](4)
 
@@ -114,7 +114,8 @@ def lists(log, changes):
     for name, value in (('thickness', thickness), ('kind', soil.MEASURED), ('value', speed)):
         numbers |= {FIRST[name] + i: value for i in range(LISTED)}
     numbers |= dict(changes)
-    return [[numbers[first + i] for i in range(min(numbers[place], LISTED))] for place, first in enumerate(FIRST.values())]
+    counted = zip(FIRST.values(), (min(numbers[place], LISTED) for place in range(len(COUNTS))))
+    return [[numbers[first + i] for i in range(length)] for first, length in counted]
 
 
 def outcome(log, changes):
@@ -131,9 +132,10 @@ def velocity(kind, N):
 def main():
     """Write both files."""
     cases = [*class_cases(), *count_cases(), *thickness_cases(), *layer_cases(), *pair_cases()]
-    lines = ['{} of {} cm at {} dm/s; '.format(*log) + ''.join(said(*change) for change in changes) + outcome(log, changes)
-             for log, changes in cases]
-    lines += [f'kind {kind}, N {N}: {velocity(kind, N)}' for kind in (soil.COHESIVE, soil.COHESIONLESS) for N in range(52)]
+    lines = ['{} of {} cm at {} dm/s; '.format(*log) + ''.join(said(*change) for change in changes)
+             + outcome(log, changes) for log, changes in cases]
+    lines += [f'kind {kind}, N {N}: {velocity(kind, N)}'
+              for kind in (soil.COHESIVE, soil.COHESIONLESS) for N in range(52)]
     (HERE / 'stdout').write_text(''.join(line + '\n' for line in lines))
     flat = [n for log, changes in cases for n in (*log, *itertools.chain(*(changes + 3 * [(NONE, 0)])[:3]))]
     table = textwrap.fill(', '.join(map(str, flat)) + ',', 96, initial_indent='    ', subsequent_indent='    ')

@@ -94,7 +94,8 @@ fn say_refusal(r: Refusal) {
     io::write_all(STDOUT_FILENO, b"\n");
 }
 
-// One row of cases: a plain log by its layers, their thickness and velocity; up to three changes, each a field and its value.
+// One row of cases: a plain log by its layers, their thickness and velocity; up to three changes, each a field and its
+// value.
 fn row(cases: &[u64], at: usize)
     requires { ⌜ at + 9 ≤ length (now cases) ⌝ }
 {

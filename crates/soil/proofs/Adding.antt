@@ -4,7 +4,7 @@
 -- Assumes nothing.
 use mathlib.Core.Path.{_≡_, refl}
 use mathlib.Core.List.{List, [], _∷_}
-use Prim.Native.Nat.{ℕ, _+_, _*_, _≤_, _<_}
+use Prim.Native.Nat.{ℕ, _+_, _≤_, _<_}
 use native.Mathlib.Nat.{zero-add, add-zero, add-assoc, mul-le-mul-right}
 use native.Mathlib.Numerals.{add-one}
 use native.Mathlib.Omega.{arith}
@@ -29,10 +29,10 @@ pub down-most : (n d : ℕ) → 0 < d → down n d ≤ n
 down-most n d p = omega (arith, mul-le-mul-right (down n d) p, down-law n d p .0)
 
 abbrev pub Small : List ℕ → ℕ → ℕ → Type 0
-Small ds i u = u + 100_000_000 * sum (drop i ds) ≤ 100_000_000 * sum ds
+Small ds i u = u + nsAtUnit (sum (drop i ds)) ≤ nsAtUnit (sum ds)
 
 module _ (round : ℕ → ℕ → ℕ) (most : (n d : ℕ) → 0 < d → round n d ≤ n) where
-  pub added-most : (ds vs : List ℕ) → Positive vs → added round ds vs ≤ 100_000_000 * sum ds
+  pub added-most : (ds vs : List ℕ) → Positive vs → added round ds vs ≤ nsAtUnit (sum ds)
   unfolding added sum
   added-most [] vs p = omega arith
   added-most (d ∷ ds) [] p = omega arith

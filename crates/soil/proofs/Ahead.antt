@@ -1,5 +1,5 @@
 -- Which refusal comes first, and what that is of judgments taken one after the other.
---   Ahead n q m p    m at p comes no later than n at q: a lower number, or the same at no higher layer, place 0 being the last
+--   Ahead n q m p    m at p comes no later than n at q: a lower number, or the same at no higher layer; place 0 comes last
 --   Stops n q o      the outcome o is a refusal that comes no later than n at q
 --   Yields n q o     the outcome o is no refusal, or one that comes no later than n at q
 -- Assumes nothing.
@@ -7,11 +7,11 @@ use mathlib.Core.Path.{_≡_, refl}
 use mathlib.Core.Bool.{Bool, true, false, _&&_}
 use mathlib.Core.Logic.{_⊎_}
 use Prim.Native.Nat.{ℕ, _≤_, _<_}
-use native.Mathlib.Omega.{arith}
 use lib.Dec.{leb}
 use borrow.Author.Tests.{leb-true}
 use Rattle.limits.specs.Outcome.{Outcome, accepted, refused, Done, require, _>>=_, _>>_}
 use Rattle.limits.specs.Ranges.{inRange, within}
+use Rattle.soil.proofs.Passed.{differ}
 
 abbrev pub Ahead : ℕ → ℕ → ℕ → ℕ → Type 0
 Ahead n q m p = (m < n) ⊎ ((m ≡ n) × ((q ≡ 0) ⊎ ((1 ≤ p) × (p ≤ q))))
@@ -52,7 +52,7 @@ module _ (n q : ℕ) where
   require-yields false m p a = a
 
   pub require-stops : (t : Bool) (m p : ℕ) → t ≡ false → Ahead n q m p → Stops n q (require t m p)
-  require-stops true m p e a = absurd (let z : _≡_ {A = ℕ} 0 1 = cc in omega arith)
+  require-stops true m p e a = absurd (differ e)
   require-stops false m p e a = a
 
   pub within-yields : (least most x m p : ℕ) → Ahead n q m p → Yields n q (within least most x m p)

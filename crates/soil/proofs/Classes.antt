@@ -1,8 +1,8 @@
--- 'Hard exactly if 27·U < 3·10⁹; soft exactly if 18·L > 3·10⁹; else normal', over any class limits of which the soft one is not
--- above the hard one.
+-- 'Hard exactly if 27·U < 3·10⁹; soft exactly if 18·L > 3·10⁹; else normal', over any class limits of which the soft one is
+-- not above the hard one.
 -- Assumes nothing.
-use mathlib.Core.Path.{_≡_, refl}
-use Prim.Native.Nat.{ℕ, _*_, _≤_, _<_}
+use mathlib.Core.Path.{_≡_, refl, ap}
+use Prim.Native.Nat.{_*_, _≤_, _<_}
 use native.Mathlib.Nat.{mul-le-mul}
 use native.Mathlib.Omega.{arith}
 use lib.Dec.{ltb}
@@ -44,12 +44,12 @@ module _ (l : ClassLimits) (t : Times) where
       by-test (λ (c : Class). c ≡ Hard → l .hard * t .up < depthTime) (ltb (l .hard * t .up) depthTime) _ _
       (λ e _. ltb-true _ _ e)
       (λ _. by-test (λ (c : Class). c ≡ Hard → l .hard * t .up < depthTime) (ltb depthTime (l .soft * t .down)) _ _
-      (λ _ e. absurd (let z : _≡_ {A = ℕ} 0 1 = cc in omega arith)) (λ _ e. absurd (let z : _≡_ {A = ℕ} 0 1 = cc in omega arith)))
+      (λ _ e. absurd (omega (arith, ap classNumber e))) (λ _ e. absurd (omega (arith, ap classNumber e))))
 
   pub soft-shows : classOf l t ≡ Soft → depthTime < l .soft * t .down
   unfolding classOf
   soft-shows =
       by-test (λ (c : Class). c ≡ Soft → depthTime < l .soft * t .down) (ltb (l .hard * t .up) depthTime) _ _
-      (λ _ e. absurd (let z : _≡_ {A = ℕ} 0 1 = cc in omega arith))
+      (λ _ e. absurd (omega (arith, ap classNumber e)))
       (λ _. by-test (λ (c : Class). c ≡ Soft → depthTime < l .soft * t .down) (ltb depthTime (l .soft * t .down)) _ _
-      (λ e _. ltb-true _ _ e) (λ _ e. absurd (let z : _≡_ {A = ℕ} 0 1 = cc in omega arith)))
+      (λ e _. ltb-true _ _ e) (λ _ e. absurd (omega (arith, ap classNumber e))))

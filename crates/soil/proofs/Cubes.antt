@@ -1,5 +1,5 @@
--- The cube root is the largest whole v with v³ ≤ s³·N, which no other number is, for every scale up to 1000 dm/s and every N up
--- to 50.
+-- The cube root is the largest whole v with v³ ≤ s³·N, which no other number is, for every scale up to 1000 dm/s and every
+-- N up to 50.
 -- Assumes nothing.
 use mathlib.Core.Path.{_≡_, ap, _∙_}
 use Prim.Native.Nat.{ℕ, _*_, _^_, _≤_}

@@ -1,5 +1,5 @@
--- Document 01's figures of velocities; and two logs of three layers of 10 m, measured, that come out normal though their averages
--- are above 270 m/s (270.0000033) and below 180 m/s (179.9999980): their exact times lie within 2 ns of the limits.
+-- Document 01's figures of velocities; and two logs of three layers of 10 m, measured, that come out normal though their
+-- averages are above 270 m/s (270.0000033) and below 180 m/s (179.9999980): their exact times lie within 2 ns of the limits.
 -- Assumes nothing.
 use mathlib.Core.Path.{_≡_, refl}
 use mathlib.Core.List.{List, [], _∷_}

@@ -1,5 +1,5 @@
--- The refusal that is given is the first that applies: 'the lowest number that applies is given, at its lowest place, but 14 at a
--- layer of thickness 0 if there is one'. Accepted data is data to which none applies.
+-- The refusal that is given is the first that applies: 'the lowest number that applies is given, at its lowest place, but
+-- 14 at a layer of thickness 0 if there is one'. Accepted data is data to which none applies.
 -- Assumes nothing.
 use mathlib.Core.Path.{_≡_, refl, subst}
 use mathlib.Core.Bool.{not}

@@ -1,6 +1,6 @@
 -- What judgments that pass, one after the other, show.
 -- Assumes nothing.
-use mathlib.Core.Path.{_≡_, refl}
+use mathlib.Core.Path.{_≡_, refl, sym}
 use mathlib.Core.Bool.{Bool, true, false, _&&_}
 use Prim.Native.Nat.{ℕ, _≤_}
 use native.Mathlib.Omega.{arith}
@@ -12,6 +12,9 @@ use Rattle.limits.specs.Ranges.{inRange, within}
 -- a refusal is no acceptance
 pub never : {A : Type 0} {a : A} {n p : ℕ} → _≡_ {A = Outcome A} (refused n p) (accepted a) → ⊥
 never e = let z : _≡_ {A = ℕ} 0 1 = cc in omega arith
+
+pub differ : true ≡ false → ⊥
+differ e = let z : _≡_ {A = ℕ} 0 1 = cc in omega arith
 
 -- what is accepted is one value
 pub one-value : {A : Type 0} {v w : A} → accepted v ≡ accepted w → v ≡ w
@@ -38,5 +41,5 @@ within-passed least most x n p e = go (leb least x) (leb x most) refl refl (requ
   where
     go : (a b : Bool) → leb least x ≡ a → leb x most ≡ b → (a && b) ≡ true → (least ≤ x) × (x ≤ most)
     go true true ea eb t = (leb-true least x ea, leb-true x most eb)
-    go true false ea eb t = absurd (let z : _≡_ {A = ℕ} 0 1 = cc in omega arith)
-    go false b ea eb t = absurd (let z : _≡_ {A = ℕ} 0 1 = cc in omega arith)
+    go true false ea eb t = absurd (differ (sym t))
+    go false b ea eb t = absurd (differ (sym t))

@@ -21,6 +21,7 @@ use Rattle.soil.specs.Applies.{Allowed, measured, cohesive, cohesionless
 use Rattle.soil.specs.Log.{counted, thick, deep, judgedLog, siteClass}
 use Rattle.soil.specs.Times.{judgedTimes, times}
 use Rattle.soil.specs.Velocity.{measured as measuredAt, byCount, velocity, velocities}
+use Rattle.soil.proofs.Passed.{differ}
 use Rattle.soil.proofs.Sound.{log-sound}
 
 -- a kind and value that miss each range of their kind are not allowed
@@ -52,7 +53,7 @@ module _ (ds ks xs : List ℕ) where
   within-told least most x n p f = require-told _ n p (go (leb least x) (leb x most) refl refl)
     where
       go : (a b : Bool) → leb least x ≡ a → leb x most ≡ b → (a && b) ≡ false → Applies ds ks xs n p
-      go true true ea eb e = absurd (let z : _≡_ {A = ℕ} 0 1 = cc in omega arith)
+      go true true ea eb e = absurd (differ e)
       go true false ea eb e = f (inr (leb-false x most eb))
       go false b ea eb e = f (inl (leb-false least x ea))
 

@@ -1,5 +1,5 @@
--- What rounding the times does to the class of a log whose velocities are vs: hard is above 270 m/s and soft below 180 m/s, from
--- 180 to 270 m/s is normal, and whatever is faster, or slower, by 40 ns is hard, or soft.
+-- What rounding the times does to the class of a log whose velocities are vs: hard is above 270 m/s and soft below 180 m/s,
+-- from 180 to 270 m/s is normal, and whatever is faster, or slower, by 40 ns is hard, or soft.
 -- Assumes nothing.
 use mathlib.Core.Path.{_≡_, ap, _∙_}
 use mathlib.Core.Bool.{not}

@@ -1,4 +1,5 @@
--- The rounded times against the exact one: U is not below it, L not above it, and either is off by less than one ns a layer.
+-- The rounded times against the exact one: U is not below it, L not above it, and either is off by less than one ns a
+-- layer.
 -- Assumes nothing.
 use mathlib.Core.Path.{_≡_}
 use mathlib.Core.List.{List, [], _∷_}

@@ -2,7 +2,7 @@
 -- Assumes nothing.
 use mathlib.Core.Path.{_≡_, sym, subst, _∙_}
 use mathlib.Core.List.{List}
-use Prim.Native.Nat.{ℕ, _*_, _≤_}
+use Prim.Native.Nat.{ℕ, _≤_}
 use lib.ListN.{length}
 use borrow.Author.Tests.{eqb-true}
 use Rattle.whole.specs.Cells.{sum}
@@ -14,7 +14,7 @@ use Rattle.soil.specs.declared.class.ClassLimits.{ClassLimits}
 use Rattle.soil.specs.declared.times.Times.{Times}
 use Rattle.soil.specs.Class.{classOf}
 use Rattle.soil.specs.Log.{counted, thick, deep, judgedLog, siteClass}
-use Rattle.soil.specs.Times.{times, judgedTimes}
+use Rattle.soil.specs.Times.{nsAtUnit, times, judgedTimes}
 use Rattle.soil.specs.Velocity.{velocities}
 use Rattle.soil.proofs.Adding.{up-most, down-most, added-most}
 use Rattle.soil.proofs.Passed.{one-value, then-passed, bind-passed, require-passed, within-passed}
@@ -47,12 +47,12 @@ log-sound ds k x e =
 
 -- no time is more than its ns at 1 dm/s
 pub times-most : (ds ks xs : List ℕ) (t : Times) → judgedTimes ds ks xs ≡ accepted t
-    → (t .up ≤ 100_000_000 * sum ds) × (t .down ≤ 100_000_000 * sum ds)
+    → (t .up ≤ nsAtUnit (sum ds)) × (t .down ≤ nsAtUnit (sum ds))
 unfolding judgedTimes
 times-most ds ks xs t e =
     let a = bind-passed (velocities 1 ks xs) _ e in
     let p = velocities-positive 1 ks xs (a .0) (a .1) in
-    subst (λ (t : Times). (t .up ≤ 100_000_000 * sum ds) × (t .down ≤ 100_000_000 * sum ds)) (one-value (a .2))
+    subst (λ (t : Times). (t .up ≤ nsAtUnit (sum ds)) × (t .down ≤ nsAtUnit (sum ds))) (one-value (a .2))
     (added-most up up-most ds (a .0) p, added-most down down-most ds (a .0) p)
 
 -- ---- the class of a log with velocities vs

@@ -1,5 +1,6 @@
--- No second answer meets the contract of a function of this crate: `Answers` leaves one, and so do the contracts inside. Those of
--- `table_3` and `class_of` say 'the result is what the definition gives', and leave one by `determined` of `whole`.
+-- No second answer meets the contract of a function of this crate: `Answers` leaves one, and so do the contracts inside.
+-- Those of `table_3` and `class_of` say 'the result is what the definition gives', and leave one by `determined` of `whole`;
+-- those that answer by a verdict leave one by `verdict-unique` of `limits`.
 -- Assumes nothing.
 use mathlib.Core.Path.{_≡_, refl}
 use mathlib.Core.List.{List}

@@ -1,5 +1,5 @@
--- When each refusal of a log applies: 'What comes back when data is bad', of thicknesses ds, kinds ks and values xs. The i-th layer,
--- from 0, has place 1 + i.
+-- When each refusal of a log applies: 'What comes back when data is bad', of thicknesses ds, kinds ks and values xs.
+-- The i-th layer, from 0, has place 1 + i.
 --   UnequalLists ds ks xs    2: lists of unequal length
 --   NoLayerOrOver40 ds       13: no layer, or over 40
 --   ThicknessZero ds i       14: layer of thickness 0

@@ -3,9 +3,13 @@
 --   added round ds vs      the times of layers of thicknesses ds and velocities vs, each rounded, added up
 --   times ds vs            U, of the times each rounded up, and L, of the times each rounded down
 --   judgedTimes ds ks xs   the same of kinds ks and values xs, or 15
+--   Matched ds ks xs       a kind and a value for each thickness, and no more than 3,000 cm
 --   timesOutcome a         what the code's answer a says
+use mathlib.Core.Path.{_≡_}
 use mathlib.Core.List.{List, [], _∷_}
-use Prim.Native.Nat.{ℕ, _+_, _*_}
+use Prim.Native.Nat.{ℕ, _+_, _*_, _≤_}
+use lib.ListN.{length}
+use Rattle.whole.specs.Cells.{sum}
 use Rattle.whole.specs.Rounding.{up, down}
 use Rattle.limits.specs.Outcome.{Outcome, accepted, refused, _>>=_}
 use Rattle.soil.specs.declared.times.Times.{Times}
@@ -28,6 +32,11 @@ unfoldable pub judgedTimes : List ℕ → List ℕ → List ℕ → Outcome Time
 judgedTimes ds ks xs = do
   vs ← velocities 1 ks xs
   accepted (times ds vs)
+
+pub record Matched (ds ks xs : List ℕ) : Type 0 where
+  pub kinds : length ks ≡ length ds
+  pub values : length xs ≡ length ds
+  pub depth : sum ds ≤ 3_000
 
 abbrev pub timesOutcome : TimesAnswer → Outcome Times
 timesOutcome (Taken t) = accepted t

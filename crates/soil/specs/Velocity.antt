@@ -2,8 +2,8 @@
 --   cubeRoot s N               the largest whole v with v³ ≤ s³·N (proofs/Cubes.antt)
 --   measured v p               15 at p: v not 500 to 30,000; else v itself
 --   byCount least most s N p   15 at p: N not from least to most; else the cube root
---   velocity kind value p      kind 1 measured; 2 cohesive, N from 2 to 25, by 1000³·N; 3 cohesionless, N from 1 to 50, by 800³·N;
---                              any other kind is 15 at p
+--   velocity kind value p      kind 1: measured; 2: cohesive, N from 2 to 25, v³ ≤ 1000³·N; 3: cohesionless, N from 1 to
+--                              50, v³ ≤ 800³·N; any other kind is 15 at p
 --   velocities p ks xs         of all layers, of kinds ks and values xs; the first layer stands at place p
 --   velocityOutcome a          what the code's answer a says
 use mathlib.Core.List.{List, [], _∷_}

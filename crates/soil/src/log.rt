@@ -42,7 +42,7 @@ pub fn thick(thicknesses: &[u64]) -> Verdict
     Verdict::Passed
 }
 
-// 14: thicknesses that add up to the depth. What would go past it is not added, so no sum wraps.
+// 14: thicknesses that add up to the depth. One that is past what is left of it ends the sum, so that no sum wraps.
 pub fn deep(thicknesses: &[u64]) -> Verdict
     ensures { λ v. ⌜ verdictOutcome v ≡ deep (now (thicknesses .entry)) ⌝ }
 {

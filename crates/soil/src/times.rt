@@ -3,10 +3,7 @@ use crate::velocity::velocity;
 use limits::refusal::Refusal;
 use whole::quotients;
 ghost use mathlib.Core.Path.{_≡_};
-ghost use Prim.Native.Nat.{_≤_};
-ghost use lib.ListN.{length};
-ghost use Rattle.whole.specs.Cells.{sum};
-ghost use Rattle.soil.specs.Times.{judgedTimes, timesOutcome};
+ghost use Rattle.soil.specs.Times.{Matched, judgedTimes, timesOutcome};
 
 // The times of all layers in ns: the sum of those rounded up, U, and of those rounded down, L.
 pub struct Times {
@@ -24,7 +21,7 @@ const NS_AT_UNIT: u64 = 100_000_000;
 
 // 15 at the first layer to which it applies; else U and L.
 pub fn timed(thicknesses: &[u64], kinds: &[u64], values: &[u64]) -> TimesAnswer
-    requires { ⌜ (length (now kinds) ≡ length (now thicknesses)) × (length (now values) ≡ length (now thicknesses)) × (sum (now thicknesses) ≤ 3_000) ⌝ }
+    requires { ⌜ Matched (now thicknesses) (now kinds) (now values) ⌝ }
     ensures { λ a. ⌜ timesOutcome a ≡ judgedTimes (now (thicknesses .entry)) (now (kinds .entry)) (now (values .entry)) ⌝ }
 {
     let mut up = 0;

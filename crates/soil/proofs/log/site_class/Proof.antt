@@ -43,7 +43,7 @@ timed-requires : tie.Need-timed-requires
 timed-requires c κs =
     let a = c .before .before .before .before .before .before .args in
     let s = log-sound (a .thicknesses .now) (length (a .kinds .now)) (length (a .values .now)) (says verdictOutcome (c .before .before .judged-log .ensures) (c .enum-told .given .1)) in
-    (s .kinds, s .values, omega arith)
+    record { kinds = s .kinds; values = s .values; depth = omega arith }
 
 enum-known-t : tie.Need-enum-known-t
 enum-known-t c = search needs
