@@ -72,4 +72,5 @@ module _ (ds ks xs : List ℕ) (i u l : ℕ) where
         (velocities (i + 1 + 1) (drop (i + 1) ks) (drop (i + 1) xs))
     left-next v e =
         let at : drop i ds ≡ getD ds i 0 ∷ drop (i + 1) ds = rw (add-one, drop-cons ds i 0 hd) in
-        rw (velocities-step ks xs (i + 1) i hk hx, e, at) (one-more u l (getD ds i 0) v (drop (i + 1) ds) (velocities (i + 1 + 1) (drop (i + 1) ks) (drop (i + 1) xs)))
+        rw (velocities-step ks xs (i + 1) i hk hx, e, at)
+        (one-more u l (getD ds i 0) v (drop (i + 1) ds) (velocities (i + 1 + 1) (drop (i + 1) ks) (drop (i + 1) xs)))

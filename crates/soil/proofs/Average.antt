@@ -21,7 +21,8 @@ use Rattle.soil.proofs.Speeds.{Positive}
 module _ (ds vs : List ℕ) (p : Positive vs) where
   pub down-up : added down ds vs ≤ added up ds vs
   down-up =
-      le-of-mul-le-mul-right {k = slowness ds vs .den} (omega (arith, down-below ds vs p, up-above ds vs p)) (slowness-sound ds vs p)
+      le-of-mul-le-mul-right {k = slowness ds vs .den} (omega (arith, down-below ds vs p, up-above ds vs p))
+      (slowness-sound ds vs p)
 
   module _ (l : ClassLimits) where
     pub hard-is-faster : classOf l (times ds vs) ≡ Hard → Less (exactTime ds vs) (timeAt (l .hard))
@@ -44,8 +45,10 @@ module _ (ds vs : List ℕ) (p : Positive vs) where
         → classOf l (times ds vs) ≡ Normal
     between-is-normal h k =
         normal-where l (times ds vs)
-        (le-of-mul-le-mul-right {k = slowness ds vs .den} (omega (arith, mul-le-mul-left (l .hard) (up-above ds vs p))) (slowness-sound ds vs p))
-        (le-of-mul-le-mul-right {k = slowness ds vs .den} (omega (arith, mul-le-mul-left (l .soft) (down-below ds vs p))) (slowness-sound ds vs p))
+        (le-of-mul-le-mul-right {k = slowness ds vs .den} (omega (arith, mul-le-mul-left (l .hard) (up-above ds vs p)))
+        (slowness-sound ds vs p))
+        (le-of-mul-le-mul-right {k = slowness ds vs .den} (omega (arith, mul-le-mul-left (l .soft) (down-below ds vs p)))
+        (slowness-sound ds vs p))
 
     -- ---- faster, or slower, by n ns for n layers
     module _ (n : ℕ) (some : 0 < length ds) (few : length ds ≤ n) (same : length vs ≡ length ds) where

@@ -31,7 +31,8 @@ module _ (n q : ℕ) where
   unfolding thick
   thick-yields p [] a = tt
   thick-yields p (e ∷ es) a =
-      both-yield n q (require (not (eqb e 0)) 14 p) (thick (p + 1) es) (require-yields n q (not (eqb e 0)) 14 p (a p)) (thick-yields (p + 1) es a)
+      both-yield n q (require (not (eqb e 0)) 14 p) (thick (p + 1) es)
+      (require-yields n q (not (eqb e 0)) 14 p (a p)) (thick-yields (p + 1) es a)
 
   velocity-yields : (k x p : ℕ) → Ahead n q 15 p → Yields n q (velocity k x p)
   unfolding velocity measuredAt byCount
@@ -45,11 +46,14 @@ module _ (n q : ℕ) where
   unfolding velocity measuredAt byCount
   velocity-stops k x p w a =
       by-test (Stops n q) (eqb k 1) _ _
-      (λ e. first-stops n q (within 500 30_000 x 15 p) _ (within-stops n q 500 30_000 x 15 p (λ r. w (measured (eqb-true k 1 e) (r .0) (r .1))) a))
+      (λ e. first-stops n q (within 500 30_000 x 15 p) _
+      (within-stops n q 500 30_000 x 15 p (λ r. w (measured (eqb-true k 1 e) (r .0) (r .1))) a))
       (λ _. by-test (Stops n q) (eqb k 2) _ _
-      (λ e. first-stops n q (within 2 25 x 15 p) _ (within-stops n q 2 25 x 15 p (λ r. w (cohesive (eqb-true k 2 e) (r .0) (r .1))) a))
+      (λ e. first-stops n q (within 2 25 x 15 p) _
+      (within-stops n q 2 25 x 15 p (λ r. w (cohesive (eqb-true k 2 e) (r .0) (r .1))) a))
       (λ _. by-test (Stops n q) (eqb k 3) _ _
-      (λ e. first-stops n q (within 1 50 x 15 p) _ (within-stops n q 1 50 x 15 p (λ r. w (cohesionless (eqb-true k 3 e) (r .0) (r .1))) a))
+      (λ e. first-stops n q (within 1 50 x 15 p) _
+      (within-stops n q 1 50 x 15 p (λ r. w (cohesionless (eqb-true k 3 e) (r .0) (r .1))) a))
       (λ _. a)))
 
 thick-stops : (q p : ℕ) (es : List ℕ) (j : ℕ) → 1 ≤ p → q ≡ p + j → j < length es → getD es j 0 ≡ 0 → Stops 14 q (thick p es)
@@ -103,7 +107,8 @@ module _ (ds ks xs : List ℕ) where
       first-stops 2 0 (judgedLog ds (length ks) (length xs)) _
       (later-stops 2 0 (paired (length ds) (length ks)) _ (require-yields 2 0 (eqb (length ks) (length ds)) 2 0 (inr (refl, inl refl)))
       (λ e. first-stops 2 0 (paired (length ds) (length xs)) _
-      (require-stops 2 0 (eqb (length xs) (length ds)) 2 0 (ne-eqb _ _ (λ h. f (eqb-true _ _ (require-passed _ 2 0 e), h))) (inr (refl, inl refl)))))
+      (require-stops 2 0 (eqb (length xs) (length ds)) 2 0
+      (ne-eqb _ _ (λ h. f (eqb-true _ _ (require-passed _ 2 0 e), h))) (inr (refl, inl refl)))))
   stops l n q (layers o) =
       first-stops 13 0 (judgedLog ds (length ks) (length xs)) _
       (later-stops 13 0 (paired (length ds) (length ks)) _ (two 13 0 (omega arith) (length ks))
