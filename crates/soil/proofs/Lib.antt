@@ -1,0 +1,16 @@
+pub mod Passed
+pub mod Cubes
+pub mod Speeds
+pub mod Sums
+pub mod Layers
+pub mod Adding
+pub mod Sound
+pub mod Slowness
+pub mod Classes
+pub mod Average
+pub mod Rounded
+pub mod Examples
+pub mod Unique
+pub mod Refusing
+pub mod Ahead
+pub mod Foremost

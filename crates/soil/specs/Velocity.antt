@@ -1,0 +1,48 @@
+-- The velocity of a layer, in dm/s: each kind with its limits. Equations (3.a) and (3.b).
+--   cubeRoot s N               the largest whole v with v³ ≤ s³·N (proofs/Cubes.antt)
+--   measured v p               15 at p: v not 500 to 30,000; else v itself
+--   byCount least most s N p   15 at p: N not from least to most; else the cube root
+--   velocity kind value p      kind 1: measured; 2: cohesive, N from 2 to 25, v³ ≤ 1000³·N; 3: cohesionless, N from 1 to
+--                              50, v³ ≤ 800³·N; any other kind is 15 at p
+--   velocities p ks xs         of all layers, of kinds ks and values xs; the first layer stands at place p
+--   velocityOutcome a          what the code's answer a says
+use mathlib.Core.List.{List, [], _∷_}
+use Prim.Native.Nat.{ℕ, _+_, _*_, _^_}
+use lib.Dec.{leb, eqb}
+use Rattle.whole.specs.Choice.{pick}
+use Rattle.whole.specs.Search.{largest}
+use Rattle.limits.specs.Outcome.{Outcome, accepted, refused, _>>=_, _>>_}
+use Rattle.limits.specs.Ranges.{within}
+use Rattle.soil.specs.declared.velocity.VelocityAnswer.{VelocityAnswer}
+use Rattle.soil.specs.declared.velocity.VelocityAnswer.the-variants.{Taken, Refused}
+
+unfoldable pub cubeRoot : ℕ → ℕ → ℕ
+cubeRoot s N = largest (λ v. leb (v ^ 3) (s ^ 3 * N))
+
+unfoldable pub measured : ℕ → ℕ → Outcome ℕ
+measured v p = do
+  within 500 30_000 v 15 p
+  accepted v
+
+unfoldable pub byCount : ℕ → ℕ → ℕ → ℕ → ℕ → Outcome ℕ
+byCount least most s N p = do
+  within least most N 15 p
+  accepted (cubeRoot s N)
+
+unfoldable pub velocity : ℕ → ℕ → ℕ → Outcome ℕ
+velocity kind value p =
+    pick (eqb kind 1) (measured value p)
+    (pick (eqb kind 2) (byCount 2 25 1_000 value p)
+    (pick (eqb kind 3) (byCount 1 50 800 value p) (refused 15 p)))
+
+unfoldable pub velocities : ℕ → List ℕ → List ℕ → Outcome (List ℕ)
+velocities p [] xs = accepted []
+velocities p (k ∷ ks) [] = accepted []
+velocities p (k ∷ ks) (x ∷ xs) = do
+  v ← velocity k x p
+  vs ← velocities (p + 1) ks xs
+  accepted (v ∷ vs)
+
+abbrev pub velocityOutcome : VelocityAnswer → Outcome ℕ
+velocityOutcome (Taken v) = accepted v
+velocityOutcome (Refused r) = refused (r .number) (r .place)

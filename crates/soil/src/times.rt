@@ -1,0 +1,44 @@
+use crate::velocity::VelocityAnswer;
+use crate::velocity::velocity;
+use limits::refusal::Refusal;
+use whole::quotients;
+ghost use mathlib.Core.Path.{_≡_};
+ghost use Rattle.soil.specs.Times.{Matched, judgedTimes, timesOutcome};
+
+// The times of all layers in ns: the sum of those rounded up, U, and of those rounded down, L.
+pub struct Times {
+    pub up: u64,
+    pub down: u64,
+}
+
+pub enum TimesAnswer {
+    Taken(Times),
+    Refused(Refusal),
+}
+
+// The ns that 1 cm takes at 1 dm/s.
+const NS_AT_UNIT: u64 = 100_000_000;
+
+// 15 at the first layer to which it applies; else U and L.
+pub fn timed(thicknesses: &[u64], kinds: &[u64], values: &[u64]) -> TimesAnswer
+    requires { ⌜ Matched (now thicknesses) (now kinds) (now values) ⌝ }
+    ensures { λ a. ⌜ timesOutcome a ≡ judgedTimes (now (thicknesses .entry)) (now (kinds .entry)) (now (values .entry)) ⌝ }
+{
+    let mut up = 0;
+    let mut down = 0;
+    let mut i = 0;
+    while i < thicknesses.len() {
+        let a = velocity(kinds[i], values[i], i as u64 + 1);
+        let VelocityAnswer::Taken(v) = a else {
+            let VelocityAnswer::Refused(r) = a else {
+                return TimesAnswer::Refused(Refusal::none());
+            };
+            return TimesAnswer::Refused(r);
+        };
+        let ns = NS_AT_UNIT * thicknesses[i];
+        up += quotients::up(ns, v);
+        down += quotients::down(ns, v);
+        i += 1;
+    }
+    TimesAnswer::Taken(Times { up, down })
+}
