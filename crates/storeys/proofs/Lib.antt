@@ -1,0 +1,3 @@
+pub mod Roof
+pub mod Sums
+pub mod Telescope
