@@ -1,1 +1,3 @@
 // The storeys: roof force, shears, forces, overturning.
+pub mod roof_force;
+pub mod weight_height;
