@@ -1,3 +1,4 @@
 pub mod Roof
 pub mod Sums
 pub mod Telescope
+pub mod Turning

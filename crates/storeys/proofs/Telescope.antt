@@ -14,6 +14,7 @@ use Rattle.whole.specs.Cells.{cells, sum}
 use Rattle.whole.specs.Rounding.{up}
 use Rattle.whole.proofs.Cells.{cells-length, cells-at, cells-past, past-end, sum-cells-more}
 use Rattle.whole.proofs.Rounding.{up-exact, up-mono, up-most}
+use Rattle.storeys.specs.Reach.{Falling}
 use Rattle.storeys.specs.Storeys.{roofForce, weightHeight, shearUnder, shears, force, forces}
 use Rattle.storeys.proofs.Roof.{roof-most}
 use Rattle.storeys.proofs.Sums.{part-sum, sum-falls}
@@ -46,10 +47,6 @@ shear-most T v ws hs x p h =
     omega (arith, up-most (r * a) P r p (omega (arith, mul-le-mul-left r (part-sum ws hs x))), roof-most T v h)
 
 -- ---- the forces
--- no entry is above the one before it; past the last entry there are zeros
-abbrev pub Falling : List ℕ → Type 0
-Falling us = (x : ℕ) → getD us (x + 1) 0 ≤ getD us x 0
-
 pub shears-fall : (T v : ℕ) (ws hs : List ℕ) → 0 < weightHeight ws hs → Falling (shears T v ws hs)
 shears-fall T v ws hs p x = go (leb (length ws) (x + 1)) refl
   where
