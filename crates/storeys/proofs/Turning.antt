@@ -1,6 +1,6 @@
 -- Forces times heights above a bottom, level by level; how large they are together, and that no height lies below the bottom.
 -- Assumes nothing.
-use mathlib.Core.Path.{_≡_, refl, ap₂, subst, _∙_}
+use mathlib.Core.Path.{_≡_, refl, ap, ap₂, subst, _∙_}
 use mathlib.Core.List.{List, [], _∷_}
 use Prim.Native.Nat.{ℕ, zero, suc, _+_, _*_, _-_, _≤_, _<_}
 use native.Mathlib.Nat.{le-refl, mul-le-mul-left, mul-le-mul-right}
@@ -40,6 +40,10 @@ unfolding sum
 sum-part l zero = le-refl (sum l)
 sum-part [] (suc x) = le-refl 0
 sum-part (a ∷ l) (suc x) = omega (arith, sum-part l x)
+
+pub bottom-at : (hs : List ℕ) (x : ℕ) → 0 < x → getD hs (x - 1) 0 ≡ bottom hs x
+bottom-at hs zero p = absurd (let b : ⊥ = omega arith in b)
+bottom-at hs (suc x) p = let e : suc x - 1 ≡ x = omega arith in ap (λ (n : ℕ). getD hs n 0) e
 
 -- ---- no level from x upward lies below the bottom of storey x
 rises : (hs : List ℕ) → Rising hs → (x k : ℕ) → x + k < length hs → getD hs x 0 ≤ getD hs (x + k) 0

@@ -1,4 +1,6 @@
 // The storeys: roof force, shears, forces, overturning.
+pub mod level_force;
+pub mod overturning;
 pub mod roof_force;
 pub mod shear;
 pub mod weight_height;
