@@ -9,7 +9,7 @@ use native.Mathlib.Numerals.{add-one}
 use native.Mathlib.Omega.{arith}
 use lib.ListN.{length, getD, set, take, drop, length-append, length-drop, length-set, take-append-drop}
 use lib.Dec.{leb}
-use lib.Seq.{take-all, take-suc-set, drop-set-lt, drop-drop}
+use lib.Seq.{take-at, take-all, take-suc-set, drop-set-lt, drop-drop}
 use borrow.Author.Tests.{leb-true, leb-false}
 use Rattle.whole.specs.Cells.{cells, sum, laid}
 
@@ -98,3 +98,7 @@ filling-all {f} {old} {held} {i} n r e =
     sym (take-append-drop i held) ∙ ap₂ (λ (p q : List ℕ). p ++ q) (r .done) (r .kept)
     ∙ ap (λ (k : ℕ). cells f k ++ drop k old) e
     ∙ ap (λ (k : ℕ). cells f n ++ drop k old) (sym (cells-length f n))
+
+-- the first cells, handed on as a part, are what was laid there
+pub laid-part : (l old : List ℕ) (n : ℕ) → length l ≡ n → take n (laid l old) ≡ l
+laid-part l old n e = take-at l (drop (length l) old) n e
