@@ -6,6 +6,7 @@
 --   Above b fs hs   as many heights as forces, no height below b, and moments about b that fit
 --   Rising hs       no height is below the one before it
 --   Turning fs hs   as many heights as forces; heights that rise to at most 2,000 dm; forces of 1,400,000,000 N in all
+--   Standing ws hs  levels, at least one, whose P is above 0 and whose heights rise to at most 2,000 dm
 use mathlib.Core.Path.{_≡_}
 use mathlib.Core.List.{List}
 use Prim.Native.Nat.{ℕ, _+_, _*_, _≤_, _<_}
@@ -37,3 +38,10 @@ pub record Turning (fs hs : List ℕ) : Type 0 where
   pub rising : Rising hs
   pub tall : (x : ℕ) → x < length hs → getD hs x 0 ≤ 2_000
   pub borne : sum fs ≤ 1_400_000_000
+
+pub record Standing (ws hs : List ℕ) : Type 0 where
+  pub levels : Levels ws hs
+  pub some : 0 < length ws
+  pub positive : 0 < weightHeight ws hs
+  pub rising : Rising hs
+  pub tall : (x : ℕ) → x < length hs → getD hs x 0 ≤ 2_000

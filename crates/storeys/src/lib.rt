@@ -3,4 +3,5 @@ pub mod level_force;
 pub mod overturning;
 pub mod roof_force;
 pub mod shear;
+pub mod storey;
 pub mod weight_height;
