@@ -1,2 +1,3 @@
 pub mod Storeys
 pub mod Exact
+pub mod Reach

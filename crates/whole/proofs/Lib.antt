@@ -9,4 +9,5 @@ pub mod Floor
 pub mod Stands
 pub mod Line
 pub mod Range
+pub mod Cells
 pub mod Unique
