@@ -12,7 +12,7 @@ use lib.ListN.{length, getD, drop}
 use borrow.Author.Tests.{leb-true, leb-false}
 use Rattle.whole.specs.Cells.{cells, sum}
 use Rattle.whole.specs.Rounding.{up}
-use Rattle.whole.proofs.Cells.{cells-length, cells-at, cells-past, past-end, sum-cells-more}
+use Rattle.whole.proofs.Cells.{cells-at, cells-past, past-end, sum-cells-more}
 use Rattle.whole.proofs.Rounding.{up-exact, up-mono, up-most}
 use Rattle.storeys.specs.Reach.{Falling}
 use Rattle.storeys.specs.Storeys.{roofForce, weightHeight, shearUnder, shears, force, forces}

@@ -1,6 +1,5 @@
 -- `storeys::level_force::fill_forces` meets its contract: cell after cell, and the rest untouched. Assumes nothing.
 use borrow.Author.Needs.{needs}
-use mathlib.Core.Path.{_≡_}
 use Prim.Native.Nat.{_-_, _≤_}
 use native.Mathlib.Omega.{arith}
 use lib.ListN.{length}

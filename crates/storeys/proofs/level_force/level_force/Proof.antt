@@ -1,7 +1,6 @@
 -- `storeys::level_force::level_force` meets its contract: above the roof there is no shear. Assumes nothing.
 use borrow.Author.Needs.{needs}
-use mathlib.Core.Path.{_≡_}
-use Prim.Native.Nat.{_+_, _≤_}
+use Prim.Native.Nat.{_+_}
 use native.Mathlib.Omega.{arith}
 use Rattle.whole.proofs.Cells.{past-end}
 use Rattle.storeys.proofs.level_force.level_force.Statement.{statement}

@@ -8,7 +8,7 @@ use lib.ListN.{drop}
 use Rattle.storeys.proofs.Roof.{roof-most}
 use Rattle.storeys.proofs.Sums.{part-sum, levels-from}
 use Rattle.storeys.proofs.Telescope.{shear-most}
-use Rattle.storeys.specs.Storeys.{roofForce, weightHeight, shearUnder}
+use Rattle.storeys.specs.Storeys.{roofForce, weightHeight}
 use Rattle.whole.proofs.Cells.{part-tail}
 use Rattle.whole.specs.Rounding.{up}
 use Rattle.storeys.proofs.shear.shear_under.Statement.{statement}
