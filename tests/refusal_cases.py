@@ -4,7 +4,6 @@ usage: python3 tests/refusal_cases.py        rewrites crates/refusals/src/cases.
 """
 
 import pathlib
-import textwrap
 
 from model import limits
 
@@ -21,17 +20,19 @@ GOOD = {**dict(enumerate((80, 45, 100, 55, 100, 100, 1, 2, 1000, 480, 100, 150, 
 def both_sides(allowed):
     """Each end of each run of allowed numbers, and the number beyond it."""
     values = {value + step for value in allowed for step in (-1, 0, 1)}
-    ends = {v for v in values if not {v - 1, v, v + 1} <= set(allowed) and not set(allowed).isdisjoint({v - 1, v, v + 1})}
-    return sorted(v for v in ends if v >= 0) + [MOST]
+    near = {value: {value - 1, value, value + 1} for value in values}
+    ends = {value for value in values if not near[value] <= set(allowed) and not near[value].isdisjoint(allowed)}
+    return sorted(value for value in ends if value >= 0) + [MOST]
 
 
 def number_cases():
     """Both sides of every limit of the site and frame lines."""
-    ranges = zip(NAMES, (limits.S_S_DESIGN, limits.S_1_DESIGN, limits.S_S_MCE, limits.S_1_MCE, limits.N_A, limits.N_V,
-                         limits.CLASS, limits.KIND, limits.CALCULATED_PERIOD, limits.R_RANGE, limits.I_VALUES,
-                         limits.ALPHA_Y))
+    ranges = zip(NAMES, (limits.S_S_DESIGN, limits.S_1_DESIGN, limits.S_S_MCE, limits.S_1_MCE, limits.N_A,
+                         limits.N_V, limits.CLASS, limits.KIND, limits.CALCULATED_PERIOD, limits.R_RANGE,
+                         limits.I_VALUES, limits.ALPHA_Y))
     for name, allowed in ranges:
         yield from ([(FIELD[name], value)] for value in both_sides(allowed))
+    yield from ([(FIELD['period'], value)] for value in (1, 2))
 
 
 def levels(count):
@@ -96,7 +97,7 @@ def main():
     (HERE / 'stdout').write_text(''.join(
         ''.join(said(*change) for change in changes) + outcome(changes) + '\n' for changes in cases))
     flat = [n for changes in cases for change in (changes + 4 * [(NONE, 0)])[:4] for n in change]
-    table = textwrap.fill(', '.join(map(str, flat)) + ',', 96, initial_indent='    ', subsequent_indent='    ')
+    table = '\n'.join(f'    {number},' for number in flat)
     (HERE / 'src' / 'cases.rt').write_text(
         '// The cases, as tests/refusal_cases.py writes them: eight numbers a row, up to four changes, each a field and its\n'
         f'// value.\npub const CASES: [u64; {len(flat)}] = [\n{table}\n];\n')

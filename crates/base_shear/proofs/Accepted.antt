@@ -112,7 +112,7 @@ shearing site f h a b lo hi =
     let T = periodOf (f .kind) (f .calculated) h in
     record {
       unit = millionths;
-      hundreds = refl;
+      ten-thousands = refl;
       lines = record { first = omega arith; second = omega arith; slope = omega arith; add = omega arith; last = omega arith };
       design =
           record {

@@ -1,3 +1,4 @@
 pub mod Literal
 pub mod Within
 pub mod Accepted
+pub mod Largest

@@ -13,7 +13,7 @@ pub record Ready (s : ℕ) (h : Hazard) (t : ℕ) : Type 0 where
 
 pub record Shearing (s : ℕ) (k : Hazards) (t : ℕ) : Type 0 where
   pub unit : Unit s
-  pub hundreds : s / 10_000 * 10_000 ≡ s
+  pub ten-thousands : s / 10_000 * 10_000 ≡ s
   pub lines : Thousandths (k .lines)
   pub design : Ready s (k .design) t
   pub mce : Ready s (k .mce) t

@@ -3,3 +3,4 @@ pub mod Stages
 pub mod Lists
 pub mod Unique
 pub mod Accepted
+pub mod Reading

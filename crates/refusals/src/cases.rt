@@ -1,6 +1,6 @@
 // The cases, as tests/refusal_cases.py writes them: eight numbers a row, up to four changes, each a field and its
 // value.
-pub const CASES: [u64; 2616] = [
+pub const CASES: [u64; 2632] = [
     0,
     49,
     999,
@@ -763,6 +763,22 @@ pub const CASES: [u64; 2616] = [
     0,
     11,
     18446744073709551615,
+    999,
+    0,
+    999,
+    0,
+    999,
+    0,
+    8,
+    1,
+    999,
+    0,
+    999,
+    0,
+    999,
+    0,
+    8,
+    2,
     999,
     0,
     999,

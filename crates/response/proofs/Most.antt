@@ -31,26 +31,28 @@ spectrum-positive A B T pb =
     let pt : 0 < T = left-positive T A (T * A) refl (omega arith) in
     by-leb (λ (z : Fraction). 0 < z .den) (T * (10 * A)) (25 * (1000 * B) * 1) _ _ (λ _. omega arith) (λ _. omega arith)))
 
-pub spectrum-small : (A B T : ℕ) → A ≤ 200_000_000 → exactSpectrum A B T .num ≤ 2 * exactSpectrum A B T .den
+-- A of at most n/d g gives a spectrum of at most n/d g
+pub spectrum-within : (n d A B T : ℕ) → A * d ≤ n * 100_000_000 → exactSpectrum A B T .num * d ≤ n * exactSpectrum A B T .den
 unfolding exactSpectrum
-spectrum-small A B T h =
-    by-leb (λ (z : Fraction). z .num ≤ 2 * z .den) (T * (10 * A)) (2 * (1000 * B) * 1) _ _
+spectrum-within n d A B T h =
+    by-leb (λ (z : Fraction). z .num * d ≤ n * z .den) (T * (10 * A)) (2 * (1000 * B) * 1) _ _
     (λ a.
     let g : 4 * (1 * (1000 * B)) + 3 * T * A * 10 ≤ 10 * (1 * (1000 * B)) = omega arith in
-    omega (arith, mul-le-mul-left A g, mul-le-mul-right (10 * (1 * (1000 * B))) h))
+    omega (arith, mul-le-mul-left (A * d) g, mul-le-mul-right (10 * (1 * (1000 * B))) h))
     (λ _.
-    by-leb (λ (z : Fraction). z .num ≤ 2 * z .den) (T * A) (1000 * B * 1) _ _ (λ _. omega arith)
+    by-leb (λ (z : Fraction). z .num * d ≤ n * z .den) (T * A) (1000 * B * 1) _ _ (λ _. h)
     (λ a.
-    by-leb (λ (z : Fraction). z .num ≤ 2 * z .den) (T * (10 * A)) (25 * (1000 * B) * 1) _ _
-    (λ _. omega (arith, mul-le-mul-right T h))
-    (λ _. omega arith)))
+    let past : 1000 * B ≤ T * A = omega arith in
+    by-leb (λ (z : Fraction). z .num * d ≤ n * z .den) (T * (10 * A)) (25 * (1000 * B) * 1) _ _
+    (λ _. omega (arith, mul-le-mul-right T h, mul-le-mul-right d past))
+    (λ _. omega (arith, h))))
 
 pub spectrum-most : (s A B T : ℕ) → 0 < B → A ≤ 200_000_000 → spectrum s A B T ≤ 2 * s
 unfolding spectrum
 spectrum-most s A B T pb h =
     let x = exactSpectrum A B T in
     up-most (s * x .num) (x .den) (2 * s) (spectrum-positive A B T pb)
-    (omega (arith, mul-le-mul-left s (spectrum-small A B T h)))
+    (omega (arith, mul-le-mul-left s (spectrum-within 2 1 A B T (omega arith))))
 
 -- ---- the factors: a mean of 1, a root from 1 on and a capacity from 1 on is at least 1
 mean-least : (w : Weights) (r c : Fraction) → r .den ≤ r .num → c .den ≤ c .num → mean w r c .den ≤ mean w r c .num

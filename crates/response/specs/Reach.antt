@@ -1,5 +1,5 @@
 -- What the leaves are made for, wide enough for every unit, profile and curve to come.
---   Unit s           millionths to ten-millionths, a divisor of 10⁸
+--   Unit s           a divisor of 10⁸ up to 10⁷: millionths and ten-millionths among them
 --   Shape a b t      A and B to 2 g, T to 509,000 ms
 --   Thousandths l    lines whose constants are at most 1
 --   Ductile s c ρ    a capacity of 1 to 6 in whole thirds of the unit, a square of 1 to 11, and an upper root not above the capacity

@@ -1,4 +1,4 @@
-// What the calculation goes by: three hazards, and the constants of the shears. Nothing above sees a site.
+// What the shears are worked out from: three hazards and constants, whatever made them.
 use whole::Fraction;
 
 // One hazard: A and B in 10⁻⁸ g, the ductility capacity, and the square of its root.
