@@ -52,7 +52,7 @@ def class_cases():
 
 
 def count_cases():
-    """0, 1, 39, 40 and 41 layers; each list longer or shorter than the others."""
+    """0, 39, 40 and 41 layers; each list longer or shorter than the others."""
     yield plain(0), []
     yield plain(39, thickness=75), [at('thickness', 39, 150)]
     yield plain(40), []

@@ -1,5 +1,6 @@
--- What rounding the times can do to a class: over any class limits, the class is the one of the exact time, but that hard
--- or soft may come out normal where the exact time is within one ns a layer of its limit.
+-- What rounding the times can do to a class, over any class limits above 0 (the soft one not above the hard one, where a theorem
+-- asks for it): the class is the one of the exact time, but that hard or soft may come out normal where the exact time is within
+-- one ns a layer of its limit.
 -- Assumes nothing.
 use mathlib.Core.Path.{_≡_}
 use mathlib.Core.List.{List}
