@@ -1,5 +1,6 @@
 -- The job: one building, one horizontal direction. Weights ws in kN and heights hs in dm, lowest level first.
 --   Results                    V, V_M, V*, V_D and T; per level, lowest first, force, shear and overturning
+--   resultsAt n ws hs          those of five figures: the storeys at V_D and T
 --   resultsOf g ws hs          those of a judged site and frame: W is the sum of the weights, h the last height
 --   jobOf s f ws hs room       the results, or the first refusal; room is the length of the shortest result buffer
 --   figuresOnly o              what is left of an outcome without the levels
@@ -31,11 +32,13 @@ pub record Results : Type 0 where
   pub shears : List ℕ
   pub overturnings : List ℕ
 
-unfoldable pub resultsOf : Given → List ℕ → List ℕ → Results
-resultsOf g ws hs =
-    let n = figuresOf (g .site) (g .frame) (sum ws) (topHeight hs) in
+abbrev pub resultsAt : Figures → List ℕ → List ℕ → Results
+resultsAt n ws hs =
     let us = shears (n .t) (n .vd) ws hs in
     record { figures = n; forces = forces us; shears = us; overturnings = overturnings (forces us) hs }
+
+abbrev pub resultsOf : Given → List ℕ → List ℕ → Results
+resultsOf g ws hs = resultsAt (figuresOf (g .site) (g .frame) (sum ws) (topHeight hs)) ws hs
 
 unfoldable pub jobOf : SiteValues → FrameValues → List ℕ → List ℕ → ℕ → Outcome Results
 jobOf s f ws hs room = do

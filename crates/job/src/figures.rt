@@ -53,12 +53,7 @@ pub fn given_figures(given: Given, weights: &[u64], heights: &[u64]) -> Figures
 }
 
 // Those of unjudged values, with no buffer to write to.
-pub fn figures(
-    site: SiteValues,
-    frame: FrameValues,
-    weights: &[u64],
-    heights: &[u64],
-) -> JobAnswer
+pub fn figures(site: SiteValues, frame: FrameValues, weights: &[u64], heights: &[u64]) -> JobAnswer
     ensures { λ a. ⌜ Figured site frame (now (weights .entry)) (now (heights .entry)) a ⌝ }
 {
     let g = judged(site, frame, weights, heights, weights.len());

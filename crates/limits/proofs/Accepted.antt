@@ -132,15 +132,17 @@ levels-allowed ws hs room e =
     let cells = then-passed (roomy (length ws) room) _ (pair .1) in
     let weights = then-passed (weighed 1 ws) (raised 0 1 hs) (cells .1) in
     let n = within-passed 1 50 (length ws) 1 0 (count .0) in
-    let up = heights-allowed 0 1 hs (weights .1) in
-    (record {
-      same = eqb-true (length hs) (length ws) (require-passed (eqb (length hs) (length ws)) 2 0 (pair .0));
-      some = n .0;
-      few = n .1;
-      weights = weights-allowed 1 ws (weights .0);
-      heights = λ x h. (up x h .0, up x h .1);
-      rising = λ x h. rw (add-one x) (up (suc x) (omega arith) .2);
-    }, leb-true (length ws) room (require-passed (leb (length ws) room) 2 0 (cells .0)))
+    let up = heights-allowed 0 1 hs (weights .1) in (
+      record {
+        same = eqb-true (length hs) (length ws) (require-passed (eqb (length hs) (length ws)) 2 0 (pair .0));
+        some = n .0;
+        few = n .1;
+        weights = weights-allowed 1 ws (weights .0);
+        heights = λ x h. (up x h .0, up x h .1);
+        rising = λ x h. rw (add-one x) (up (suc x) (omega arith) .2);
+      },
+      leb-true (length ws) room (require-passed (leb (length ws) room) 2 0 (cells .0)),
+    )
 
 -- h, the top height, is the last of the heights
 pub top-last : (hs : List ℕ) → 0 < length hs → topHeight hs ≡ getD hs (length hs - 1) 0
@@ -165,11 +167,13 @@ given-allowed s f ws hs room g e =
     let site = bind-passed (judgedSite s) _ (levels .1) in
     let frame = bind-passed (judgedFrame f) (λ y. accepted (record { site = site .0; frame = y })) (site .2) in
     let same : record { site = site .0; frame = frame .0 } ≡ g = one-value (frame .2) in
-    let l = levels-allowed ws hs room (levels .0) in
-    (subst (λ (x : Given). AllowedGiven x ws hs) same
-    (record {
-      site = site-allowed s (site .0) (site .1);
-      frame = frame-allowed f (frame .0) (frame .1);
-      levels = l .0;
-      top = top-allowed ws hs (l .0);
-    }), l .1)
+    let l = levels-allowed ws hs room (levels .0) in (
+      subst (λ (x : Given). AllowedGiven x ws hs) same
+          (record {
+            site = site-allowed s (site .0) (site .1);
+            frame = frame-allowed f (frame .0) (frame .1);
+            levels = l .0;
+            top = top-allowed ws hs (l .0);
+          }),
+      l .1,
+    )
