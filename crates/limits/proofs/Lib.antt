@@ -9,3 +9,4 @@ pub mod Told
 pub mod Ahead
 pub mod Refusing
 pub mod Foremost
+pub mod Room
