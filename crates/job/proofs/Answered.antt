@@ -12,6 +12,7 @@ use Rattle.limits.specs.Judging.{judgedJob}
 use Rattle.limits.specs.Levels.{topHeight}
 use Rattle.limits.specs.Outcome.{Outcome, accepted, refused, number, place, values}
 use Rattle.limits.proofs.Passed.{never, one-value}
+use Rattle.limits.proofs.Reading.{success, refusal}
 use Rattle.base_shear.specs.declared.Figures.{Figures}
 use Rattle.base_shear.specs.Shears.{figuresOf}
 use Rattle.job.specs.declared.JobAnswer.{JobAnswer}
@@ -69,9 +70,9 @@ five n = n .v ∷ n .vm ∷ n .star ∷ n .vd ∷ n .t ∷ []
 
 pub taken-values : (n : Figures)
     → (number (answerOutcome (Taken n)) ≡ 0) × (place (answerOutcome (Taken n)) ≡ 0) × (values five 5 (answerOutcome (Taken n)) ≡ five n)
-taken-values n = (refl, refl, refl)
+taken-values n = success n five 5
 
 pub refused-values : (r : Refusal)
     → (number (answerOutcome (Refused r)) ≡ r .number) × (place (answerOutcome (Refused r)) ≡ r .place)
     × (values five 5 (answerOutcome (Refused r)) ≡ 0 ∷ 0 ∷ 0 ∷ 0 ∷ 0 ∷ [])
-refused-values r = (refl, refl, refl)
+refused-values r = refusal (r .number) (r .place) five

@@ -7,7 +7,7 @@ use Prim.Native.Nat.{ℕ, _+_, _≤_, _<_}
 use native.Mathlib.Omega.{arith}
 use lib.ListN.{length, take, getD}
 use Rattle.whole.specs.Cells.{sum}
-use Rattle.whole.proofs.Cells.{cells-at}
+use Rattle.whole.proofs.Cells.{cells-at, laid-at}
 use Rattle.limits.specs.declared.frame.FrameValues.{FrameValues}
 use Rattle.limits.specs.declared.site.SiteValues.{SiteValues}
 use Rattle.limits.proofs.Accepted.{given-allowed}
@@ -59,3 +59,10 @@ module _ (s : SiteValues) (f : FrameValues) (ws hs : List ℕ) (b : Buffers) (n 
       let at : getD (forces us) x 0 ≡ force us x = cells-at (force us) (length us) x (omega (arith, shears-cells n ws hs)) in
       let whole = force-whole us x (shears-fall (n .t) (n .vd) ws hs (stands .1 .positive)) in
       rw (w .forces, w .shears) (omega (arith, at, whole))
+
+  -- the cell of level x is the shear under it
+  pub shear-cell : (x : ℕ) → x < length ws → getD (b′ .shears) x 0 ≡ shearUnder (n .t) (n .vd) ws hs x
+  shear-cell x h =
+      ap (λ (c : Buffers). getD (c .shears) x 0) (taken-accepted s f ws hs b n b′ a .cells)
+      ∙ laid-at (shears (n .t) (n .vd) ws hs) (b .shears) x (omega (arith, shears-cells n ws hs))
+      ∙ cells-at (shearUnder (n .t) (n .vd) ws hs) (length ws) x h
