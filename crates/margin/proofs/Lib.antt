@@ -1,0 +1,9 @@
+pub mod Off
+pub mod Root
+pub mod Factor
+pub mod Ratio
+pub mod Bound
+pub mod Base
+pub mod Storey
+pub mod Demand3
+pub mod Allowed
