@@ -7,3 +7,6 @@ pub mod Base
 pub mod Storey
 pub mod Demand3
 pub mod Allowed
+pub mod Moves
+pub mod There
+pub mod Literal

@@ -23,6 +23,23 @@ part t a b = t .num * b + (t .den - t .num) * a
 shared-is : (t : Fraction) (a b : ℕ) (x : Fraction) → Same (shared t a b x) (times x (over (part t a b) (t .den * b)))
 shared-is t a b x = omega arith
 
+module _ (t : Fraction) (a b : ℕ) (pt : 0 < t .den) (pb : 0 < b) where
+  pub shared-positive : (x : Fraction) → 0 < x .den → 0 < shared t a b x .den
+  shared-positive x px = mul-pos (mul-pos pt px) (mul-pos (mul-pos pt px) pb)
+
+  whole-positive : (x : Fraction) → 0 < x .den → 0 < times x (over (part t a b) (t .den * b)) .den
+  whole-positive x px = mul-pos px (mul-pos pt pb)
+
+  -- it rises with x
+  pub shared-rises : (x x′ : Fraction) → 0 < x .den → 0 < x′ .den → AtMost x x′ → AtMost (shared t a b x) (shared t a b x′)
+  shared-rises x x′ px px′ h =
+      let c = over (part t a b) (t .den * b) in
+      let grown : AtMost (times x c) (times x′ c) = omega (arith, mul-le-mul-right (c .num * c .den) h) in
+      at-most-trans (shared t a b x) (times x c) (shared t a b x′) (whole-positive x px)
+      (same-at-most (shared t a b x) (times x c) (shared-is t a b x) .0)
+      (at-most-trans (times x c) (times x′ c) (shared t a b x′) (whole-positive x′ px′) grown
+      (same-at-most (shared t a b x′) (times x′ c) (shared-is t a b x′) .1))
+
 module _ (t : Fraction) (a b v f q : ℕ) (ht : t .num ≤ t .den) (ha : a ≤ b) (fits : f ≤ v) where
   part-most : part t a b ≤ t .den * b
   part-most =
@@ -63,18 +80,12 @@ module _ (t : Fraction) (a b v f q : ℕ) (ht : t .num ≤ t .den) (ha : a ≤ b
       )
 
   module _ (x : Fraction) (pt : 0 < t .den) (pb : 0 < b) (px : 0 < x .den) where
-    pub shared-positive : 0 < shared t a b x .den
-    shared-positive = mul-pos (mul-pos pt px) (mul-pos (mul-pos pt px) pb)
-
-    whole-positive : 0 < times x (over (part t a b) (t .den * b)) .den
-    whole-positive = mul-pos px (mul-pos pt pb)
-
     pub storey-above : t .num * v ≤ t .den * f → (v - f) * a ≤ b * q → AtLeast v x → AtLeast (f + q) (shared t a b x)
     storey-above hf hq h =
         let w = times x (over (part t a b) (t .den * b)) in
         let k : AtLeast (f + q) w =
         omega (arith, mul-le-mul-right (part t a b) h, mul-le-mul-right (x .den) (part-above hf hq)) in
-        at-most-trans (shared t a b x) w (over (f + q) 1) whole-positive
+        at-most-trans (shared t a b x) w (over (f + q) 1) (whole-positive t a b pt pb x px)
         (same-at-most (shared t a b x) w (shared-is t a b x) .0)
         k
 
@@ -93,6 +104,6 @@ module _ (t : Fraction) (a b v f q : ℕ) (ht : t .num ≤ t .den) (ha : a ≤ b
           mul-le-mul-right (part t a b) h′,
           mul-le-mul-right (z .num * x .den) part-most,
         ) in
-        less-by-figure (f + q) w (shared t a b x) (plus z (over 2 1)) shared-positive
+        less-by-figure (f + q) w (shared t a b x) (plus z (over 2 1)) (shared-positive t a b pt pb x px)
         (same-at-most (shared t a b x) w (shared-is t a b x) .1)
         k
