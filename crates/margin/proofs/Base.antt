@@ -1,7 +1,7 @@
 -- V, V_M, V* and V_D beside the exact ones, over any unit, hazards within reach and lines that meet.
 -- Assumes nothing.
 use Prim.Native.Nat.{ℕ, _+_, _*_, _≤_, _<_}
-use native.Mathlib.Nat.{mul-le-mul, mul-pos, lt-of-lt-of-le}
+use native.Mathlib.Nat.{mul-le-mul, mul-pos, lt-of-lt-of-le, le-refl}
 use native.Mathlib.Omega.{arith}
 use Rattle.whole.specs.declared.Fraction.{Fraction}
 use Rattle.whole.specs.Fraction.{over, AtMost}
@@ -17,7 +17,7 @@ use Rattle.response.proofs.Most.{spectrum-positive, spectrum-within, lower-fact
 use Rattle.base_shear.specs.Exact.{Roots, exactNewtons, exactShear, exactStar, exactBase}
 use Rattle.base_shear.specs.Ready.{Ready, Shearing}
 use Rattle.base_shear.specs.Shears.{shear, star, base}
-use Rattle.margin.specs.Demand3.{Number, AtLeast, LessBy, allowed}
+use Rattle.margin.specs.Demand3.{Number, AtLeast, LessBy}
 use Rattle.margin.specs.Roots.{High, Low, Lowering, Raising}
 use Rattle.margin.proofs.Bound.{marginOf, newtons-above, newtons-over, less-by-margin, margin-positive, margin-grows, larger-at-least, larger-less-by}
 use Rattle.margin.proofs.Factor.{factorAt, lowerAt, upperAt, factor-positive, factor-least, lower-below, upper-above, lower-short, upper-over}
@@ -152,17 +152,20 @@ module _ (s : ℕ) (k : Hazards) (T : ℕ) (g : Shearing s k T) (m : Meeting (k 
     pub raising-sound : Raising k r → Number (exactBase k f W T r)
     raising-sound w = base-sound (w .v .sound) (w .v .one) (w .vm .sound) (w .vm .one) (w .star .sound)
 
-    pub base-over : k .divisor ≤ k .stardivisor → Raising k r → LessBy (base s k f W T) (exactBase k f W T r) (allowed s k f W)
+    -- less than six s-ths and a newton, of I·W/(1.4·alpha-y)
+    pub base-over : (e : ℕ) → 6 ≤ e → k .divisor ≤ k .stardivisor → Raising k r
+        → LessBy (base s k f W T) (exactBase k f W T r) (marginOf e s (k .divisor) f W)
     unfolding base
-    base-over more w =
+    base-over e six more w =
+        let z = marginOf e s (k .divisor) f W in
+        let pz = margin-positive e s (k .divisor) f W (g .unit .positive) (g .divisor .0) pa in
         let sv = shear-sound (k .design) (g .design) (r .v) (w .v .sound) (w .v .one) in
         let sm = shear-sound (k .mce) (g .mce) (r .vm) (w .vm .sound) (w .vm .one) in
         let ss = star-sound (r .star) (w .star .sound) in
-        larger-less-by _ _ _ _ (allowed s k f W) (larger-positive _ _ sv sm) ss
-        (larger-less-by _ _ _ _ (allowed s k f W) sv sm
-        (shear-over (k .design) (g .design) (r .v) (w .v))
-        (shear-over (k .mce) (g .mce) (r .vm) (w .vm)))
-        (less-by-margin (star s k f W T) (exactStar k f W T (r .star)) (marginOf 3 s (k .stardivisor) f W) (allowed s k f W)
-        (margin-positive 6 s (k .divisor) f W (g .unit .positive) (g .divisor .0) pa)
-        (margin-grows 3 6 s (k .divisor) (k .stardivisor) f W (omega arith) more)
-        (star-over (r .star) (w .star)))
+        let of-shear = margin-grows 6 e s (k .divisor) (k .divisor) f W six (le-refl (k .divisor)) in
+        let of-star = margin-grows 3 e s (k .divisor) (k .stardivisor) f W (omega arith) more in
+        larger-less-by _ _ _ _ z (larger-positive _ _ sv sm) ss
+        (larger-less-by _ _ _ _ z sv sm
+        (less-by-margin _ _ _ z pz of-shear (shear-over (k .design) (g .design) (r .v) (w .v)))
+        (less-by-margin _ _ _ z pz of-shear (shear-over (k .mce) (g .mce) (r .vm) (w .vm))))
+        (less-by-margin _ _ _ z pz of-star (star-over (r .star) (w .star)))

@@ -8,6 +8,7 @@ use native.Mathlib.Omega.{arith}
 use Rattle.whole.specs.declared.Fraction.{Fraction}
 use Rattle.whole.specs.Fraction.{over, plus, times, larger, AtMost, Less}
 use Rattle.whole.proofs.Choice.{by-leb}
+use Rattle.whole.proofs.Order.{at-most-trans}
 use Rattle.whole.proofs.Rounding.{up-law}
 use Rattle.limits.specs.declared.frame.Frame.{Frame}
 use Rattle.base_shear.specs.Exact.{exactNewtons}
@@ -89,3 +90,10 @@ larger-less-by v w x y z px py h k =
     by-leb (λ (u : Fraction). LessBy (max v w) u z) (x .num * y .den) (y .num * x .den) y x
     (λ a. max-less-by v w y z (less-by-figure v x y z py a h) k)
     (λ a. max-less-by v w x z h (less-by-figure w y x z px (omega arith) k))
+
+-- ---- whole numbers at or below the exact figure, and at or above it with its margin
+pub at-least-number : (v n : ℕ) (x : Fraction) → 0 < x .den → AtLeast v x → AtMost (over n 1) x → n ≤ v
+at-least-number v n x p h k = let t = at-most-trans (over n 1) x (over v 1) p k h in omega arith
+
+pub below-number : (v n : ℕ) (x y : Fraction) → LessBy v x y → AtMost (plus x y) (over n 1) → v < n
+below-number v n x y h k = lt-of-mul-lt-mul-right (plus x y .den) (omega (arith, h, k))

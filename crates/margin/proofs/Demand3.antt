@@ -42,7 +42,7 @@ module _ (s : ℕ) (k : Hazards) (f : Frame) (ws hs : List ℕ) (T : ℕ) where
       let high = raising-sound s k T g m f pa W in
       record {
         never-below = λ r w. (low r w, base-above s k T g m f pa W r w);
-        close = λ r w. (high r w, base-over s k T g m f pa W r more w);
+        close = λ r w. (high r w, base-over s k T g m f pa W r _ (omega arith) more w);
         storey-never-below =
             λ x _ r w. (
               shared-positive t (Px x) P pt p (exactBase k f W T r) (low r w),
@@ -53,7 +53,7 @@ module _ (s : ℕ) (k : Hazards) (f : Frame) (ws hs : List ℕ) (T : ℕ) where
             λ x _ r w. (
               shared-positive t (Px x) P pt p (exactBase k f W T r) (high r w),
               storey-over t (Px x) P v ft (quotient x) roof (part-sum ws hs x) fits (exactBase k f W T r) pt p (high r w)
-                  (allowed s k f W) (margin-positive 6 s (k .divisor) f W (g .unit .positive) (g .divisor .0) pa)
-                  (force .1) (up-law ((v - ft) * Px x) P p .1) (base-over s k T g m f pa W r more w),
+                  (allowed s k f W) _ (margin-positive 6 s (k .divisor) f W (g .unit .positive) (g .divisor .0) pa) (omega arith)
+                  (force .1) (up-law ((v - ft) * Px x) P p .1) (base-over s k T g m f pa W r _ (omega arith) more w),
             );
       }

@@ -10,3 +10,4 @@ pub mod Allowed
 pub mod Moves
 pub mod There
 pub mod Literal
+pub mod Wrong

@@ -89,21 +89,22 @@ module _ (t : Fraction) (a b v f q : ℕ) (ht : t .num ≤ t .den) (ha : a ≤ b
         (same-at-most (shared t a b x) w (shared-is t a b x) .0)
         k
 
-    pub storey-over : (z : Fraction) → 0 < z .den
+    pub storey-over : (z : Fraction) (e : ℕ) → 0 < z .den → 2 ≤ e
         → t .den * f < t .num * v + t .den
         → b * q < (v - f) * a + b
         → LessBy v x z
-        → LessBy (f + q) (shared t a b x) (plus z (over 2 1))
-    storey-over z pz jf jq h =
+        → LessBy (f + q) (shared t a b x) (plus z (over e 1))
+    storey-over z e pz two jf jq h =
         let w = times x (over (part t a b) (t .den * b)) in
         let h′ : v * (x .den * z .den) ≤ x .num * z .den + z .num * x .den = omega arith in
-        let k : LessBy (f + q) w (plus z (over 2 1)) =
+        let k : LessBy (f + q) w (plus z (over e 1)) =
         omega (
           arith,
           mul-lt-mul-of-pos-right (part-over pt jf jq) (mul-pos px pz),
           mul-le-mul-right (part t a b) h′,
           mul-le-mul-right (z .num * x .den) part-most,
+          mul-le-mul-right (t .den * b * (x .den * z .den)) two,
         ) in
-        less-by-figure (f + q) w (shared t a b x) (plus z (over 2 1)) (shared-positive t a b pt pb x px)
+        less-by-figure (f + q) w (shared t a b x) (plus z (over e 1)) (shared-positive t a b pt pb x px)
         (same-at-most (shared t a b x) w (shared-is t a b x) .1)
         k
