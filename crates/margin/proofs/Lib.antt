@@ -3,6 +3,8 @@ pub mod Root
 pub mod Factor
 pub mod Ratio
 pub mod Bound
+pub mod Job
+pub mod Sharp
 pub mod Base
 pub mod Storey
 pub mod Demand3
