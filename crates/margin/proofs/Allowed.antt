@@ -1,7 +1,7 @@
 -- Demand 3 of every allowed site and frame, in millionths; h is the top height in dm.
 -- Assumes nothing.
 use mathlib.Core.List.{List}
-use Prim.Native.Nat.{ℕ, _*_, _≤_, _<_}
+use Prim.Native.Nat.{ℕ, _≤_, _<_}
 use native.Mathlib.Omega.{arith}
 use Rattle.whole.specs.Cells.{sum}
 use Rattle.limits.specs.Allowed.{AllowedSite, AllowedFrame}
@@ -27,4 +27,5 @@ demand3-allowed site f ws hs h a b lo hi p =
     let T = periodOf (f .kind) (f .calculated) h in
     let t = period-bounds (f .kind) (f .calculated) h lo hi in
     let α = b .alpha in
-    demand3 unit (hazardsOf site (f .r)) f ws hs T (shearing site f h a b lo hi) lines-meet (omega arith) (omega arith) (omega arith) p
+    demand3 unit (hazardsOf site (f .r)) f ws hs T (shearing site f h a b lo hi) lines-meet (omega arith) (omega arith)
+    (omega arith) p

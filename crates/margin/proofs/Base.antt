@@ -1,6 +1,6 @@
 -- V, V_M, V* and V_D beside the exact ones, over any unit, hazards within reach and lines that meet.
 -- Assumes nothing.
-use Prim.Native.Nat.{ℕ, _+_, _*_, _≤_, _<_}
+use Prim.Native.Nat.{ℕ, _*_, _≤_, _<_}
 use native.Mathlib.Nat.{mul-le-mul, mul-pos, lt-of-lt-of-le, le-refl}
 use native.Mathlib.Omega.{arith}
 use Rattle.whole.specs.declared.Fraction.{Fraction}
@@ -14,14 +14,14 @@ use Rattle.response.specs.Ratio.{ratio, modified, blended, exactRatio, exactMod
 use Rattle.response.specs.Spectrum.{exactSpectrum, spectrum}
 use Rattle.response.proofs.Bent.{Meeting}
 use Rattle.response.proofs.Most.{spectrum-positive, spectrum-within, lower-factor-least}
-use Rattle.base_shear.specs.Exact.{Roots, exactNewtons, exactShear, exactStar, exactBase}
+use Rattle.base_shear.specs.Exact.{Roots, exactShear, exactStar, exactBase}
 use Rattle.base_shear.specs.Ready.{Ready, Shearing}
 use Rattle.base_shear.specs.Shears.{shear, star, base}
 use Rattle.margin.specs.Demand3.{Number, AtLeast, LessBy}
 use Rattle.margin.specs.Roots.{High, Low, Lowering, Raising}
 use Rattle.margin.proofs.Bound.{marginOf, newtons-above, newtons-over, less-by-margin, margin-positive, margin-grows, larger-at-least, larger-less-by}
 use Rattle.margin.proofs.Factor.{factorAt, lowerAt, upperAt, factor-positive, factor-least, lower-below, upper-above, lower-short, upper-over}
-use Rattle.margin.proofs.Off.{Over, Short}
+use Rattle.margin.proofs.Off.{Over}
 use Rattle.margin.proofs.Ratio.{ratio-above, ratio-over, modified-above, modified-over, blended-above, blended-over}
 
 abbrev spectrumAt : ℕ → Hazard → ℕ → ℕ

@@ -6,7 +6,7 @@ use native.Mathlib.Nat.{mul-le-mul, mul-le-mul-right, mul-pos, mul-lt-mul-of-pos
 use native.Mathlib.Decide.{decLe}
 use native.Mathlib.Omega.{arith}
 use Rattle.whole.specs.declared.Fraction.{Fraction}
-use Rattle.whole.specs.Fraction.{over, plus, times, larger, AtMost, Less}
+use Rattle.whole.specs.Fraction.{over, plus, times, larger, AtMost}
 use Rattle.whole.proofs.Choice.{by-leb}
 use Rattle.whole.proofs.Order.{at-most-trans}
 use Rattle.whole.proofs.Rounding.{up-law}

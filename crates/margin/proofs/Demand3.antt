@@ -1,24 +1,22 @@
 -- Demand 3 of the printed base and storey shears, over any unit, hazards within reach and lines that meet.
 -- Assumes nothing.
 use mathlib.Core.List.{List}
-use Prim.Native.Nat.{ℕ, _+_, _*_, _-_, _≤_, _<_}
+use Prim.Native.Nat.{ℕ, _*_, _-_, _≤_, _<_}
 use native.Mathlib.Omega.{arith}
-use lib.ListN.{length, drop}
+use lib.ListN.{drop}
 use Rattle.whole.specs.Cells.{sum}
 use Rattle.whole.specs.Rounding.{up}
 use Rattle.whole.proofs.Rounding.{up-law}
 use Rattle.limits.specs.declared.frame.Frame.{Frame}
 use Rattle.site.specs.declared.hazard.Hazards.{Hazards}
 use Rattle.response.proofs.Bent.{Meeting}
-use Rattle.base_shear.specs.Exact.{Roots, exactBase}
+use Rattle.base_shear.specs.Exact.{exactBase}
 use Rattle.base_shear.specs.Ready.{Shearing}
 use Rattle.base_shear.specs.Shears.{base}
-use Rattle.storeys.specs.Exact.{exactShearUnder}
 use Rattle.storeys.specs.Storeys.{roofPart, roofForce, weightHeight, shearUnder}
 use Rattle.storeys.proofs.Roof.{roof-most}
 use Rattle.storeys.proofs.Sums.{part-sum}
-use Rattle.margin.specs.Demand3.{Number, AtLeast, LessBy, allowed, Demand3}
-use Rattle.margin.specs.Roots.{Lowering, Raising}
+use Rattle.margin.specs.Demand3.{allowed, Demand3}
 use Rattle.margin.proofs.Base.{base-above, base-over, lowering-sound, raising-sound}
 use Rattle.margin.proofs.Bound.{margin-positive}
 use Rattle.margin.proofs.Storey.{shared-positive, storey-above, storey-over}

@@ -1,5 +1,5 @@
--- The printed factors beside the exact one: the lower factor is at most it at every high fraction, the upper factor at least it at
--- every low one, and each is off by less than two s-ths at the other fractions: one by the root, one by the rounding.
+-- The printed factors beside the exact one: the lower factor is at most it at every high fraction, the upper factor at least it
+-- at every low one, and each is off by less than two s-ths at the other fractions: one by the root, one by the rounding.
 -- Assumes nothing.
 use mathlib.Core.Path.{_≡_, sym, subst}
 use Prim.Native.Nat.{ℕ, _+_, _*_, _≤_, _<_}

@@ -1,5 +1,6 @@
 -- A job by its numbers, and what it comes to in millionths.
 --   Job                  site line, frame line, weights, heights, and what is given where they are accepted
+--   jobOf ..             a job of the lines of a sheet, as its numbers stand there, with its class and kind
 --   Accepted j           they are accepted, with result buffers of as many cells as levels
 --   hazards j, period j  the three hazards; T
 --   printed j, printedUnder j x       V_D, and the shear under level x, from 0
@@ -13,11 +14,15 @@ use Prim.Native.Nat.{ℕ}
 use lib.ListN.{length}
 use Rattle.whole.specs.declared.Fraction.{Fraction}
 use Rattle.whole.specs.Cells.{sum}
+use Rattle.limits.specs.Frame.{frameOf}
 use Rattle.limits.specs.Judging.{judgedJob}
 use Rattle.limits.specs.Levels.{topHeight}
 use Rattle.limits.specs.Outcome.{accepted}
+use Rattle.limits.specs.Site.{siteOf}
 use Rattle.limits.specs.declared.frame.FrameValues.{FrameValues}
+use Rattle.limits.specs.declared.frame.Kind.{Kind}
 use Rattle.limits.specs.declared.judging.Given.{Given}
+use Rattle.limits.specs.declared.site.Class.{Class}
 use Rattle.limits.specs.declared.site.SiteValues.{SiteValues}
 use Rattle.site.specs.Hazards.{hazardsOf}
 use Rattle.site.specs.declared.hazard.Hazards.{Hazards}
@@ -36,6 +41,22 @@ pub record Job : Type 0 where
   pub weights : List ℕ
   pub heights : List ℕ
   pub given : Given
+
+abbrev pub siteLine : ℕ → ℕ → ℕ → ℕ → ℕ → ℕ → ℕ → SiteValues
+siteLine ssd s1d ssm s1m na nv class = record { ssd = ssd; s1d = s1d; ssm = ssm; s1m = s1m; na = na; nv = nv; class = class }
+
+abbrev pub frameLine : ℕ → ℕ → ℕ → ℕ → ℕ → FrameValues
+frameLine kind calculated r i alpha = record { kind = kind; calculated = calculated; r = r; i = i; alpha = alpha }
+
+abbrev pub jobOf : SiteValues → Class → FrameValues → Kind → List ℕ → List ℕ → Job
+jobOf s c f k ws hs =
+    record {
+      site = s;
+      frame = f;
+      weights = ws;
+      heights = hs;
+      given = record { site = siteOf s c; frame = frameOf f k };
+    }
 
 abbrev pub Accepted : Job → Type 0
 Accepted j = judgedJob (j .site) (j .frame) (j .weights) (j .heights) (length (j .weights)) ≡ accepted (j .given)

@@ -1,10 +1,9 @@
--- The exact chain in document 01's own numbers, for whoever has to believe it: m, the newtons, the storeys. (The spectrum and the factor
--- stand so in their definitions; that the factor has no minus is `factor-natural`, that p is the factor times m of the spectrum over
--- the factor `blended-is-modified`, both of response/proofs/Exact.antt.)
+-- The exact chain in document 01's own numbers: m, the newtons, the storeys. The spectrum and the factor stand so in their
+-- definitions. That the factor's sign is never a minus is `factor-natural`, that p is the factor times m of the spectrum over the
+-- factor `blended-is-modified`, both of response/proofs/Exact.antt.
 -- Assumes nothing.
 use mathlib.Core.Path.{_≡_, ap}
-use mathlib.Core.List.{List}
-use Prim.Native.Nat.{ℕ, _+_, _*_, _-_, _≤_, _<_}
+use Prim.Native.Nat.{ℕ, _+_, _*_, _-_, _≤_}
 use native.Mathlib.Omega.{arith}
 use Rattle.whole.specs.declared.Fraction.{Fraction}
 use Rattle.whole.specs.Fraction.{over, plus, times, quotient, Same, AtMost, Less}

@@ -1,8 +1,8 @@
--- 'V and V_M fall as the root grows, V* rises.' So the chain at high fractions in V and V_M with a low one in V* is at most the chain at
--- low fractions in V and V_M with a high one in V*, for the base and for every storey.
+-- 'V and V_M fall as the root grows, V* rises.' So the chain at high fractions in V and V_M with a low one in V* is at most the
+-- chain at low fractions in V and V_M with a high one in V*, for the base and for every storey.
 -- Assumes nothing.
 use mathlib.Core.List.{List}
-use Prim.Native.Nat.{ℕ, _*_, _≤_, _<_}
+use Prim.Native.Nat.{ℕ, _*_, _<_}
 use native.Mathlib.Omega.{arith}
 use lib.ListN.{drop}
 use Rattle.whole.specs.declared.Fraction.{Fraction}

@@ -1,7 +1,6 @@
--- The printed ratio, m and p beside the exact ones, in s-ths: at least them where the spectrum and the factor are on their right side;
--- q off by less than 2·z + 2 of an exact ratio z, m by less than six, p by less than three.
+-- The printed q, m and p beside the exact ones, in s-ths: at least them where the spectrum and the factor are on their right
+-- side; q above an exact ratio z by less than 2·z + 2, m by less than six, p by less than three.
 -- Assumes nothing.
-use mathlib.Core.Path.{_≡_}
 use Prim.Native.Nat.{ℕ, _+_, _*_, _≤_, _<_}
 use native.Mathlib.Nat.{mul-le-mul-left, mul-le-mul-right, mul-pos, mul-lt-mul-of-pos-left, mul-lt-mul-of-pos-right, le-of-mul-le-mul-right, lt-of-mul-lt-mul-right}
 use native.Mathlib.Omega.{arith}

@@ -1,9 +1,8 @@
--- High and low fractions are there: the whole roots over the unit are such, for every R, so that nothing of demand 3 holds for want of
--- any.
+-- High and low fractions are there, for every R: the whole roots over the unit are such. So nothing of demand 3 holds for want
+-- of any.
 --   lowered s k, raised s k    the whole roots of hazards k in s-ths, upper in V and V_M with lower in V*, and the other way
 -- Assumes nothing.
 use Prim.Native.Nat.{ℕ, _*_, _^_, _≤_, _<_}
-use native.Mathlib.Nat.{le-trans}
 use native.Mathlib.Omega.{arith}
 use Rattle.whole.specs.declared.Fraction.{Fraction}
 use Rattle.whole.specs.Fraction.{over}

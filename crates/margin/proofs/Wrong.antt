@@ -4,7 +4,7 @@
 -- Assumes nothing.
 use mathlib.Core.Path.{_≡_, refl}
 use mathlib.Core.List.{List, [], _∷_}
-use Prim.Native.Nat.{ℕ, _+_, _*_, _-_, _≤_, _<_}
+use Prim.Native.Nat.{ℕ, _-_, _≤_, _<_}
 use native.Mathlib.Omega.{arith}
 use lib.Dec.{lit<, lit≤}
 use lib.ListN.{length}
@@ -13,15 +13,13 @@ use Rattle.whole.specs.Fraction.{over, plus}
 use Rattle.whole.specs.Line.{between}
 use Rattle.whole.specs.Rounding.{down}
 use Rattle.whole.specs.Search.{bitsFrom, largest}
-use Rattle.limits.specs.Frame.{frameOf, judgedKind, judgedPeriod, judgedFrame}
+use Rattle.limits.specs.Frame.{judgedKind, judgedPeriod, judgedFrame}
 use Rattle.limits.specs.Judging.{judgedJob}
 use Rattle.limits.specs.Levels.{weighed, raised, judgedLevels}
 use Rattle.limits.specs.Ranges.{inRange, within, among, listed}
-use Rattle.limits.specs.Site.{siteOf, judgedClass, judgedMapped, judgedNearFault, judgedSite}
-use Rattle.limits.specs.declared.frame.FrameValues.{FrameValues}
+use Rattle.limits.specs.Site.{judgedClass, judgedMapped, judgedNearFault, judgedSite}
 use Rattle.limits.specs.declared.frame.Kind.the-variants.{Concrete}
 use Rattle.limits.specs.declared.site.Class.the-variants.{Hard}
-use Rattle.limits.specs.declared.site.SiteValues.{SiteValues}
 use Rattle.response.specs.Factor.{factor}
 use Rattle.response.specs.Period.{approximate, inUse}
 use Rattle.response.specs.Ratio.{bent}
@@ -30,27 +28,15 @@ use Rattle.base_shear.specs.Exact.{Roots}
 use Rattle.storeys.specs.Storeys.{weightHeight}
 use Rattle.margin.specs.Roots.{Lowering, Raising}
 use Rattle.margin.proofs.Bound.{at-least-number, below-number}
-use Rattle.margin.proofs.Job.{Job, Accepted, Demand3Of, hazards, exact, exactUnder, margin}
+use Rattle.margin.proofs.Job.{Job, siteLine, frameLine, jobOf, Accepted, Demand3Of, hazards, exact, exactUnder, margin}
 
 abbrev pub Meets : (Job → ℕ) → (Job → ℕ → ℕ) → Type 0
 Meets v u = (j : Job) → Accepted j → Demand3Of j (v j) (u j)
 
 -- ---- the sheet, at any weights
-abbrev site : SiteValues
-site = record { ssd = 80; s1d = 45; ssm = 100; s1m = 55; na = 100; nv = 100; class = 1 }
-
-abbrev frame : FrameValues
-frame = record { kind = 2; calculated = 1000; r = 480; i = 100; alpha = 150 }
-
 abbrev sheet : List ℕ → Job
 sheet ws =
-    record {
-      site = site;
-      frame = frame;
-      weights = ws;
-      heights = 100 ∷ 200 ∷ 300 ∷ [];
-      given = record { site = siteOf site Hard; frame = frameOf frame Concrete };
-    }
+    jobOf (siteLine 80 45 100 55 100 100 1) Hard (frameLine 2 1000 480 100 150) Concrete ws (100 ∷ 200 ∷ 300 ∷ [])
 
 abbrev worked : Job
 worked = sheet (5000 ∷ 5000 ∷ 5000 ∷ [])
@@ -58,15 +44,10 @@ worked = sheet (5000 ∷ 5000 ∷ 5000 ∷ [])
 abbrev light : Job
 light = sheet (1 ∷ 1 ∷ 1 ∷ [])
 
-worked-accepted : Accepted worked
+both-accepted : Accepted worked × Accepted light
 unfolding judgedJob judgedLevels weighed raised within inRange among listed judgedSite judgedMapped judgedNearFault judgedClass
     judgedFrame judgedKind judgedPeriod
-worked-accepted = refl
-
-light-accepted : Accepted light
-unfolding judgedJob judgedLevels weighed raised within inRange among listed judgedSite judgedMapped judgedNearFault judgedClass
-    judgedFrame judgedKind judgedPeriod
-light-accepted = refl
+both-accepted = (refl, refl)
 
 -- the squares of the roots are 455/75 and 430/50: 5/2 and 3 are high, 2 is low
 abbrev below : Roots
@@ -125,18 +106,18 @@ module _ (v : Job → ℕ) (u : Job → ℕ → ℕ) (meets : Meets v u) where
   no-constant c same =
       omega (
         arith,
-        base-worked (v worked) (u worked) (meets worked worked-accepted),
-        base-light (v light) (u light) (meets light light-accepted),
-        same worked worked-accepted,
-        same light light-accepted,
+        base-worked (v worked) (u worked) (meets worked (both-accepted .0)),
+        base-light (v light) (u light) (meets light (both-accepted .1)),
+        same worked (both-accepted .0),
+        same light (both-accepted .1),
       )
 
   pub no-roof-copied : ((j : Job) → Accepted j → (x : ℕ) → x < length (j .weights) → u j x ≡ u j (length (j .weights) - 1)) → ⊥
   no-roof-copied same =
-      let copied : u worked 0 ≡ u worked 2 = same worked worked-accepted 0 (lit< tt) in
+      let copied : u worked 0 ≡ u worked 2 = same worked (both-accepted .0) 0 (lit< tt) in
       omega (
         arith,
-        lowest-worked (v worked) (u worked) (meets worked worked-accepted),
-        roof-worked (v worked) (u worked) (meets worked worked-accepted),
+        lowest-worked (v worked) (u worked) (meets worked (both-accepted .0)),
+        roof-worked (v worked) (u worked) (meets worked (both-accepted .0)),
         copied,
       )
