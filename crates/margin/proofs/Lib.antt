@@ -5,6 +5,7 @@ pub mod Ratio
 pub mod Bound
 pub mod Job
 pub mod Sharp
+pub mod Shear
 pub mod Base
 pub mod Storey
 pub mod Demand3

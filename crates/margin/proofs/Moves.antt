@@ -20,8 +20,9 @@ use Rattle.base_shear.specs.Ready.{Shearing}
 use Rattle.storeys.specs.Exact.{exactShearUnder}
 use Rattle.storeys.specs.Storeys.{roofPart, weightHeight}
 use Rattle.margin.specs.Roots.{Lowering, Raising}
-use Rattle.margin.proofs.Base.{shear-sound, star-sound, lowering-sound, raising-sound}
+use Rattle.margin.proofs.Base.{lowering-sound, raising-sound}
 use Rattle.margin.proofs.Root.{low-below-high}
+use Rattle.margin.proofs.Shear.{shear-sound, star-sound}
 use Rattle.margin.proofs.Storey.{shared-rises}
 
 module _ (k : Hazards) (f : Frame) (W T : ℕ) (m : Meeting (k .lines)) where

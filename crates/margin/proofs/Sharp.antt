@@ -37,7 +37,8 @@ use Rattle.margin.proofs.Job.{Job, siteLine, frameLine, jobOf, Accepted
 -- 50 levels of 20,000 kN, a decimetre apart
 abbrev pub heavy : Job
 heavy =
-    jobOf (siteLine 50 30 100 45 144 134 3) Soft (frameLine 1 115 102 150 100) Steel (cells (λ x. 20_000) 50) (cells (λ x. x + 1) 50)
+    jobOf (siteLine 50 30 100 45 144 134 3) Soft (frameLine 1 115 102 150 100) Steel (cells (λ x. 20_000) 50)
+    (cells (λ x. x + 1) 50)
 
 abbrev pub tall : Job
 tall =
@@ -50,8 +51,8 @@ stiff =
     (100 ∷ 200 ∷ 300 ∷ [])
 
 pub all-accepted : Accepted heavy × Accepted tall × Accepted stiff
-unfolding cells judgedJob judgedLevels weighed raised within inRange among listed judgedSite judgedMapped judgedNearFault judgedClass
-    judgedFrame judgedKind judgedPeriod
+unfolding cells judgedJob judgedLevels weighed raised within inRange among listed judgedSite judgedMapped judgedNearFault
+    judgedClass judgedFrame judgedKind judgedPeriod
 all-accepted = (refl, refl, refl)
 
 -- ---- the base
@@ -85,8 +86,9 @@ tall-raising =
       star = record { sound = lit< tt; one = lit≤ tt; high = lit≤ tt };
     }
 
--- printed 924 N, exact 921.74 N; six millionths are 0.05 N. 'That whole margin plus two newtons' is six millionths plus three
-pub over-two-newtons : AtMost (plus (exactUnder tall tallRoots 5) (plus (margin 6 tall) (over 1 1))) (over (printedUnder tall 5) 1)
+-- printed 924 N, exact 921.74 N; six millionths are 0.05 N. The margin plus two newtons is six millionths plus three newtons
+pub over-two-newtons :
+    AtMost (plus (exactUnder tall tallRoots 5) (plus (margin 6 tall) (over 1 1))) (over (printedUnder tall 5) 1)
     × LessBy (printedUnder tall 5) (exactUnder tall tallRoots 5) (plus (margin 6 tall) (over 2 1))
 unfolding sum between up down largest smallest bitsFrom lowerRoot upperRoot floor ceiling approximate inUse spectrum exactSpectrum
     factor lowerFactor upperFactor ratio modified blended bent newtons shear star base weightHeight
