@@ -67,7 +67,7 @@ heavy-raising =
       star = record { sound = lit< tt; one = lit≤ tt; high = lit≤ tt };
     }
 
--- printed 1,047,228,215 N, exact 1,047,223,890.97 N; a millionth is 1,071.43 N
+-- printed 1,047,228,215 N, exact at these fractions 1,047,223,890.96 N; a millionth is 1,071.43 N
 pub over-four-millionths : AtMost (plus (exact heavy heavyRoots) (margin 4 heavy)) (over (printed heavy) 1)
     × LessBy (printed heavy) (exact heavy heavyRoots) (allowed unit (hazards heavy) (heavy .given .frame) (sum (heavy .weights)))
 unfolding cells sum between up down largest smallest bitsFrom lowerRoot upperRoot floor ceiling approximate inUse spectrum
