@@ -1,6 +1,6 @@
--- The exact chain in document 01's own numbers: m, the newtons, the storeys. The spectrum and the factor stand so in their
--- definitions. That the factor's sign is never a minus is `factor-natural`, that p is the factor times m of the spectrum over the
--- factor `blended-is-modified`, both of response/proofs/Exact.antt.
+-- The exact chain in document 01's own numbers: m, the newtons, the margin, the storeys. The spectrum and the factor stand so in
+-- their definitions. That the factor's sign is never a minus is `factor-natural`, that p is the factor times m of the spectrum
+-- over the factor `blended-is-modified`, both of response/proofs/Exact.antt.
 -- Assumes nothing.
 use mathlib.Core.Path.{_≡_, ap}
 use Prim.Native.Nat.{ℕ, _+_, _*_, _-_, _≤_}
@@ -10,10 +10,12 @@ use Rattle.whole.specs.Fraction.{over, plus, times, quotient, Same, AtMost, Les
 use Rattle.whole.proofs.Choice.{by-leb}
 use Rattle.limits.specs.declared.frame.Frame.{Frame}
 use Rattle.site.specs.Hazards.{lines}
+use Rattle.site.specs.declared.hazard.Hazards.{Hazards}
 use Rattle.response.specs.Ratio.{bent, exactModified}
 use Rattle.base_shear.specs.Exact.{exactNewtons}
 use Rattle.storeys.specs.Exact.{exactRoofForce, rest}
 use Rattle.storeys.specs.Storeys.{roofPart}
+use Rattle.margin.specs.Demand3.{allowed}
 
 -- 'Up to 300,000: q.'
 pub exact-modified-first : (q : Fraction) → AtMost q (over 3 10) → Same (exactModified lines q) q
@@ -53,6 +55,15 @@ pub newtons-are : (n : ℕ) (f : Frame) (W : ℕ) (x : Fraction)
     → Same (exactNewtons n f W x)
     (quotient (times (times (over (f .i) 100) x) (over (1000 * W) 1)) (times (over n 10) (over (f .alpha) 100)))
 newtons-are n f W x = omega arith
+
+-- the margin: six s-ths of I·W/(n/10·alpha-y), plus one newton
+pub allowed-is : (s : ℕ) (k : Hazards) (f : Frame) (W : ℕ)
+    → Same (allowed s k f W)
+    (plus
+    (times (over 6 s)
+    (quotient (times (over (f .i) 100) (over (1000 * W) 1)) (times (over (k .divisor) 10) (over (f .alpha) 100))))
+    (over 1 1))
+allowed-is s k f W = omega arith
 
 -- V − F_t, as the storeys have it: what is left of V beside F_t
 pub rest-beside-roof-force : (T : ℕ) (v : Fraction) → 7 * T ≤ 100_000
