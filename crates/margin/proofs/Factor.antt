@@ -24,7 +24,7 @@ use Rattle.margin.proofs.Off.{Over, Short, over-same, short-same}
 use Rattle.margin.proofs.Root.{lower-below-high, low-below-upper, low-near-lower, upper-near-high}
 
 -- ---- a mean at the root k/s, rounded to f, beside the mean at the root r
-module _ (s k f : ℕ) (w : Weights) (r c : Fraction) (ps : 0 < s) (pr : 0 < r .den) where
+module _ (s k f : ℕ) (w : Weights) (r c : Fraction) (pr : 0 < r .den) where
   mean-short : s * mean w (over k s) c .num < mean w (over k s) c .den * f + mean w (over k s) c .den
       → s * r .num < (k + 1) * r .den
       → Short s f (mean w r c) 2
@@ -131,7 +131,7 @@ module _ (s : ℕ) (h : Hazard) (T : ℕ) (u : Unit s) (y : Ready s h T) where
         let law = down-law (s * m .num) (m .den) (mean-positive (over k s) (u .positive)) in
         subst (λ (f : ℕ). Short s f (factorAt h T r) 2) (sym lower-is)
         (short-same s f 2 (factorAt h T r) (meanAt h T r) (factor-positive r (lo .sound)) (factor-is r (lo .sound))
-        (mean-short s k f (weights (h .a) (h .b) T) r (h .capacity) (u .positive) (lo .sound) (law .1)
+        (mean-short s k f (weights (h .a) (h .b) T) r (h .capacity) (lo .sound) (law .1)
         (low-near-lower s (h .square) k r lower-root lo)))
 
     pub upper-over : High (h .square) r → Over s (upperAt s h T) (factorAt h T r) 2
@@ -142,5 +142,5 @@ module _ (s : ℕ) (h : Hazard) (T : ℕ) (u : Unit s) (y : Ready s h T) where
         let law = up-law (s * m .num) (m .den) (mean-positive (over k s) (u .positive)) in
         subst (λ (f : ℕ). Over s f (factorAt h T r) 2) (sym upper-is)
         (over-same s f 2 (factorAt h T r) (meanAt h T r) (factor-positive r (hi .sound)) (factor-is r (hi .sound))
-        (mean-over s k f (weights (h .a) (h .b) T) r (h .capacity) (u .positive) (hi .sound) (law .1)
+        (mean-over s k f (weights (h .a) (h .b) T) r (h .capacity) (hi .sound) (law .1)
         (upper-near-high s (h .square) k r upper-root hi)))

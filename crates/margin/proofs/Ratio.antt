@@ -31,7 +31,6 @@ module _ (s S f : ℕ) (x y : Fraction) where
       → ratio s S f * exactRatio x y .den < s * exactRatio x y .num + 2 * (exactRatio x y .num + exactRatio x y .den)
   unfolding ratio
   ratio-over px py pf hf hy bx by =
-      let q = ratio s S f in
       let pn : 0 < y .num = omega arith in
       let bx′ : S * x .den ≤ s * x .num + 1 * x .den = omega arith in
       let by′ : s * y .num ≤ (f + 2) * y .den = omega arith in
