@@ -1,9 +1,10 @@
 -- Demand 3 of the printed base and storey shears, over any unit, hazards within reach and lines that meet.
 -- Assumes nothing.
+use mathlib.Core.Path.{_≡_}
 use mathlib.Core.List.{List}
 use Prim.Native.Nat.{ℕ, _*_, _-_, _≤_, _<_}
 use native.Mathlib.Omega.{arith}
-use lib.ListN.{drop}
+use lib.ListN.{length, drop}
 use Rattle.whole.specs.Cells.{sum}
 use Rattle.whole.specs.Rounding.{up}
 use Rattle.whole.proofs.Rounding.{up-law}
@@ -54,4 +55,14 @@ module _ (s : ℕ) (k : Hazards) (f : Frame) (ws hs : List ℕ) (T : ℕ) where
                   (allowed s k f W) _ (margin-positive 6 s (k .divisor) f W (g .unit .positive) (g .divisor .0) pa) (omega arith)
                   (force .1) (up-law ((v - ft) * Px x) P p .1) (base-over s k T g m f pa W r _ (omega arith) more w),
             );
+      }
+
+  -- it speaks of each level's shear alone
+  pub of-cells : {v : ℕ} {u u′ : ℕ → ℕ} → Demand3 s k f ws hs T v u → ((x : ℕ) → x < length ws → u x ≡ u′ x) → Demand3 s k f ws hs T v u′
+  of-cells d same =
+      record {
+        never-below = d .never-below;
+        close = d .close;
+        storey-never-below = λ x h r w. let a = d .storey-never-below x h r w in (a .0, rw (same x h) at (a .1));
+        storey-close = λ x h r w. let a = d .storey-close x h r w in (a .0, rw (same x h) at (a .1));
       }
