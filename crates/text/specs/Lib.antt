@@ -1,0 +1,4 @@
+pub mod Reading
+pub mod Number
+pub mod Line
+pub mod Writing
