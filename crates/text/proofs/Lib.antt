@@ -1,3 +1,6 @@
 pub mod Words
 pub mod Digits
 pub mod Numbers
+pub mod Readings
+pub mod Stored
+pub mod Lines

@@ -3,6 +3,7 @@
 --   field             one tab, and a number
 --   fields k          k of them
 --   line w k          the word w, k numbers, LF: the numbers
+--   noLine            the code's answer where a line is otherwise
 --   lineRead c o      the code's answer to the reading o of the bytes from c on, its numbers in seven cells
 use mathlib.Core.List.{List, [], _∷_}
 use Prim.Native.Nat.{ℕ, zero, suc}
@@ -39,6 +40,9 @@ line w k = do
   word lf
   read ns
 
-abbrev pub lineRead : Cursor → Reading (List ℕ) → LineRead
+abbrev pub noLine : LineRead
+noLine = record { answer = Otherwise; numbers = zeros 7 }
+
+unfoldable pub lineRead : Cursor → Reading (List ℕ) → LineRead
 lineRead c (found ns n) = record { answer = Found (after c n); numbers = laid ns (zeros 7) }
-lineRead c otherwise = record { answer = Otherwise; numbers = zeros 7 }
+lineRead c otherwise = noLine

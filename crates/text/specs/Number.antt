@@ -40,7 +40,7 @@ wellMade ds = inRange 1 9 (length ds) && not (leadingZero (length ds) (getD ds 0
 unfoldable pub number : Reader ℕ
 number bytes = pick (wellMade (digits bytes)) (found (value (digits bytes)) (length (digits bytes))) otherwise
 
-abbrev pub numberAnswer : Cursor → Reading ℕ → NumberAnswer
+unfoldable pub numberAnswer : Cursor → Reading ℕ → NumberAnswer
 numberAnswer c (found v n) = Found v (after c n)
 numberAnswer c otherwise = Otherwise
 

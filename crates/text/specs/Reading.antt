@@ -54,6 +54,6 @@ word w bytes = pick (starts w bytes) (found tt (length w)) otherwise
 abbrev pub after : Cursor → ℕ → Cursor
 after c n = record { at = c .at + n }
 
-abbrev pub wordAnswer : Cursor → Reading Done → WordAnswer
+unfoldable pub wordAnswer : Cursor → Reading Done → WordAnswer
 wordAnswer c (found _ n) = Found (after c n)
 wordAnswer c otherwise = Otherwise

@@ -6,10 +6,8 @@ use crate::reading::word;
 ghost use mathlib.Core.Path.{_≡_};
 ghost use Prim.Native.Nat.{_≤_};
 ghost use lib.ListN.{drop};
-ghost use Rattle.limits.specs.Outcome.{zeros};
-ghost use Rattle.text.specs.Line.{field, fields, line, lineRead};
+ghost use Rattle.text.specs.Line.{field, fields, line, noLine, lineRead};
 ghost use Rattle.text.specs.Number.{numberAnswer};
-ghost use Rattle.text.specs.Reading.{otherwise};
 
 // The numbers of a line, in the first of its cells, beside the answer: an enum holds no array.
 pub struct LineRead {
@@ -22,7 +20,7 @@ impl LineRead {
     pub const MOST: usize = 7;
 
     fn otherwise() -> LineRead
-        ensures { λ r. ⌜ r ≡ record { answer = WordAnswer.Otherwise; numbers = zeros 7 } ⌝ }
+        ensures { λ r. ⌜ r ≡ noLine ⌝ }
     {
         LineRead {
             answer: WordAnswer::Otherwise,

@@ -13,11 +13,13 @@ count-digits-requires : tie.Need-count-digits-requires
 count-digits-requires c κs = search needs
 
 returns : tie.Need-returns
+unfolding numberAnswer
 returns c =
     let a = c .before .before .before .args in
     sym (ap (numberAnswer (a .c)) (count-none (drop (a .c .at) (a .s .now)) _ (c .before .count-digits .ensures) (c .if1 .taken)))
 
 returns-2 : tie.Need-returns-2
+unfolding numberAnswer
 returns-2 c =
     let a = c .before .before .before .before .args in
     sym (ap (numberAnswer (a .c)) (count-many (drop (a .c .at) (a .s .now)) _ (c .before .before .count-digits .ensures) (c .if2 .taken)))
@@ -36,6 +38,7 @@ leading-zero-requires : tie.Need-leading-zero-requires
 leading-zero-requires c κs = search needs
 
 returns-3 : tie.Need-returns-3
+unfolding numberAnswer
 returns-3 c =
     let d = c .before .before .before .before .before in
     let a = d .before .before .args in
@@ -46,6 +49,7 @@ add-t11 : tie.Need-add-t11
 add-t11 c = omega (arith, inside (c .before .before .before))
 
 returns-4 : tie.Need-returns-4
+unfolding numberAnswer
 returns-4 c =
     let d = c .before .before .before .before .before in
     let a = d .before .before .args in

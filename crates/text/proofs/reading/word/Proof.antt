@@ -7,7 +7,7 @@ use Prim.Native.Nat.{_+_, _-_, _≤_}
 use native.Mathlib.Omega.{arith}
 use lib.ListN.{length, drop}
 use Rattle.text.proofs.Words.{starts-short, starts-other, starts-same, starts-all}
-use Rattle.text.specs.Reading.{starts, word}
+use Rattle.text.specs.Reading.{starts, word, wordAnswer}
 use Rattle.text.proofs.reading.word.Statement.{statement}
 use Rattle.text.proofs.reading.word.Tie as tie
 
@@ -21,7 +21,7 @@ loop-holds : tie.Need-loop-holds Inv-loop μ-loop
 loop-holds c = search needs
 
 returns : tie.Need-returns Inv-loop μ-loop
-unfolding word
+unfolding word wordAnswer
 returns c =
     let at = c .before .before in
     let a = at .before .args in
@@ -34,7 +34,7 @@ shared-slice-read-if2-2 : tie.Need-shared-slice-read-if2-2 Inv-loop μ-loop
 shared-slice-read-if2-2 c = search needs
 
 returns-2 : tie.Need-returns-2 Inv-loop μ-loop
-unfolding word
+unfolding word wordAnswer
 returns-2 c =
     let at = c .before .before .before .before .before in
     let a = at .before .args in
@@ -56,7 +56,7 @@ loop-again c =
     (omega arith, omega arith, at .loop .inv .2 ∙ starts-same (a .w .now) (a .s .now) (at .loop .i) (at .loop .at) (omega arith) (omega arith) (c .if2 .left))
 
 returns-3 : tie.Need-returns-3 Inv-loop μ-loop
-unfolding word
+unfolding word wordAnswer
 returns-3 c =
     let at = c .before in
     let a = at .before .args in
