@@ -4,3 +4,5 @@ pub mod Numbers
 pub mod Readings
 pub mod Stored
 pub mod Lines
+pub mod Spliced
+pub mod Decimal

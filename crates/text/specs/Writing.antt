@@ -14,7 +14,7 @@ unfoldable pub digitsOf : ℕ → ℕ → List ℕ
 digitsOf zero n = (48 + n % 10) ∷ []
 digitsOf (suc k) n = pick (ltb n 10) ((48 + n % 10) ∷ []) (digitsOf k (n / 10) ++ ((48 + n % 10) ∷ []))
 
-abbrev pub decimal : ℕ → List ℕ
+unfoldable pub decimal : ℕ → List ℕ
 decimal n = digitsOf 19 n
 
 unfoldable pub fieldsOf : List ℕ → List ℕ

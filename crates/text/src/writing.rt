@@ -1,7 +1,7 @@
 ghost use mathlib.Core.Path.{_≡_};
-ghost use Prim.Native.Nat.{_≤_, _+_, _*_, _%_};
+ghost use Prim.Native.Nat.{_≤_, _+_, _%_};
 ghost use lib.ListN.{length};
-ghost use Rattle.text.specs.Writing.{digitsOf, laidOut, spliced};
+ghost use Rattle.text.specs.Writing.{decimal, laidOut, spliced};
 
 fn digit(n: u64) -> u8
     ensures { λ r. ⌜ r ≡ 48 + n % 10 ⌝ }
@@ -9,26 +9,23 @@ fn digit(n: u64) -> u8
     (48 + n % 10) as u8
 }
 
-// Writes n in decimal from `at` on, k + 1 digits at the most, and returns the place after it.
-fn put_digits(out: &mut [u8], at: usize, n: u64, k: u64) -> usize
-    requires { ⌜ (k ≤ 19) × (at + k + 1 ≤ length (now out)) ⌝ }
-    ensures { λ r. ⌜ r ≡ at + length (digitsOf k n) ⌝ }
-    ensures { λ _. ⌜ now (out .exit) ≡ spliced (now (out .entry)) at (digitsOf k n) ⌝ }
+// Writes n in decimal from `at` on, and returns the place after it.
+pub fn put_decimal(out: &mut [u8], at: usize, n: u64) -> usize
+    requires { ⌜ at + length (decimal n) ≤ length (now out) ⌝ }
+    ensures { λ r. ⌜ r ≡ at + length (decimal n) ⌝ }
+    ensures { λ _. ⌜ now (out .exit) ≡ spliced (now (out .entry)) at (decimal n) ⌝ }
 {
     let d = digit(n);
-    if k == 0 {
-        out[at] = d;
-        return at + 1;
-    }
     if n < 10 {
         out[at] = d;
         return at + 1;
     }
-    let p = put_digits(out, at, n / 10, k - 1);
-    out[p] = d;
-    p + 1
+    let last = put_decimal(out, at, n / 10);
+    out[last] = d;
+    last + 1
 }
 
+// Writes a word from `at` on, and returns the place after it.
 pub fn put_word(out: &mut [u8], at: usize, w: &[u8]) -> usize
     requires { ⌜ at + length (now w) ≤ length (now out) ⌝ }
     ensures { λ r. ⌜ r ≡ at + length (now (w .entry)) ⌝ }
@@ -42,9 +39,9 @@ pub fn put_word(out: &mut [u8], at: usize, w: &[u8]) -> usize
     at + i
 }
 
-// A line: its word, its numbers, each after a tab, and LF. A number has 20 digits at the most.
+// Writes a line from `at` on: its word, its numbers, each after a tab, and LF.
 pub fn put_line(out: &mut [u8], at: usize, w: &[u8], numbers: &[u64]) -> usize
-    requires { ⌜ at + (length (now w) + 21 * length (now numbers) + 1) ≤ length (now out) ⌝ }
+    requires { ⌜ at + length (laidOut (now w) (now numbers)) ≤ length (now out) ⌝ }
     ensures { λ r. ⌜ r ≡ at + length (laidOut (now (w .entry)) (now (numbers .entry))) ⌝ }
     ensures { λ _. ⌜ now (out .exit) ≡ spliced (now (out .entry)) at (laidOut (now (w .entry)) (now (numbers .entry))) ⌝ }
 {
@@ -52,7 +49,7 @@ pub fn put_line(out: &mut [u8], at: usize, w: &[u8], numbers: &[u64]) -> usize
     let mut i = 0;
     while i < numbers.len() {
         p = put_word(out, p, b"\t");
-        p = put_digits(out, p, numbers[i], 19);
+        p = put_decimal(out, p, numbers[i]);
         i += 1;
     }
     put_word(out, p, b"\n")
