@@ -2,19 +2,17 @@
 -- Assumes nothing.
 use mathlib.Core.Path.{_≡_, refl, sym, ap, _∙_}
 use mathlib.Core.Bool.{Bool, true, false}
-use mathlib.Core.List.{List, [], _∷_, _++_, append-assoc, append-nil}
+use mathlib.Core.List.{List, [], _∷_, _++_}
 use Prim.Native.Nat.{ℕ, zero, suc, _+_, _*_, _^_, _/_, _%_, _≤_, _<_}
 use native.Mathlib.Nat.{pow-suc}
 use native.Mathlib.Numerals.{add-one}
 use native.Mathlib.Omega.{arith}
 use lib.Dec.{leb, ltb}
-use lib.ListN.{length, getD, set, take, drop, length-append}
-use lib.Seq.{take-suc}
+use lib.ListN.{length, set, length-append}
 use borrow.Author.Tests.{lt-ltb, le-ltb, leb-true, leb-false}
 use Rattle.whole.specs.Choice.{pick}
 use Rattle.text.proofs.Spliced.{Wrote, wrote-none, wrote-byte}
-use Rattle.text.specs.Line.{tab, lf}
-use Rattle.text.specs.Writing.{digitsOf, decimal, fieldsOf, laidOut}
+use Rattle.text.specs.Writing.{digitsOf, decimal}
 
 digits-small : (k n : ℕ) → n < 10 → digitsOf k n ≡ (48 + n % 10) ∷ []
 unfolding digitsOf
@@ -85,22 +83,3 @@ module _ (old : List ℕ) (at n d : ℕ) (e : d ≡ 48 + n % 10) (room : at + le
 
     pub put-more : {held : List ℕ} {p : ℕ} → Wrote old at (decimal (n / 10)) held p → Wrote old at (decimal n) (set held p d) (p + 1)
     put-more w = rw (decimal-big n big f, ← e) (wrote-byte w d put-room)
-
--- ---- the fields of a line, one more and all of them
-pub fields-one-more : (ns : List ℕ) (i : ℕ) → i < length ns
-    → fieldsOf (take (i + 1) ns) ≡ fieldsOf (take i ns) ++ (tab ++ decimal (getD ns i 0))
-unfolding fieldsOf
-fields-one-more ns i h = rw (add-one i, take-suc ns i 0 h) (joined (take i ns) (getD ns i 0))
-  where
-    joined : (l : List ℕ) (n : ℕ) → fieldsOf (l ++ (n ∷ [])) ≡ fieldsOf l ++ (tab ++ decimal n)
-    joined [] n = rw (append-nil (decimal n))
-    joined (a ∷ l) n = ap (λ (z : List ℕ). 9 ∷ (decimal a ++ z)) (joined l n) ∙ ap (λ (z : List ℕ). 9 ∷ z) (sym (append-assoc (decimal a) (fieldsOf l) (tab ++ decimal n)))
-
-pub fields-most : (ns : List ℕ) → length (fieldsOf ns) ≤ 21 * length ns
-unfolding fieldsOf
-fields-most [] = omega arith
-fields-most (n ∷ ns) = simp length-append (omega (arith, fields-most ns, decimal-most n))
-
-pub line-most : (w ns : List ℕ) → length (laidOut w ns) ≤ length w + 21 * length ns + 1
-unfolding laidOut
-line-most w ns = simp length-append (omega (arith, fields-most ns))

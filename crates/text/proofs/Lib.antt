@@ -6,3 +6,4 @@ pub mod Stored
 pub mod Lines
 pub mod Spliced
 pub mod Decimal
+pub mod Fields

@@ -1,6 +1,7 @@
 -- What is written.
 --   decimal n           n in decimal: '1 to 9 digits and no leading zero', up to 20 digits, which hold every number of 64 bits
---   laidOut w ns        a line: the word w, the numbers ns, each after a tab, LF
+--   fieldOf n           a field: one tab, and n;  fieldsOf ns    a field for each
+--   laidOut w ns        a line: the word w, the numbers ns, LF
 --   spliced old at new  new in the place of what stands from `at` on in a buffer that held old
 use mathlib.Core.List.{List, [], _∷_, _++_}
 use Prim.Native.Nat.{ℕ, zero, suc, _+_, _/_, _%_}
@@ -17,9 +18,12 @@ digitsOf (suc k) n = pick (ltb n 10) ((48 + n % 10) ∷ []) (digitsOf k (n / 10)
 unfoldable pub decimal : ℕ → List ℕ
 decimal n = digitsOf 19 n
 
+unfoldable pub fieldOf : ℕ → List ℕ
+fieldOf n = tab ++ decimal n
+
 unfoldable pub fieldsOf : List ℕ → List ℕ
 fieldsOf [] = []
-fieldsOf (n ∷ ns) = tab ++ (decimal n ++ fieldsOf ns)
+fieldsOf (n ∷ ns) = fieldOf n ++ fieldsOf ns
 
 unfoldable pub laidOut : List ℕ → List ℕ → List ℕ
 laidOut w ns = w ++ (fieldsOf ns ++ lf)
