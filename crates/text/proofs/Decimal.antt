@@ -14,17 +14,17 @@ use Rattle.whole.specs.Choice.{pick}
 use Rattle.text.proofs.Spliced.{Wrote, wrote-none, wrote-byte}
 use Rattle.text.specs.Writing.{digitsOf, decimal}
 
-digits-small : (k n : ℕ) → n < 10 → digitsOf k n ≡ (48 + n % 10) ∷ []
+pub digits-small : (k n : ℕ) → n < 10 → digitsOf k n ≡ (48 + n % 10) ∷ []
 unfolding digitsOf
 digits-small zero n h = refl
 digits-small (suc k) n h = simp (lt-ltb _ _ h)
 
-digits-big : (k n : ℕ) → 10 ≤ n → digitsOf (suc k) n ≡ digitsOf k (n / 10) ++ ((48 + n % 10) ∷ [])
+pub digits-big : (k n : ℕ) → 10 ≤ n → digitsOf (suc k) n ≡ digitsOf k (n / 10) ++ ((48 + n % 10) ∷ [])
 unfolding digitsOf
 digits-big k n h = simp (le-ltb _ _ h)
 
 -- a digit less
-tenth : (k n : ℕ) → n < 10 ^ (suc k + 1) → n / 10 < 10 ^ (k + 1)
+pub tenth : (k n : ℕ) → n < 10 ^ (suc k + 1) → n / 10 < 10 ^ (k + 1)
 tenth k n h =
     let e : 10 ^ (suc k + 1) ≡ 10 ^ (k + 1) * 10 = rw (add-one (suc k), add-one k) (pow-suc 10 (suc k)) in
     omega (arith, e)

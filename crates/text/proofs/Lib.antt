@@ -7,3 +7,5 @@ pub mod Lines
 pub mod Spliced
 pub mod Decimal
 pub mod Fields
+pub mod Printed
+pub mod Trip
