@@ -12,14 +12,15 @@ use Rattle.limits.specs.Outcome.{zeros}
 use Rattle.text.specs.declared.line.LineRead.{LineRead}
 use Rattle.text.specs.declared.reading.Cursor.{Cursor}
 use Rattle.text.specs.declared.reading.WordAnswer.the-variants.{Found, Otherwise}
+use Rattle.text.specs.Bytes.{bytes}
 use Rattle.text.specs.Number.{number}
 use Rattle.text.specs.Reading.{Reading, found, otherwise, Reader, read, word, after, _>>=_, _>>_}
 
 abbrev pub tab : List ℕ
-tab = 9 ∷ []
+tab = bytes "\t"
 
 abbrev pub lf : List ℕ
-lf = 10 ∷ []
+lf = bytes "\n"
 
 unfoldable pub field : Reader ℕ
 field = do
