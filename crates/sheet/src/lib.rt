@@ -1,0 +1,4 @@
+// A sheet: how it is read, and the listing that it gets.
+
+pub mod levels;
+pub mod reader;
