@@ -40,10 +40,10 @@ impl LevelsRead {
 }
 
 // Stores v in cell i, where there is one: every line is read, 50 are kept.
-fn keep(cells: &mut [u64; 50], i: usize, v: u64)
+fn keep(cells: &mut [u64], i: usize, v: u64)
     ensures { λ _. ⌜ now (cells .exit) ≡ set (now (cells .entry)) i v ⌝ }
 {
-    if i < 50 {
+    if i < cells.len() {
         cells[i] = v;
     }
 }

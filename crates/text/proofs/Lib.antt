@@ -9,3 +9,4 @@ pub mod Decimal
 pub mod Fields
 pub mod Printed
 pub mod Trip
+pub mod Takes
