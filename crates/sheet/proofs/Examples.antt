@@ -10,7 +10,7 @@ use Rattle.text.specs.Bytes.{bytes}
 use Rattle.text.specs.Line.{field, fields, line}
 use Rattle.text.specs.Number.{digits, valueFrom, wellMade, number}
 use Rattle.text.specs.Reading.{starts, word}
-use Rattle.sheet.specs.Reading.{lineAt, linesFrom, SheetRead, readSheet}
+use Rattle.sheet.specs.Reading.{lineAt, linesFrom, SheetRead, readLines, readSheet}
 
 abbrev office : List ℕ
 office = bytes "site\t80\t45\t100\t55\t100\t100\t1\nframe\t2\t1000\t480\t100\t150\nlevel\t5000\t100\nlevel\t5000\t200\nlevel\t5000\t300\n"
@@ -21,10 +21,10 @@ pub office-read : readSheet office ≡ accepted (record {
   weights = 5_000 ∷ 5_000 ∷ 5_000 ∷ [];
   heights = 100 ∷ 200 ∷ 300 ∷ [];
 })
-unfolding readSheet lineAt linesFrom line fields field word starts number digits wellMade inRange valueFrom
+unfolding readSheet readLines lineAt linesFrom line fields field word starts number digits wellMade inRange valueFrom
 office-read = refl
 
 pub otherwise-read : (readSheet [] ≡ refused 16 1) × (readSheet (bytes "site\t80\t45\t100\t55\t100\t100\t1\n") ≡ refused 16 2)
     × (readSheet (office ++ bytes "\n") ≡ refused 16 6)
-unfolding readSheet lineAt linesFrom line fields field word starts number digits wellMade inRange valueFrom
+unfolding readSheet readLines lineAt linesFrom line fields field word starts number digits wellMade inRange valueFrom
 otherwise-read = (refl, refl, refl)

@@ -5,7 +5,8 @@
 --   frameValues ns         kind, calculated period, R, I, alpha-y
 --   Levels, level ns ls    the weights and the heights of level lines, lowest first; one of ns below ls
 --   levelLines p bytes     the lines from line p on to the end, all of them level lines: weight, height
---   SheetRead, readSheet bytes    what the lines of a sheet hold; or 17, or 16 at the first line that is otherwise
+--   SheetRead, readLines bytes    what the lines of a sheet hold, or 16 at the first that is otherwise
+--   readSheet bytes               17 at 0 where there are over 4,096 bytes; else the same
 --   levelsRead o, sheetRead o     the code's answer to the outcome o, its weights and heights in 50 cells each
 -- A sheet without level lines is read: 1 is refused by the job. A line that lacks its LF, or that is not there, is otherwise.
 use mathlib.Core.List.{List, [], _∷_}
@@ -76,9 +77,8 @@ pub record SheetRead : Type 0 where
   pub weights : List ℕ
   pub heights : List ℕ
 
-unfoldable pub readSheet : List ℕ → Outcome SheetRead
-readSheet s = do
-  require (leb (length s) 4_096) 17 0
+unfoldable pub readLines : List ℕ → Outcome SheetRead
+readLines s = do
   site ← lineAt 1 (bytes "site") 7 s
   frame ← lineAt 2 (bytes "frame") 5 (site .rest)
   ls ← levelLines 3 (frame .rest)
@@ -88,6 +88,11 @@ readSheet s = do
     weights = ls .weights;
     heights = ls .heights;
   })
+
+unfoldable pub readSheet : List ℕ → Outcome SheetRead
+readSheet s = do
+  require (leb (length s) 4_096) 17 0
+  readLines s
 
 abbrev pub cellsOf : List ℕ → List ℕ
 cellsOf l = laid (take 50 l) (zeros 50)

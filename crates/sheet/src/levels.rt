@@ -1,4 +1,5 @@
 use limits::refusal::Refusal;
+use limits::sheet::Sheet;
 use text::line::line;
 use text::reading::Cursor;
 use text::reading::WordAnswer;
@@ -21,9 +22,6 @@ pub struct LevelsRead {
 }
 
 impl LevelsRead {
-    // The line after `site` and `frame`.
-    const FIRST: u64 = 3;
-
     // 16 at a line: nothing is stored.
     fn otherwise(place: u64) -> LevelsRead
         ensures { λ r. ⌜ r ≡ levelsRead (refused 16 place) ⌝ }
@@ -57,10 +55,10 @@ pub fn level_lines(s: &[u8], c: Cursor) -> LevelsRead
     let mut n = 0;
     let mut at = c.at;
     while at < s.len() {
-        let l = line(s, Cursor { at }, b"level", 2);
+        let l = line(s, Cursor { at }, b"level", Sheet::LEVEL_NUMBERS);
         let a = l.answer;
         let WordAnswer::Found(next) = a else {
-            return LevelsRead::otherwise(LevelsRead::FIRST + n as u64);
+            return LevelsRead::otherwise(Sheet::LEVEL_LINE + n as u64);
         };
         let numbers = l.numbers;
         keep(&mut weights, n, numbers[0]);

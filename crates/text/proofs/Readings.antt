@@ -50,10 +50,12 @@ unfolding numberAnswer
 number-missed c (found a n) e = absurd (let z : _≡_ {A = ℕ} 0 1 = cc in let b : ⊥ = omega arith in b)
 number-missed c otherwise e = refl
 
-pub line-missed : (c : Cursor) (o : Reading (List ℕ)) → lineRead c o .answer ≡ Otherwise → o ≡ otherwise
+pub line-missed : (c : Cursor) (o : Reading (List ℕ)) (r : LineRead) → r ≡ lineRead c o → r .answer ≡ Otherwise → o ≡ otherwise
 unfolding lineRead
-line-missed c (found a n) e = absurd (let z : _≡_ {A = ℕ} 0 1 = cc in let b : ⊥ = omega arith in b)
-line-missed c otherwise e = refl
+line-missed c (found a n) r e m =
+    let e′ = sym m ∙ ap (λ (x : LineRead). x .answer) e in
+    absurd (let z : _≡_ {A = ℕ} 0 1 = cc in let b : ⊥ = omega arith in b)
+line-missed c otherwise r e m = refl
 
 -- ---- what is found, and where reading goes on
 pub record Went {A : Type 0} (c c′ : Cursor) (o : Reading A) (a : A) : Type 0 where
@@ -78,11 +80,14 @@ pub record LineWent (c c′ : Cursor) (o : Reading (List ℕ)) (held : List ℕ)
   pub held-is : held ≡ laid numbers (zeros 7)
   pub went : Went c c′ o numbers
 
-pub line-went : (c c′ : Cursor) (o : Reading (List ℕ)) → lineRead c o .answer ≡ Found c′ → LineWent c c′ o (lineRead c o .numbers)
+pub line-went : (c c′ : Cursor) (o : Reading (List ℕ)) (r : LineRead) → r ≡ lineRead c o → r .answer ≡ Found c′ → LineWent c c′ o (r .numbers)
 unfolding lineRead
-line-went c c′ (found ns n) e =
-    record { numbers = ns; held-is = refl; went = record { used = n; is = refl; to = cc } }
-line-went c c′ otherwise e = absurd (let z : _≡_ {A = ℕ} 0 1 = cc in let b : ⊥ = omega arith in b)
+line-went c c′ (found ns n) r e m =
+    let e′ = sym (ap (λ (x : LineRead). x .answer) e) ∙ m in
+    record { numbers = ns; held-is = ap (λ (x : LineRead). x .numbers) e; went = record { used = n; is = refl; to = cc } }
+line-went c c′ otherwise r e m =
+    let e′ = sym (ap (λ (x : LineRead). x .answer) e) ∙ m in
+    absurd (let z : _≡_ {A = ℕ} 0 1 = cc in let b : ⊥ = omega arith in b)
 
 -- what is read after it is read from there
 pub onward : {A B X : Type 0} (s : List ℕ) (answer : Cursor → Reading B → X) → Moves answer → {c c′ : Cursor} {o : Reading A} {a : A}

@@ -8,7 +8,6 @@ use native.Mathlib.Omega.{arith}
 use lib.ListN.{length, getD, set, drop}
 use Rattle.text.specs.Bytes.{bytes}
 use Rattle.text.specs.Line.{line}
-use Rattle.text.specs.declared.line.LineRead.{LineRead}
 use Rattle.text.specs.declared.reading.Cursor.{Cursor}
 use Rattle.text.proofs.Readings.{LineWent, line-missed, line-went}
 use Rattle.text.proofs.Stored.{padded}
@@ -51,7 +50,7 @@ returns c =
     let at = c .before .before .before .before .before .before in
     let a = at .before .before .args in
     let k : Cursor = record { at = at .loop .at } in
-    let missed = line-missed k _ (ap (λ (r : LineRead). r .answer) (sym (c .before .before .before .line .ensures)) ∙ c .before .enum-told .given .1) in
+    let missed = line-missed k _ _ (c .before .before .before .line .ensures) (c .before .enum-told .given .1) in
     c .otherwise .ensures ∙ ap levelsRead (sym (gathered-stop (at .loop .inv) (c .before .before .before .before .before .loop-test .taken) missed))
 
 -- a line was found: its numbers, and where the next begins
@@ -59,8 +58,7 @@ found-line : (c : tie.After-a Inv-loop μ-loop)
     → LineWent (record { at = c .before .before .before .before .before .loop .at }) (c .a .given .0 .0) (line (bytes "level") 2 (drop (c .before .before .before .before .before .loop .at) (c .before .before .before .before .before .before .before .args .s .now))) (c .before .before .line .result .numbers)
 found-line c =
     let k : Cursor = record { at = c .before .before .before .before .before .loop .at } in
-    let e = c .before .before .line .ensures in
-    rw (ap (λ (r : LineRead). r .numbers) e) (line-went k _ _ (ap (λ (r : LineRead). r .answer) (sym e) ∙ c .a .given .1))
+    line-went k _ _ _ (c .before .before .line .ensures) (c .a .given .1)
 
 goes-on : (c : tie.After-a Inv-loop μ-loop) → c .before .before .before .before .before .loop .at < c .a .given .0 .0 .at
 goes-on c =

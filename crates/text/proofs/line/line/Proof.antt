@@ -3,7 +3,6 @@ use borrow.Author.Needs.{needs}
 use mathlib.Core.Path.{_≡_, sym, ap, ap₂, _∙_}
 use mathlib.Core.List.{List}
 use Prim.Native.Nat.{ℕ}
-use Rattle.text.specs.declared.line.LineRead.{LineRead}
 use Rattle.text.specs.declared.reading.WordAnswer.{WordAnswer}
 use Rattle.text.proofs.Lines.{line-first, line-middle, line-last, line-whole}
 use Rattle.text.proofs.Readings.{word-missed, line-missed, word-went, line-went}
@@ -43,7 +42,7 @@ returns-2 : tie.Need-returns-2
 returns-2 c =
     let a = c .before .before .before .before .before .before .before .before .before .before .args in
     let first = word-went (a .c) _ _ (sym (c .before .before .before .before .before .before .before .word .ensures) ∙ c .before .before .before .before .before .first .given .1) in
-    let missed = line-missed _ _ (ap (λ (r : LineRead). r .answer) (sym (c .before .before .before .fields .ensures)) ∙ c .before .enum-told2 .given .1) in
+    let missed = line-missed _ _ _ (c .before .before .before .fields .ensures) (c .before .enum-told2 .given .1) in
     c .otherwise2 .ensures ∙ sym (line-middle (a .s .now) (a .w .now) (a .count) (a .c) _ first missed)
 
 slice-aggregate-word : tie.Need-slice-aggregate-word
@@ -65,7 +64,7 @@ returns-3 : tie.Need-returns-3
 returns-3 c =
     let a = c .before .before .before .before .before .before .before .before .before .before .before .before .before .before .before .args in
     let first = word-went (a .c) _ _ (sym (c .before .before .before .before .before .before .before .before .before .before .before .before .word .ensures) ∙ c .before .before .before .before .before .before .before .before .before .before .first .given .1) in
-    let middle = line-went (c .before .before .before .before .before .before .before .before .before .before .first .given .0 .0) _ _ (ap (λ (r : LineRead). r .answer) (sym (c .before .before .before .before .before .before .before .before .fields .ensures)) ∙ c .before .before .before .before .before .before .middle .given .1) in
+    let middle = line-went (c .before .before .before .before .before .before .before .before .before .before .first .given .0 .0) _ _ _ (c .before .before .before .before .before .before .before .before .fields .ensures) (c .before .before .before .before .before .before .middle .given .1) in
     let missed = word-missed _ _ (sym (c .before .before .before .word2 .ensures) ∙ c .before .enum-told4 .given .1) in
     c .otherwise3 .ensures ∙ sym (line-last (a .s .now) (a .w .now) (a .count) (a .c) _ first _ _ (middle .went) missed)
 
@@ -73,10 +72,10 @@ returns-4 : tie.Need-returns-4
 returns-4 c =
     let a = c .before .before .before .before .before .before .before .before .before .before .before .before .before .before .before .args in
     let first = word-went (a .c) _ _ (sym (c .before .before .before .before .before .before .before .before .before .before .before .before .word .ensures) ∙ c .before .before .before .before .before .before .before .before .before .before .first .given .1) in
-    let middle = line-went (c .before .before .before .before .before .before .before .before .before .before .first .given .0 .0) _ _ (ap (λ (r : LineRead). r .answer) (sym (c .before .before .before .before .before .before .before .before .fields .ensures)) ∙ c .before .before .before .before .before .before .middle .given .1) in
+    let middle = line-went (c .before .before .before .before .before .before .before .before .before .before .first .given .0 .0) _ _ _ (c .before .before .before .before .before .before .before .before .fields .ensures) (c .before .before .before .before .before .before .middle .given .1) in
     let ends = c .before .enum-told3 .given .1 in
     let last = word-went (c .before .before .before .before .before .before .middle .given .0 .0) _ _ (sym (c .before .before .before .word2 .ensures) ∙ ends) in
-    ap₂ (λ (x : WordAnswer) (l : List ℕ). record { answer = x; numbers = l }) ends (ap (λ (r : LineRead). r .numbers) (c .before .before .before .before .before .before .before .before .fields .ensures) ∙ middle .held-is)
+    ap₂ (λ (x : WordAnswer) (l : List ℕ). record { answer = x; numbers = l }) ends (middle .held-is)
     ∙ sym (line-whole (a .s .now) (a .w .now) (a .count) (a .c) _ first _ _ (middle .went) _ last)
 
 pub line-spec : {M : Type 1} → statement M
