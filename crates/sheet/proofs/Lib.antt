@@ -1,3 +1,4 @@
 pub mod Examples
 pub mod Gathering
 pub mod Stages
+pub mod Listings
