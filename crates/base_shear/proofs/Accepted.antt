@@ -139,5 +139,5 @@ pub period-accepted : (s : SiteValues) (f : FrameValues) (ws hs : List ℕ) (roo
     → (1 ≤ periodOf (g .frame .kind) (g .frame .calculated) (topHeight hs))
     × (periodOf (g .frame .kind) (g .frame .calculated) (topHeight hs) ≤ 6328)
 period-accepted s f ws hs room g e =
-    let a = given-allowed s f ws hs room g e in
-    period-bounds (g .frame .kind) (g .frame .calculated) (topHeight hs) (a .2) (a .3)
+    let top = given-allowed s f ws hs room g e .0 .top in
+    period-bounds (g .frame .kind) (g .frame .calculated) (topHeight hs) (top .0) (top .1)

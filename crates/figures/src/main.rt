@@ -1,7 +1,11 @@
-// Document 01's 'Figures to hold it to': each beside the figure that the document states. The listing joins when its code stands.
+// Document 01's 'Figures to hold it to': each beside the figure that the document states.
+use job::JobAnswer;
 use libc::STDOUT_FILENO;
+use limits::frame::FrameValues;
 use limits::frame::Kind;
+use limits::layer::Layer;
 use limits::site::Class;
+use limits::site::SiteValues;
 use response::UNIT;
 use response::period::approximate;
 use response::ratio::modified;
@@ -13,7 +17,7 @@ use site::coefficients::acceleration_b;
 use site::coefficients::fa;
 use site::coefficients::fv;
 use site::hazards::LINES;
-use whole::roots::largest;
+use soil::velocity::VelocityAnswer;
 use whole::roots::lower_root;
 ghost use Prim.Native.Nat.{_≤_};
 
@@ -95,17 +99,94 @@ fn periods() {
     );
 }
 
-// v^3 <= 1000^3 N, v^3 <= 800^3 N
+fn velocity(kind: u64, count: u64) -> u64 {
+    let v = soil::velocity::velocity(kind, count, 1);
+    let VelocityAnswer::Taken(dms) = v else {
+        return 0;
+    };
+    dms
+}
+
 fn velocities() {
-    let cohesive = largest(1, 3, 1000 * 1000 * 1000 * 25, 4096);
-    hold(b"velocity, cohesive, N 25", cohesive, 2924);
-    let cohesionless = largest(1, 3, 800 * 800 * 800 * 50, 4096);
-    hold(b"velocity, cohesionless, N 50", cohesionless, 2947);
+    hold(
+        b"velocity, cohesive, N 25",
+        velocity(Layer::COHESIVE, 25),
+        2924,
+    );
+    hold(
+        b"velocity, cohesionless, N 50",
+        velocity(Layer::COHESIONLESS, 50),
+        2947,
+    );
 }
 
 fn coefficients() {
     hold(b"F_a, normal, 6500", fa(Class::Normal, 6500), 10_500);
     hold(b"F_v, soft, 3200", fv(Class::Soft, 3200), 17_600);
+}
+
+fn cell(name: &[u8], cells: &[u64], x: usize, stated: u64) {
+    if x < cells.len() {
+        hold(name, cells[x], stated);
+    }
+}
+
+// The listing's levels, roof first.
+fn levels(forces: &[u64], shears: &[u64], moments: &[u64]) {
+    cell(b"level 3, force", forces, 2, 573_215);
+    cell(b"level 3, shear", shears, 2, 573_215);
+    cell(b"level 3, overturning", moments, 2, 57_321_500);
+    cell(b"level 2, force", forces, 1, 332_143);
+    cell(b"level 2, shear", shears, 1, 905_358);
+    cell(b"level 2, overturning", moments, 1, 147_857_300);
+    cell(b"level 1, force", forces, 0, 166_071);
+    cell(b"level 1, shear", shears, 0, 1_071_429);
+    cell(b"level 1, overturning", moments, 0, 255_000_200);
+}
+
+// The worked sheet's listing, by the job call.
+fn sheet(
+    weights: &[u64],
+    heights: &[u64],
+    forces: &mut [u64],
+    shears: &mut [u64],
+    moments: &mut [u64],
+) {
+    let site = SiteValues {
+        ssd: 80,
+        s1d: 45,
+        ssm: 100,
+        s1m: 55,
+        na: 100,
+        nv: 100,
+        class: Class::HARD,
+    };
+    let frame = FrameValues {
+        kind: Kind::CONCRETE,
+        calculated: 1000,
+        r: 480,
+        i: 100,
+        alpha: 150,
+    };
+    let a = job::job(site, frame, weights, heights, forces, shears, moments);
+    let JobAnswer::Taken(f) = a else {
+        return;
+    };
+    hold(b"V", f.v, 909_708);
+    hold(b"V_M", f.vm, 818_458);
+    hold(b"V*", f.star, 1_071_429);
+    hold(b"V_D", f.vd, 1_071_429);
+    hold(b"T", f.t, 1000);
+    levels(forces, shears, moments);
+}
+
+fn listing() {
+    let weights = [5000; 3];
+    let heights = [100, 200, 300];
+    let mut forces = [0; 3];
+    let mut shears = [0; 3];
+    let mut moments = [0; 3];
+    sheet(&weights, &heights, &mut forces, &mut shears, &mut moments);
 }
 
 fn main() {
@@ -115,4 +196,5 @@ fn main() {
     periods();
     velocities();
     coefficients();
+    listing();
 }

@@ -1,6 +1,12 @@
+pub mod Passed
 pub mod Listed
 pub mod Stages
 pub mod Lists
 pub mod Unique
 pub mod Accepted
 pub mod Reading
+pub mod Told
+pub mod Ahead
+pub mod Refusing
+pub mod Foremost
+pub mod Room

@@ -1,10 +1,18 @@
--- What is known of a site and a frame that were judged: the ranges of 'Numbers and their ranges' that the calculation goes by.
---   AllowedSite s     mapped values and near-fault factors in 0.01
---   AllowedFrame f    R, I, alpha-y in 0.01, the calculated period in ms
+-- What is known of a job that was judged: the ranges of 'Numbers and their ranges' that the calculation goes by.
+--   AllowedSite s         mapped values and near-fault factors in 0.01
+--   AllowedFrame f        R, I, alpha-y in 0.01, the calculated period in ms
+--   below b hs x          the height below level x: that of the level below, or b below the lowest
+--   AllowedLevels ws hs   1 to 50 levels, weights in kN, heights in dm that rise strictly
+--   AllowedGiven g ws hs  a judged site and frame with such levels, and the top height
 -- That what is accepted is so: proofs/Accepted.antt.
-use Prim.Native.Nat.{_≤_}
+use mathlib.Core.Path.{_≡_}
+use mathlib.Core.List.{List}
+use Prim.Native.Nat.{ℕ, zero, suc, _+_, _≤_, _<_}
+use lib.ListN.{length, getD}
 use Rattle.limits.specs.declared.frame.Frame.{Frame}
+use Rattle.limits.specs.declared.judging.Given.{Given}
 use Rattle.limits.specs.declared.site.Site.{Site}
+use Rattle.limits.specs.Levels.{topHeight}
 
 pub record AllowedSite (s : Site) : Type 0 where
   pub ssd : (50 ≤ s .ssd) × (s .ssd ≤ 80)
@@ -19,3 +27,21 @@ pub record AllowedFrame (f : Frame) : Type 0 where
   pub i : (100 ≤ f .i) × (f .i ≤ 150)
   pub alpha : (100 ≤ f .alpha) × (f .alpha ≤ 200)
   pub period : f .calculated ≤ 60_000
+
+abbrev pub below : ℕ → List ℕ → ℕ → ℕ
+below b hs zero = b
+below b hs (suc x) = getD hs x 0
+
+pub record AllowedLevels (ws hs : List ℕ) : Type 0 where
+  pub same : length hs ≡ length ws
+  pub some : 1 ≤ length ws
+  pub few : length ws ≤ 50
+  pub weights : (x : ℕ) → x < length ws → (1 ≤ getD ws x 0) × (getD ws x 0 ≤ 20_000)
+  pub heights : (x : ℕ) → x < length hs → (1 ≤ getD hs x 0) × (getD hs x 0 ≤ 2_000)
+  pub rising : (x : ℕ) → x + 1 < length hs → getD hs x 0 < getD hs (x + 1) 0
+
+pub record AllowedGiven (g : Given) (ws hs : List ℕ) : Type 0 where
+  pub site : AllowedSite (g .site)
+  pub frame : AllowedFrame (g .frame)
+  pub levels : AllowedLevels ws hs
+  pub top : (1 ≤ topHeight hs) × (topHeight hs ≤ 2_000)

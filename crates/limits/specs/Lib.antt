@@ -5,3 +5,4 @@ pub mod Site
 pub mod Frame
 pub mod Judging
 pub mod Allowed
+pub mod Applies

@@ -19,7 +19,7 @@ use Rattle.soil.specs.Times.{nsAtUnit, added, judgedTimes}
 use Rattle.soil.specs.Velocity.{velocity, velocities}
 use Rattle.soil.proofs.Layers.{velocities-step}
 use Rattle.soil.proofs.Speeds.{Positive}
-use Rattle.soil.proofs.Sums.{sum-step}
+use Rattle.whole.proofs.Sums.{sum-step}
 
 -- a time rounded is no more than the ns at 1 dm/s
 pub up-most : (n d : ℕ) → 0 < d → up n d ≤ n

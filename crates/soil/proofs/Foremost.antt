@@ -21,9 +21,9 @@ use Rattle.soil.specs.Applies.{Allowed, measured, cohesive, cohesionless
 use Rattle.soil.specs.Log.{counted, thick, deep, judgedLog, siteClass}
 use Rattle.soil.specs.Times.{judgedTimes, times}
 use Rattle.soil.specs.Velocity.{measured as measuredAt, byCount, velocity, velocities}
-use Rattle.soil.proofs.Passed.{require-passed}
+use Rattle.limits.proofs.Passed.{require-passed}
 use Rattle.soil.proofs.Sound.{log-sound}
-use Rattle.soil.proofs.Ahead.{Ahead, Stops, Yields, first-stops, later-stops, bound-stops, value-stops, both-yield, require-yields, require-stops, within-yields, within-stops}
+use Rattle.limits.proofs.Ahead.{Ahead, Stops, Yields, stopped-number, stopped-place, first-stops, later-stops, bound-stops, value-stops, both-yield, require-yields, require-stops, within-yields, within-stops}
 
 -- ---- layers, one by one
 module _ (n q : ℕ) where
@@ -133,14 +133,11 @@ module _ (ds ks xs : List ℕ) where
 module _ (l : ClassLimits) (ds ks xs : List ℕ) where
   -- the lowest number that applies is given
   pub lowest-number : (n p m q : ℕ) → siteClass l ds ks xs ≡ refused n p → Applies ds ks xs m q → n ≤ m
-  lowest-number n p m q e a =
-      ⊎-elim (λ h. omega arith) (λ h. omega arith) (subst (Stops m q) e (stops ds ks xs l m q a))
+  lowest-number n p m q e a = stopped-number m q n p (subst (Stops m q) e (stops ds ks xs l m q a))
 
   -- at its lowest place: where it applies at a layer, it is given at a layer, and at no higher one
   pub lowest-layer : (n p i : ℕ) → siteClass l ds ks xs ≡ refused n p → Applies ds ks xs n (1 + i) → (1 ≤ p) × (p ≤ 1 + i)
-  lowest-layer n p i e a =
-      ⊎-elim (λ h. absurd (omega arith)) (λ h. ⊎-elim (λ z. absurd (omega arith)) (λ r. r) (h .1))
-      (subst (Stops n (1 + i)) e (stops ds ks xs l n (1 + i) a))
+  lowest-layer n p i e a = stopped-place n i p (subst (Stops n (1 + i)) e (stops ds ks xs l n (1 + i) a))
 
   -- nothing is accepted to which a refusal applies
   pub accepted-none : (c : Class) (n p : ℕ) → siteClass l ds ks xs ≡ accepted c → Applies ds ks xs n p → ⊥

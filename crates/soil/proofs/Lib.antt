@@ -1,7 +1,5 @@
-pub mod Passed
 pub mod Cubes
 pub mod Speeds
-pub mod Sums
 pub mod Layers
 pub mod Adding
 pub mod Sound
@@ -12,5 +10,4 @@ pub mod Rounded
 pub mod Examples
 pub mod Unique
 pub mod Refusing
-pub mod Ahead
 pub mod Foremost

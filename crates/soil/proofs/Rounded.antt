@@ -19,7 +19,7 @@ use Rattle.soil.specs.Exact.{slowness, average, exactTime, timeAt}
 use Rattle.soil.specs.Log.{thick, judgedLog, siteClass}
 use Rattle.soil.specs.Velocity.{velocities}
 use Rattle.soil.proofs.Average.{hard-is-faster, soft-is-slower, between-is-normal, faster-is-hard, slower-is-soft}
-use Rattle.soil.proofs.Passed.{then-passed, require-passed}
+use Rattle.limits.proofs.Passed.{then-passed, require-passed}
 use Rattle.soil.proofs.Slowness.{slowness-sound}
 use Rattle.soil.proofs.Sound.{Sound, log-sound, class-given, class-judged}
 use Rattle.soil.proofs.Speeds.{Positive, velocities-positive, velocities-length}

@@ -17,7 +17,7 @@ use Rattle.soil.specs.Log.{counted, thick, deep, judgedLog, siteClass}
 use Rattle.soil.specs.Times.{nsAtUnit, times, judgedTimes}
 use Rattle.soil.specs.Velocity.{velocities}
 use Rattle.soil.proofs.Adding.{up-most, down-most, added-most}
-use Rattle.soil.proofs.Passed.{one-value, then-passed, bind-passed, require-passed, within-passed}
+use Rattle.limits.proofs.Passed.{one-value, then-passed, bind-passed, require-passed, within-passed}
 use Rattle.soil.proofs.Speeds.{velocities-positive}
 
 pub record Sound (ds : List ℕ) (k x : ℕ) : Type 0 where

@@ -13,7 +13,7 @@ use Rattle.limits.specs.Outcome.{Outcome, accepted}
 use Rattle.limits.specs.Ranges.{within}
 use Rattle.soil.specs.Velocity.{cubeRoot, measured, byCount, velocity, velocities}
 use Rattle.soil.proofs.Cubes.{cube-root-is}
-use Rattle.soil.proofs.Passed.{never, one-value, then-passed, bind-passed, within-passed}
+use Rattle.limits.proofs.Passed.{never, one-value, then-passed, bind-passed, within-passed}
 
 abbrev pub Positive : List ℕ → Type 0
 Positive [] = Unit {0}

@@ -9,7 +9,7 @@ use native.Mathlib.Numerals.{add-one}
 use native.Mathlib.Omega.{arith}
 use lib.ListN.{length, getD, set, take, drop, length-append, length-drop, length-set, take-append-drop}
 use lib.Dec.{leb}
-use lib.Seq.{take-at, take-all, take-suc-set, drop-set-lt, drop-drop}
+use lib.Seq.{take-at, drop-at, take-all, take-suc-set, drop-set-lt, drop-drop}
 use borrow.Author.Tests.{leb-true, leb-false}
 use Rattle.whole.specs.Cells.{cells, sum, laid}
 
@@ -32,10 +32,10 @@ at-end : (l : List ℕ) (a : ℕ) → getD (l ++ (a ∷ [])) (length l) 0 ≡ a
 at-end [] a = refl
 at-end (b ∷ l) a = at-end l a
 
-at-before : (l : List ℕ) (a x : ℕ) → x < length l → getD (l ++ (a ∷ [])) x 0 ≡ getD l x 0
-at-before [] a x h = absurd (let b : ⊥ = omega arith in b)
-at-before (b ∷ l) a zero h = refl
-at-before (b ∷ l) a (suc x) h = at-before l a x (le-of-suc-le-suc h)
+at-join : (l m : List ℕ) (x : ℕ) → x < length l → getD (l ++ m) x 0 ≡ getD l x 0
+at-join [] m x h = absurd (let b : ⊥ = omega arith in b)
+at-join (a ∷ l) m zero h = refl
+at-join (a ∷ l) m (suc x) h = at-join l m x (le-of-suc-le-suc h)
 
 pub past-end : (l : List ℕ) (x : ℕ) → length l ≤ x → getD l x 0 ≡ 0
 past-end [] x h = refl
@@ -54,7 +54,7 @@ cells-at f (suc n) x h = go (λ l. cells-at f n x l) (leb n x) refl
         ap (λ (k : ℕ). getD (cells f n ++ (f n ∷ [])) k 0) there ∙ at-end (cells f n) (f n) ∙ ap f (sym last)
     go r false e =
         let l : x < n = leb-false n x e in
-        at-before (cells f n) (f n) x (rw (cells-length f n) l) ∙ r l
+        at-join (cells f n) (f n ∷ []) x (rw (cells-length f n) l) ∙ r l
 
 pub cells-past : (f : ℕ → ℕ) (n x : ℕ) → n ≤ x → getD (cells f n) x 0 ≡ 0
 cells-past f n x h = past-end (cells f n) x (rw (cells-length f n) h)
@@ -102,3 +102,10 @@ filling-all {f} {old} {held} {i} n r e =
 -- the first cells, handed on as a part, are what was laid there
 pub laid-part : (l old : List ℕ) (n : ℕ) → length l ≡ n → take n (laid l old) ≡ l
 laid-part l old n e = take-at l (drop (length l) old) n e
+
+-- a cell that was written is what was laid there, and past the last the buffer keeps what it held
+pub laid-at : (l old : List ℕ) (x : ℕ) → x < length l → getD (laid l old) x 0 ≡ getD l x 0
+laid-at l old x h = at-join l (drop (length l) old) x h
+
+pub laid-rest : (l old : List ℕ) (n : ℕ) → length l ≡ n → drop n (laid l old) ≡ drop n old
+laid-rest l old n e = drop-at l (drop (length l) old) n e ∙ ap (λ (k : ℕ). drop k old) e

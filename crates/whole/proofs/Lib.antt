@@ -10,4 +10,5 @@ pub mod Stands
 pub mod Line
 pub mod Range
 pub mod Cells
+pub mod Sums
 pub mod Unique

@@ -6,7 +6,7 @@ use mathlib.Core.Path.{_≡_}
 use Prim.Native.Nat.{_+_, _-_, _≤_}
 use native.Mathlib.Omega.{arith}
 use lib.ListN.{length, drop}
-use Rattle.soil.proofs.Sums.{sum-step, sum-end}
+use Rattle.whole.proofs.Sums.{sum-step, sum-end}
 use Rattle.soil.specs.Log.{deep}
 use Rattle.whole.specs.Cells.{sum}
 use Rattle.soil.proofs.log.deep.Statement.{statement}

@@ -8,7 +8,7 @@ use lib.ListN.{length, drop}
 use Rattle.limits.proofs.Stages.{says}
 use Rattle.soil.proofs.Adding.{up-most, down-most, Small, small-next, left, left-all, left-none, left-refused, left-next}
 use Rattle.soil.proofs.Speeds.{velocity-least}
-use Rattle.soil.proofs.Sums.{sum-step}
+use Rattle.whole.proofs.Sums.{sum-step}
 use Rattle.soil.specs.Times.{judgedTimes}
 use Rattle.soil.specs.Velocity.{velocities, velocityOutcome}
 use Rattle.whole.specs.Rounding.{up, down}

@@ -6,7 +6,7 @@ use native.Mathlib.Omega.{arith}
 use Rattle.limits.proofs.Stages.{says}
 use Rattle.limits.specs.Outcome.{accepted, verdictOutcome}
 use Rattle.soil.proofs.Cubes.{radicand-most, cube-root-at}
-use Rattle.soil.proofs.Passed.{within-passed}
+use Rattle.limits.proofs.Passed.{within-passed}
 use Rattle.soil.specs.Velocity.{byCount}
 use Rattle.soil.proofs.velocity.by_count.Statement.{statement}
 use Rattle.soil.proofs.velocity.by_count.Tie as tie

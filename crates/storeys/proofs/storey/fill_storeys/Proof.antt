@@ -15,8 +15,6 @@ use Rattle.whole.specs.Cells.{laid}
 use Rattle.storeys.proofs.storey.fill_storeys.Statement.{statement}
 use Rattle.storeys.proofs.storey.fill_storeys.Tie as tie
 
--- there. Assumes nothing.
-
 fill-shears-requires : tie.Need-fill-shears-requires
 fill-shears-requires c κs = search needs
 

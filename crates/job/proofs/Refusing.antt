@@ -1,0 +1,49 @@
+-- Which refusal `job` gives, and when it gives none: of its answers.
+-- Assumes nothing.
+use mathlib.Core.Path.{_≡_, refl}
+use mathlib.Core.List.{List}
+use Prim.Native.Nat.{ℕ, _+_, _≤_}
+use Rattle.limits.specs.declared.frame.FrameValues.{FrameValues}
+use Rattle.limits.specs.declared.refusal.Refusal.{Refusal}
+use Rattle.limits.specs.declared.site.SiteValues.{SiteValues}
+use Rattle.limits.specs.Applies.{Applies}
+use Rattle.limits.proofs.Refusing as judging
+use Rattle.limits.proofs.Foremost as order
+use Rattle.base_shear.specs.declared.Figures.{Figures}
+use Rattle.job.specs.declared.JobAnswer.{JobAnswer}
+use Rattle.job.specs.declared.JobAnswer.the-variants.{Taken, Refused}
+use Rattle.job.specs.Job.{Buffers, shortest, Answers}
+use Rattle.job.proofs.Answered.{taken-accepted, refused-judged}
+
+module _ (s : SiteValues) (f : FrameValues) (ws hs : List ℕ) (b : Buffers) where
+  -- refusal n applies to the call, at place p
+  abbrev pub Wrong : ℕ → ℕ → Type 0
+  Wrong = Applies s f ws hs (shortest b)
+
+  -- 'Data to which no refusal number applies is accepted'
+  pub accepted-unless-refused : (a : JobAnswer) (b′ : Buffers) → Answers s f ws hs b a b′ → ((n p : ℕ) → Wrong n p → ⊥)
+      → (n : Figures) × (a ≡ Taken n)
+  accepted-unless-refused (Taken n) b′ a none = (n, refl)
+  accepted-unless-refused (Refused r) b′ a none =
+      absurd (none (r .number) (r .place)
+      (judging.refused-applies s f ws hs (shortest b) (r .number) (r .place) (refused-judged s f ws hs b r b′ a)))
+
+  -- and no other is
+  pub accepted-none : (n : Figures) (b′ : Buffers) → Answers s f ws hs b (Taken n) b′ → (m p : ℕ) → Wrong m p → ⊥
+  accepted-none n b′ a m p w =
+      let t = taken-accepted s f ws hs b n b′ a in
+      order.accepted-none s f ws hs (shortest b) (t .given) m p (t .judged) w
+
+  -- 'Bad data gets the first refusal number that applies, with its place'
+  module _ (r : Refusal) (b′ : Buffers) (a : Answers s f ws hs b (Refused r) b′) where
+    pub refused-applies : Wrong (r .number) (r .place)
+    refused-applies =
+        judging.refused-applies s f ws hs (shortest b) (r .number) (r .place) (refused-judged s f ws hs b r b′ a)
+
+    pub lowest-number : (m q : ℕ) → Wrong m q → r .number ≤ m
+    lowest-number m q w =
+        order.lowest-number s f ws hs (shortest b) (r .number) (r .place) m q (refused-judged s f ws hs b r b′ a) w
+
+    pub lowest-place : (q : ℕ) → Wrong (r .number) (1 + q) → (1 ≤ r .place) × (r .place ≤ 1 + q)
+    lowest-place q w =
+        order.lowest-place s f ws hs (shortest b) (r .number) (r .place) q (refused-judged s f ws hs b r b′ a) w

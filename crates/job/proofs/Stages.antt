@@ -1,0 +1,49 @@
+-- What a job answers once its judgments have: the lines of `jobOf`.
+-- Assumes nothing.
+use mathlib.Core.Path.{_≡_, sym, ap, _∙_}
+use mathlib.Core.List.{List}
+use Prim.Native.Nat.{ℕ}
+use Rattle.whole.specs.Cells.{sum, laid}
+use Rattle.limits.specs.declared.frame.FrameValues.{FrameValues}
+use Rattle.limits.specs.declared.judging.Given.{Given}
+use Rattle.limits.specs.declared.refusal.Refusal.{Refusal}
+use Rattle.limits.specs.declared.site.SiteValues.{SiteValues}
+use Rattle.limits.specs.Judging.{judgedJob}
+use Rattle.limits.specs.Levels.{topHeight}
+use Rattle.limits.specs.Outcome.{Outcome, accepted, refused, _>>=_}
+use Rattle.base_shear.specs.declared.Figures.{Figures}
+use Rattle.base_shear.specs.Shears.{figuresOf}
+use Rattle.job.specs.declared.JobAnswer.the-variants.{Taken, Refused}
+use Rattle.job.specs.Job.{Results, resultsAt, resultsOf, jobOf, figuresOnly, Buffers, shortest, written, Answers}
+
+module _ (s : SiteValues) (f : FrameValues) (ws hs : List ℕ) (room : ℕ) where
+  pub job-refused : {n p : ℕ} → judgedJob s f ws hs room ≡ refused n p → jobOf s f ws hs room ≡ refused n p
+  unfolding jobOf
+  job-refused e = simp e
+
+  pub job-accepted : {g : Given} → judgedJob s f ws hs room ≡ accepted g → jobOf s f ws hs room ≡ accepted (resultsOf g ws hs)
+  unfolding jobOf
+  job-accepted e = simp e
+
+  module _ (b : Buffers) (short : room ≡ shortest b) where
+    pub refused-answers : (r : Refusal) → judgedJob s f ws hs room ≡ refused (r .number) (r .place) → Answers s f ws hs b (Refused r) b
+    refused-answers r e =
+        let o = ap (λ (n : ℕ). jobOf s f ws hs n) (sym short) ∙ job-refused e in
+        (sym (ap figuresOnly o), sym (ap (λ (x : Outcome Results). written x b) o))
+
+    -- what the storeys' code wrote, at the figures that it was handed
+    pub accepted-answers : (g : Given) (n : Figures) {ps us ms : List ℕ} → judgedJob s f ws hs room ≡ accepted g
+        → n ≡ figuresOf (g .site) (g .frame) (sum ws) (topHeight hs)
+        → us ≡ laid (resultsAt n ws hs .shears) (b .shears)
+        → ps ≡ laid (resultsAt n ws hs .forces) (b .forces)
+        → ms ≡ laid (resultsAt n ws hs .overturnings) (b .overturnings)
+        → Answers s f ws hs b (Taken n) (record { forces = ps; shears = us; overturnings = ms })
+    accepted-answers g n {ps} {us} {ms} e same eu ep em =
+        let o = ap (λ (n : ℕ). jobOf s f ws hs n) (sym short) ∙ job-accepted e in
+        let cells : record { forces = ps; shears = us; overturnings = ms } ≡ written (accepted (resultsAt n ws hs)) b
+        = λ i. record { forces = ep i; shears = eu i; overturnings = em i } in (
+          ap accepted same ∙ sym (ap figuresOnly o),
+          cells
+              ∙ ap (λ (m : Figures). written (accepted (resultsAt m ws hs)) b) same
+              ∙ sym (ap (λ (x : Outcome Results). written x b) o),
+        )

@@ -1,0 +1,108 @@
+-- `job::job` meets its contract. Assumes nothing.
+use borrow.Author.Needs.{needs}
+use mathlib.Core.Path.{sym, ap, subst, _∙_}
+use Prim.Native.Nat.{ℕ, min}
+use native.Mathlib.Omega.{arith}
+use lib.ListN.{length}
+use Rattle.limits.proofs.Accepted.{given-allowed}
+use Rattle.limits.proofs.Stages.{says}
+use Rattle.limits.specs.Judging.{givenOutcome}
+use Rattle.base_shear.specs.declared.Figures.{Figures}
+use Rattle.storeys.specs.Reach.{Load}
+use Rattle.job.proofs.Stages.{refused-answers, accepted-answers}
+use Rattle.job.proofs.Within.{load, standing}
+use Rattle.job.proofs.job.Statement.{statement}
+use Rattle.job.proofs.job.Tie as tie
+
+shorter-requires : tie.Need-shorter-requires
+shorter-requires c κs = search needs
+
+shorter-requires-2 : tie.Need-shorter-requires-2
+shorter-requires-2 c κs = search needs
+
+judged-requires : tie.Need-judged-requires
+judged-requires c κs = search needs
+
+enum-known-g : tie.Need-enum-known-g
+enum-known-g c = search needs
+
+enum-known-g-2 : tie.Need-enum-known-g-2
+enum-known-g-2 c = search needs
+
+enum-known-g-3 : tie.Need-enum-known-g-3
+enum-known-g-3 c = search needs
+
+enum-told : tie.Need-enum-told
+enum-told c = search needs
+
+none-requires : tie.Need-none-requires
+none-requires c κs = search needs
+
+returns : tie.Need-returns
+returns c = absurd (let b : ⊥ = search needs in b)
+
+returns-2 : tie.Need-returns-2
+returns-2 c =
+    let a = c .before .before .before .before .before .before .before .before .before .before .before .before .before .before .args in
+    let e = says givenOutcome (c .before .before .before .before .before .before .judged .ensures) (c .before .before .before .before .g2 .given .1 ∙ c .before .g3 .given .1) in
+    refused-answers (a .site) (a .frame) (a .weights .now) (a .heights .now) _ _ (c .before .before .before .before .before .before .before .shorter2 .ensures ∙ ap (λ (n : ℕ). min n (length (a .overturnings .now))) (c .before .before .before .before .before .before .before .before .shorter .ensures)) _ e
+
+given-figures-requires : tie.Need-given-figures-requires
+given-figures-requires c κs =
+    let a = c .before .before .before .before .before .before .before .before .before .before .before .args in
+    let e = says givenOutcome (c .before .before .before .judged .ensures) (c .before .g .given .1) in
+    given-allowed (a .site) (a .frame) (a .weights .now) (a .heights .now) _ (c .before .g .given .0 .0) e .0
+
+fill-storeys-requires : tie.Need-fill-storeys-requires
+fill-storeys-requires c κs =
+    let a = c .before .before .before .before .before .before .before .before .before .before .before .before .before .before .before .args in
+    let g = c .before .before .before .before .before .g .given .0 .0 in
+    let e = says givenOutcome (c .before .before .before .before .before .before .before .judged .ensures) (c .before .before .before .before .before .g .given .1) in
+    let all = given-allowed (a .site) (a .frame) (a .weights .now) (a .heights .now) _ g e in
+    let n = c .before .before .before .given-figures .ensures in
+    let short = c .before .before .before .before .before .before .before .before .shorter2 .ensures in
+    let shorter = c .before .before .before .before .before .before .before .before .before .shorter .ensures in (
+      subst (λ (n : Figures). Load (n .t) (n .vd)) (sym n) (load g (a .weights .now) (a .heights .now) (all .0)),
+      standing (a .weights .now) (a .heights .now) (all .0 .levels),
+      omega (arith, all .1),
+      omega (arith, all .1),
+      omega (arith, all .1),
+    )
+
+same-length : tie.Need-same-length
+same-length c = search needs
+
+same-length-2 : tie.Need-same-length-2
+same-length-2 c = search needs
+
+same-length-3 : tie.Need-same-length-3
+same-length-3 c = search needs
+
+returns-3 : tie.Need-returns-3
+returns-3 c =
+    let a = c .before .before .before .before .before .before .before .before .before .before .before .before .before .before .before .before .before .before .before .before .before .before .args in
+    let e = says givenOutcome (c .before .before .before .before .before .before .before .before .before .before .before .before .before .before .judged .ensures) (c .before .before .before .before .before .before .before .before .before .before .before .before .g .given .1) in
+    let short = c .before .before .before .before .before .before .before .before .before .before .before .before .before .before .before .shorter2 .ensures ∙ ap (λ (n : ℕ). min n (length (a .overturnings .now))) (c .before .before .before .before .before .before .before .before .before .before .before .before .before .before .before .before .shorter .ensures) in
+    let cells = c .before .before .before .before .before .before .fill-storeys .ensures in
+    accepted-answers (a .site) (a .frame) (a .weights .now) (a .heights .now) _ _ short _ _ e (c .before .before .before .before .before .before .before .before .before .before .given-figures .ensures) (cells .0) (cells .1) (cells .2)
+
+pub job-spec : {M : Type 1} → statement M
+job-spec =
+    tie.close
+    (tie.spec
+    shorter-requires
+    shorter-requires-2
+    judged-requires
+    enum-known-g
+    enum-known-g-2
+    enum-known-g-3
+    enum-told
+    none-requires
+    returns
+    returns-2
+    given-figures-requires
+    fill-storeys-requires
+    same-length
+    same-length-2
+    same-length-3
+    returns-3)

@@ -1,0 +1,79 @@
+-- The job: one building, one horizontal direction. Weights ws in kN and heights hs in dm, lowest level first.
+--   Results                    V, V_M, V*, V_D and T; per level, lowest first, force, shear and overturning
+--   resultsAt n ws hs          those of five figures: the storeys at V_D and T
+--   resultsOf g ws hs          those of a judged site and frame: W is the sum of the weights, h the last height
+--   jobOf s f ws hs room       the results, or the first refusal; room is the length of the shortest result buffer
+--   figuresOnly o              what is left of an outcome without the levels
+--   answerOutcome a            what the code's answer a says
+--   Buffers, shortest b        what three lent buffers hold, and the length of the shortest
+--   written o b                what they hold after: each level's cell written, the rest as it was; where data is refused, all as it was
+--   Figured s f ws hs a        a is the answer without buffers
+--   Answers s f ws hs b a b′   a is the answer, and b′ what the buffers hold that held b
+use mathlib.Core.Path.{_≡_}
+use mathlib.Core.List.{List}
+use Prim.Native.Nat.{ℕ, min}
+use lib.ListN.{length}
+use Rattle.whole.specs.Cells.{sum, laid}
+use Rattle.limits.specs.declared.frame.FrameValues.{FrameValues}
+use Rattle.limits.specs.declared.judging.Given.{Given}
+use Rattle.limits.specs.declared.site.SiteValues.{SiteValues}
+use Rattle.limits.specs.Judging.{judgedJob}
+use Rattle.limits.specs.Levels.{topHeight}
+use Rattle.limits.specs.Outcome.{Outcome, accepted, refused, values, _>>=_}
+use Rattle.base_shear.specs.declared.Figures.{Figures}
+use Rattle.base_shear.specs.Shears.{figuresOf}
+use Rattle.storeys.specs.Storeys.{shears, forces, overturnings}
+use Rattle.job.specs.declared.JobAnswer.{JobAnswer}
+use Rattle.job.specs.declared.JobAnswer.the-variants.{Taken, Refused}
+
+pub record Results : Type 0 where
+  pub figures : Figures
+  pub forces : List ℕ
+  pub shears : List ℕ
+  pub overturnings : List ℕ
+
+abbrev pub resultsAt : Figures → List ℕ → List ℕ → Results
+resultsAt n ws hs =
+    let us = shears (n .t) (n .vd) ws hs in
+    record { figures = n; forces = forces us; shears = us; overturnings = overturnings (forces us) hs }
+
+abbrev pub resultsOf : Given → List ℕ → List ℕ → Results
+resultsOf g ws hs = resultsAt (figuresOf (g .site) (g .frame) (sum ws) (topHeight hs)) ws hs
+
+unfoldable pub jobOf : SiteValues → FrameValues → List ℕ → List ℕ → ℕ → Outcome Results
+jobOf s f ws hs room = do
+  g ← judgedJob s f ws hs room
+  accepted (resultsOf g ws hs)
+
+abbrev pub figuresOnly : Outcome Results → Outcome Figures
+figuresOnly o = do
+  r ← o
+  accepted (r .figures)
+
+abbrev pub answerOutcome : JobAnswer → Outcome Figures
+answerOutcome (Taken n) = accepted n
+answerOutcome (Refused r) = refused (r .number) (r .place)
+
+pub record Buffers : Type 0 where
+  pub forces : List ℕ
+  pub shears : List ℕ
+  pub overturnings : List ℕ
+
+abbrev pub shortest : Buffers → ℕ
+shortest b = min (min (length (b .forces)) (length (b .shears))) (length (b .overturnings))
+
+abbrev pub written : Outcome Results → Buffers → Buffers
+written o b =
+    record {
+      forces = laid (values (λ r. r .forces) 0 o) (b .forces);
+      shears = laid (values (λ r. r .shears) 0 o) (b .shears);
+      overturnings = laid (values (λ r. r .overturnings) 0 o) (b .overturnings);
+    }
+
+abbrev pub Figured : SiteValues → FrameValues → List ℕ → List ℕ → JobAnswer → Type 0
+Figured s f ws hs a = answerOutcome a ≡ figuresOnly (jobOf s f ws hs (length ws))
+
+abbrev pub Answers : SiteValues → FrameValues → List ℕ → List ℕ → Buffers → JobAnswer → Buffers → Type 0
+Answers s f ws hs b a b′ =
+    let o = jobOf s f ws hs (shortest b) in
+    (answerOutcome a ≡ figuresOnly o) × (b′ ≡ written o b)

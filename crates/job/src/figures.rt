@@ -1,0 +1,67 @@
+// The five figures of a job.
+use crate::JobAnswer;
+use base_shear::Figures;
+use base_shear::base::base_figures;
+use limits::frame::FrameValues;
+use limits::judging::Given;
+use limits::judging::GivenAnswer;
+use limits::judging::judged;
+use limits::refusal::Refusal;
+use limits::site::SiteValues;
+ghost use mathlib.Core.Path.{_≡_};
+ghost use Rattle.whole.specs.Cells.{sum};
+ghost use Prim.Native.Nat.{_≤_, _<_};
+ghost use lib.ListN.{length};
+ghost use Rattle.limits.specs.Allowed.{AllowedGiven};
+ghost use Rattle.limits.specs.Levels.{topHeight};
+ghost use Rattle.base_shear.specs.Shears.{figuresOf};
+ghost use Rattle.job.specs.Job.{Figured};
+
+// W: the weights of all levels.
+pub fn total_weight(weights: &[u64]) -> u64
+    requires { ⌜ sum (now weights) ≤ 1_000_000 ⌝ }
+    ensures { λ r. ⌜ r ≡ sum (now (weights .entry)) ⌝ }
+{
+    let mut w = 0;
+    let mut i = 0;
+    while i < weights.len() {
+        w += weights[i];
+        i += 1;
+    }
+    w
+}
+
+// h: the last of the heights.
+pub fn top_height(heights: &[u64]) -> u64
+    requires { ⌜ 0 < length (now heights) ⌝ }
+    ensures { λ r. ⌜ r ≡ topHeight (now (heights .entry)) ⌝ }
+{
+    heights[heights.len() - 1]
+}
+
+// Those of a judged site and frame.
+pub fn given_figures(given: Given, weights: &[u64], heights: &[u64]) -> Figures
+    requires { ⌜ AllowedGiven given (now weights) (now heights) ⌝ }
+    ensures { λ r. ⌜ r ≡ figuresOf (given .site) (given .frame) (sum (now (weights .entry))) (topHeight (now (heights .entry))) ⌝ }
+{
+    base_figures(
+        given.site,
+        given.frame,
+        total_weight(weights),
+        top_height(heights),
+    )
+}
+
+// Those of unjudged values, with no buffer to write to.
+pub fn figures(site: SiteValues, frame: FrameValues, weights: &[u64], heights: &[u64]) -> JobAnswer
+    ensures { λ a. ⌜ Figured site frame (now (weights .entry)) (now (heights .entry)) a ⌝ }
+{
+    let g = judged(site, frame, weights, heights, weights.len());
+    let GivenAnswer::Taken(given) = g else {
+        let GivenAnswer::Refused(r) = g else {
+            return JobAnswer::Refused(Refusal::none());
+        };
+        return JobAnswer::Refused(r);
+    };
+    JobAnswer::Taken(given_figures(given, weights, heights))
+}

@@ -1,0 +1,55 @@
+// The single job call.
+use base_shear::Figures;
+use figures::given_figures;
+use limits::frame::FrameValues;
+use limits::judging::GivenAnswer;
+use limits::judging::judged;
+use limits::refusal::Refusal;
+use limits::site::SiteValues;
+use storeys::storey::fill_storeys;
+
+pub mod figures;
+
+ghost use mathlib.Core.Path.{_≡_};
+ghost use Prim.Native.Nat.{min};
+ghost use Rattle.job.specs.Job.{Answers};
+
+// What a job answers: V, V_M, V*, V_D and T, or why not.
+pub enum JobAnswer {
+    Taken(Figures),
+    Refused(Refusal),
+}
+
+fn shorter(a: usize, b: usize) -> usize
+    ensures { λ r. ⌜ r ≡ min a b ⌝ }
+{
+    if a <= b {
+        return a;
+    }
+    b
+}
+
+// The job: five figures or a refusal; a force, a shear and an overturning moment of each level in the lent buffers.
+pub fn job(
+    site: SiteValues,
+    frame: FrameValues,
+    weights: &[u64],
+    heights: &[u64],
+    forces: &mut [u64],
+    shears: &mut [u64],
+    overturnings: &mut [u64],
+) -> JobAnswer
+    ensures { λ a. ⌜ Answers site frame (now (weights .entry)) (now (heights .entry)) (record { forces = now (forces .entry); shears = now (shears .entry); overturnings = now (overturnings .entry) }) a (record { forces = now (forces .exit); shears = now (shears .exit); overturnings = now (overturnings .exit) }) ⌝ }
+{
+    let room = shorter(shorter(forces.len(), shears.len()), overturnings.len());
+    let g = judged(site, frame, weights, heights, room);
+    let GivenAnswer::Taken(given) = g else {
+        let GivenAnswer::Refused(r) = g else {
+            return JobAnswer::Refused(Refusal::none());
+        };
+        return JobAnswer::Refused(r);
+    };
+    let f = given_figures(given, weights, heights);
+    fill_storeys(f.t, f.vd, weights, heights, shears, forces, overturnings);
+    JobAnswer::Taken(f)
+}
