@@ -2,3 +2,4 @@ pub mod Examples
 pub mod Gathering
 pub mod Stages
 pub mod Listings
+pub mod Joining

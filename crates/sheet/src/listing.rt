@@ -1,11 +1,16 @@
 use base_shear::Figures;
+use job::JobAnswer;
+use job::job;
+use limits::frame::FrameValues;
 use limits::refusal::Refusal;
+use limits::site::SiteValues;
 use text::writing::put_line;
 ghost use mathlib.Core.Path.{_≡_};
 ghost use Prim.Native.Nat.{_+_, _≤_};
 ghost use lib.ListN.{length};
+ghost use Rattle.job.specs.Job.{jobOf};
 ghost use Rattle.text.specs.Writing.{spliced};
-ghost use Rattle.sheet.specs.Listing.{roofFirst, account, refusal, printed, Levelled};
+ghost use Rattle.sheet.specs.Listing.{roofFirst, account, refusal, listing, printed, Levelled};
 
 // The bytes of a listing, and how many there are. A base line has 110 at the most and a level line 90, with 20 digits a number: any
 // figures of 50 levels find room.
@@ -52,4 +57,31 @@ pub fn refusal_of(r: Refusal) -> Listing
     let numbers = [r.number, r.place];
     let length = put_line(&mut bytes, 0, b"refused", &numbers);
     Listing { bytes, length }
+}
+
+// The listing of a job of at most 50 levels.
+pub fn job_listing(site: SiteValues, frame: FrameValues, weights: &[u64], heights: &[u64]) -> Listing
+    requires { ⌜ length (now weights) ≤ 50 ⌝ }
+    ensures { λ l. ⌜ l ≡ printed (listing (jobOf site frame (now (weights .entry)) (now (heights .entry)) (length (now (weights .entry))))) ⌝ }
+{
+    let mut forces = [0; 50];
+    let mut shears = [0; 50];
+    let mut overturnings = [0; 50];
+    let a = job(
+        site,
+        frame,
+        weights,
+        heights,
+        &mut forces,
+        &mut shears,
+        &mut overturnings,
+    );
+    let JobAnswer::Taken(figures) = a else {
+        let JobAnswer::Refused(r) = a else {
+            return refusal_of(Refusal::none());
+        };
+        return refusal_of(r);
+    };
+    let n = weights.len();
+    account_of(figures, &forces[..n], &shears[..n], &overturnings[..n])
 }
