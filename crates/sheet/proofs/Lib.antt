@@ -3,3 +3,4 @@ pub mod Gathering
 pub mod Stages
 pub mod Listings
 pub mod Joining
+pub mod Held

@@ -1,116 +1,94 @@
+-- `sheet::sheet_listing` meets its contract. Assumes nothing.
 use borrow.Author.Needs.{needs}
+use mathlib.Core.Path.{_≡_, sym, ap, _∙_}
+use native.Mathlib.Omega.{arith}
+use Rattle.limits.specs.Levels.{counted}
+use Rattle.limits.specs.Outcome.{accepted, verdictOutcome}
+use Rattle.limits.proofs.Stages.{says}
+use Rattle.sheet.proofs.Held.{sheet-refused, count-refused, count-few, weights-room, heights-room, weights-length, heights-length, job-of-sheet}
+use Rattle.sheet.specs.Listing.{printed}
 use Rattle.sheet.proofs.sheet_listing.Statement.{statement}
 use Rattle.sheet.proofs.sheet_listing.Tie as tie
-use Rattle.sheet.proofs.sheet_listing.Reads as reads
-use Rattle.sheet.proofs.sheet_listing.Lts as lts
 use Rattle.limits.proofs.levels.counted.Reads as counted-reads
 use Rattle.limits.proofs.refusal.Refusal.none.Reads as none-reads
-use Rattle.sheet.proofs.listing.job_listing.Reads as job-listing-reads
-use Rattle.sheet.proofs.listing.refusal_of.Reads as refusal-of-reads
-use Rattle.sheet.proofs.reader.read_sheet.Reads as read-sheet-reads
 
--- src/lib.rt:23:9
 read-sheet-requires : tie.Need-read-sheet-requires
 read-sheet-requires c κs = search needs
 
--- src/lib.rt:25:28
 enum-known-a : tie.Need-enum-known-a
 enum-known-a c = search needs
 
--- src/lib.rt:26:13
 enum-known-a-2 : tie.Need-enum-known-a-2
 enum-known-a-2 c = search needs
 
--- src/lib.rt:26:34
 enum-known-a-3 : tie.Need-enum-known-a-3
 enum-known-a-3 c = search needs
 
--- src/lib.rt:27:31
 enum-told : tie.Need-enum-told
 enum-told c = search needs
 
--- src/lib.rt:27:31
 none-requires : tie.Need-none-requires
 none-requires c κs = search needs
 
--- src/lib.rt:27:13
 refusal-of-requires : tie.Need-refusal-of-requires
 refusal-of-requires c κs = search needs
 
--- src/lib.rt:27:13
 returns : tie.Need-returns
 returns c = search needs
 
--- src/lib.rt:29:9
 refusal-of-requires-2 : tie.Need-refusal-of-requires-2
 refusal-of-requires-2 c κs = search needs
 
--- src/lib.rt:29:9
 returns-2 : tie.Need-returns-2
-returns-2 c = ?
+returns-2 c = c .refusal-of2 .ensures ∙ ap printed (sheet-refused (c .before .before .before .before .before .before .before .before .before .args .s .now) _ (c .before .before .before .before .before .before .before .read-sheet .ensures) _ (c .before .before .before .before .before .a2 .given .1 ∙ c .before .before .a3 .given .1))
 
--- src/lib.rt:31:9
 counted-requires : tie.Need-counted-requires
 counted-requires c κs = search needs
 
 enum-told-2 : tie.Need-enum-told-2
 enum-told-2 c = search needs
 
--- src/lib.rt:33:13
 enum-known-count : tie.Need-enum-known-count
 enum-known-count c = search needs
 
--- src/lib.rt:33:30
 enum-known-count-2 : tie.Need-enum-known-count-2
 enum-known-count-2 c = search needs
 
--- src/lib.rt:34:31
 enum-told-3 : tie.Need-enum-told-3
 enum-told-3 c = search needs
 
--- src/lib.rt:34:31
 none-requires-2 : tie.Need-none-requires-2
 none-requires-2 c κs = search needs
 
--- src/lib.rt:34:13
 refusal-of-requires-3 : tie.Need-refusal-of-requires-3
 refusal-of-requires-3 c κs = search needs
 
--- src/lib.rt:34:13
 returns-3 : tie.Need-returns-3
 returns-3 c = search needs
 
--- src/lib.rt:36:9
 refusal-of-requires-4 : tie.Need-refusal-of-requires-4
 refusal-of-requires-4 c κs = search needs
 
--- src/lib.rt:36:9
 returns-4 : tie.Need-returns-4
-returns-4 c = ?
+returns-4 c = c .refusal-of4 .ensures ∙ ap printed (count-refused (c .before .before .before .before .before .before .before .before .before .before .before .before .before .args .s .now) _ (c .before .before .before .before .before .before .before .before .before .before .before .read-sheet .ensures) _ _ _ (c .before .before .before .before .before .before .before .before .before .a .given .1) _ _ (says verdictOutcome (c .before .before .before .before .before .before .before .counted .ensures) (c .before .before .before .before .before .count .given .1 ∙ c .before .before .count2 .given .1)))
 
--- src/lib.rt:40:30
 array-share-prefix-weights : tie.Need-array-share-prefix-weights
-array-share-prefix-weights c = ?
+array-share-prefix-weights c = weights-room (c .before .before .before .before .before .before .before .before .before .before .args .s .now) _ (c .before .before .before .before .before .before .before .before .read-sheet .ensures) _ _ _ (c .before .before .before .before .before .before .a .given .1) (says verdictOutcome (c .before .before .before .before .counted .ensures) (c .before .before .enum-told2 .given .1))
 
--- src/lib.rt:40:30
 slice-aggregate-job-listing : tie.Need-slice-aggregate-job-listing
-slice-aggregate-job-listing c = ?
+slice-aggregate-job-listing c = sym (weights-length (c .before .before .before .before .before .before .before .before .before .before .before .args .s .now) _ (c .before .before .before .before .before .before .before .before .before .read-sheet .ensures) _ _ _ (c .before .before .before .before .before .before .before .a .given .1) (says verdictOutcome (c .before .before .before .before .before .counted .ensures) (c .before .before .before .enum-told2 .given .1)))
 
--- src/lib.rt:40:50
 array-share-prefix-heights : tie.Need-array-share-prefix-heights
-array-share-prefix-heights c = ?
+array-share-prefix-heights c = heights-room (c .before .before .before .before .before .before .before .before .before .before .before .args .s .now) _ (c .before .before .before .before .before .before .before .before .before .read-sheet .ensures) _ _ _ (c .before .before .before .before .before .before .before .a .given .1) (says verdictOutcome (c .before .before .before .before .before .counted .ensures) (c .before .before .before .enum-told2 .given .1))
 
--- src/lib.rt:40:50
 slice-aggregate-job-listing-2 : tie.Need-slice-aggregate-job-listing-2
-slice-aggregate-job-listing-2 c = ?
+slice-aggregate-job-listing-2 c = sym (heights-length (c .before .before .before .before .before .before .before .before .before .before .before .before .args .s .now) _ (c .before .before .before .before .before .before .before .before .before .before .read-sheet .ensures) _ _ _ (c .before .before .before .before .before .before .before .before .a .given .1) (says verdictOutcome (c .before .before .before .before .before .before .counted .ensures) (c .before .before .before .before .enum-told2 .given .1)))
 
--- src/lib.rt:40:5
 job-listing-requires : tie.Need-job-listing-requires
-job-listing-requires c κs = ?
+job-listing-requires c κs = omega (arith, weights-length (c .before .before .before .before .before .before .before .before .before .before .before .before .args .s .now) _ (c .before .before .before .before .before .before .before .before .before .before .read-sheet .ensures) _ _ _ (c .before .before .before .before .before .before .before .before .a .given .1) (says verdictOutcome (c .before .before .before .before .before .before .counted .ensures) (c .before .before .before .before .enum-told2 .given .1)), count-few (c .before .before .before .before .before .before .before .before .before .before .before .before .args .s .now) _ (c .before .before .before .before .before .before .before .before .before .before .read-sheet .ensures) _ _ _ (c .before .before .before .before .before .before .before .before .a .given .1) (says verdictOutcome (c .before .before .before .before .before .before .counted .ensures) (c .before .before .before .before .enum-told2 .given .1)))
 
--- src/lib.rt:20:1
 returns-5 : tie.Need-returns-5
-returns-5 c = ?
+returns-5 c = c .job-listing .ensures ∙ ap printed (job-of-sheet (c .before .before .before .before .before .before .before .before .before .before .before .before .before .args .s .now) _ (c .before .before .before .before .before .before .before .before .before .before .before .read-sheet .ensures) _ _ _ (c .before .before .before .before .before .before .before .before .before .a .given .1) (says verdictOutcome (c .before .before .before .before .before .before .before .counted .ensures) (c .before .before .before .before .before .enum-told2 .given .1)))
 
 pub sheet-listing-spec : {M : Type 1} → statement M
 sheet-listing-spec =
