@@ -70,7 +70,7 @@ pub record Gathered (s : List ℕ) (from : ℕ) (weights heights : List ℕ) (n 
   pub enough : length s - at < left
   pub whole : levelLines 3 (drop from s) ≡ joined before (linesFrom left (3 + n) (drop at s))
 
-joined-none : (o : Outcome Levels) → joined none o ≡ o
+pub joined-none : (o : Outcome Levels) → joined none o ≡ o
 unfolding joined
 joined-none (accepted ls) = refl
 joined-none (refused n p) = refl

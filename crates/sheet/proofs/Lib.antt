@@ -4,3 +4,5 @@ pub mod Stages
 pub mod Listings
 pub mod Joining
 pub mod Held
+pub mod Length
+pub mod LaidRead
