@@ -6,3 +6,5 @@ pub mod Joining
 pub mod Held
 pub mod Length
 pub mod LaidRead
+pub mod Unique
+pub mod Listable

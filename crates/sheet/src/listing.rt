@@ -20,7 +20,13 @@ pub struct Listing {
 }
 
 // Writes a line for each level from `at` on, roof first, and returns the place after them.
-pub fn put_levels(out: &mut [u8], at: usize, forces: &[u64], shears: &[u64], overturnings: &[u64]) -> usize
+pub fn put_levels(
+    out: &mut [u8],
+    at: usize,
+    forces: &[u64],
+    shears: &[u64],
+    overturnings: &[u64],
+) -> usize
     requires { ⌜ Levelled (now forces) (now shears) (now overturnings) ⌝ }
     requires { ⌜ at + length (roofFirst (now forces) (now shears) (now overturnings) (length (now forces))) ≤ length (now out) ⌝ }
     ensures { λ r. ⌜ r ≡ at + length (roofFirst (now (forces .entry)) (now (shears .entry)) (now (overturnings .entry)) (length (now (forces .entry)))) ⌝ }
@@ -60,7 +66,12 @@ pub fn refusal_of(r: Refusal) -> Listing
 }
 
 // The listing of a job of at most 50 levels.
-pub fn job_listing(site: SiteValues, frame: FrameValues, weights: &[u64], heights: &[u64]) -> Listing
+pub fn job_listing(
+    site: SiteValues,
+    frame: FrameValues,
+    weights: &[u64],
+    heights: &[u64],
+) -> Listing
     requires { ⌜ length (now weights) ≤ 50 ⌝ }
     ensures { λ l. ⌜ l ≡ printed (listing (jobOf site frame (now (weights .entry)) (now (heights .entry)) (length (now (weights .entry))))) ⌝ }
 {

@@ -1,28 +1,24 @@
+-- `shear::print` is safe: the bytes of a listing are among those that `sheet_listing` hands on. Assumes nothing.
 use borrow.Author.Needs.{needs}
+use mathlib.Core.Path.{_≡_, sym}
+use lib.Seq.{length-take-le}
+use Rattle.sheet.proofs.Length.{listing-part}
 use Rattle.shear.proofs.print.Statement.{statement}
 use Rattle.shear.proofs.print.Tie as tie
-use Rattle.shear.proofs.print.Reads as reads
-use Rattle.shear.proofs.print.Lts as lts
-use Rattle.io.proofs.write_all.Reads as write-all-reads
-use Rattle.sheet.proofs.sheet_listing.Reads as sheet-listing-reads
 
--- src/main.rt:7:9
 sheet-listing-requires : tie.Need-sheet-listing-requires
 sheet-listing-requires c κs = search needs
 
--- src/main.rt:10:34
 array-share-prefix-bytes : tie.Need-array-share-prefix-bytes
-array-share-prefix-bytes c = ?
+array-share-prefix-bytes c = listing-part _ _ (c .before .sheet-listing .ensures) .0
 
--- src/main.rt:10:34
 slice-aggregate-write-all : tie.Need-slice-aggregate-write-all
-slice-aggregate-write-all c = ?
+slice-aggregate-write-all c =
+    sym (length-take-le _ _ (listing-part _ _ (c .before .before .sheet-listing .ensures) .0))
 
--- src/main.rt:10:5
 write-all-requires : tie.Need-write-all-requires
 write-all-requires c κs = search needs
 
--- src/main.rt:6:1
 returns : tie.Need-returns
 returns c = search needs
 
