@@ -9,4 +9,16 @@ impl Sheet {
     pub const DIGITS_FEWEST: u64 = 1;
 
     pub const DIGITS_MOST: u64 = 9;
+    // Line 1 is `site`.
+    pub const SITE_LINE: u64 = 1;
+
+    pub const SITE_NUMBERS: usize = 7;
+    // Line 2 is `frame`.
+    pub const FRAME_LINE: u64 = 2;
+
+    pub const FRAME_NUMBERS: usize = 5;
+    // All later lines are `level`.
+    pub const LEVEL_LINE: u64 = 3;
+
+    pub const LEVEL_NUMBERS: usize = 2;
 }

@@ -1,0 +1,30 @@
+-- The definitions, run on document 01's sheet and on some that are otherwise.
+-- Assumes nothing.
+use mathlib.Core.Path.{_≡_, refl}
+use mathlib.Core.List.{List, [], _∷_, _++_}
+use Prim.Native.Nat.{ℕ}
+use lib.ListN.{length}
+use Rattle.limits.specs.Outcome.{Outcome, accepted, refused}
+use Rattle.limits.specs.Ranges.{inRange}
+use Rattle.text.specs.Bytes.{bytes}
+use Rattle.text.specs.Line.{field, fields, line}
+use Rattle.text.specs.Number.{digits, valueFrom, wellMade, number}
+use Rattle.text.specs.Reading.{starts, word}
+use Rattle.sheet.specs.Reading.{lineAt, linesFrom, SheetRead, readLines, readSheet}
+
+abbrev office : List ℕ
+office = bytes "site\t80\t45\t100\t55\t100\t100\t1\nframe\t2\t1000\t480\t100\t150\nlevel\t5000\t100\nlevel\t5000\t200\nlevel\t5000\t300\n"
+
+pub office-read : readSheet office ≡ accepted (record {
+  site = record { ssd = 80; s1d = 45; ssm = 100; s1m = 55; na = 100; nv = 100; class = 1 };
+  frame = record { kind = 2; calculated = 1_000; r = 480; i = 100; alpha = 150 };
+  weights = 5_000 ∷ 5_000 ∷ 5_000 ∷ [];
+  heights = 100 ∷ 200 ∷ 300 ∷ [];
+})
+unfolding readSheet readLines lineAt linesFrom line fields field word starts number digits wellMade inRange valueFrom
+office-read = refl
+
+pub otherwise-read : (readSheet [] ≡ refused 16 1) × (readSheet (bytes "site\t80\t45\t100\t55\t100\t100\t1\n") ≡ refused 16 2)
+    × (readSheet (office ++ bytes "\n") ≡ refused 16 6)
+unfolding readSheet readLines lineAt linesFrom line fields field word starts number digits wellMade inRange valueFrom
+otherwise-read = (refl, refl, refl)

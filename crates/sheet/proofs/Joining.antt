@@ -1,0 +1,60 @@
+-- The job of a sheet's numbers, called with buffers of 50 cells: what its answer says of the listing.
+-- Assumes nothing.
+use mathlib.Core.Path.{_≡_, refl, sym, ap, _∙_}
+use mathlib.Core.List.{List}
+use Prim.Native.Nat.{ℕ, _≤_}
+use native.Mathlib.Nat.{le-refl}
+use native.Mathlib.Omega.{arith}
+use lib.ListN.{length, take}
+use Rattle.limits.specs.declared.frame.FrameValues.{FrameValues}
+use Rattle.limits.specs.declared.judging.Given.{Given}
+use Rattle.limits.specs.declared.refusal.Refusal.{Refusal}
+use Rattle.limits.specs.declared.site.SiteValues.{SiteValues}
+use Rattle.limits.specs.Judging.{judgedJob}
+use Rattle.limits.specs.Outcome.{Outcome, accepted, refused, zeros}
+use Rattle.limits.proofs.Room.{room-enough}
+use Rattle.base_shear.specs.declared.Figures.{Figures}
+use Rattle.job.specs.declared.JobAnswer.the-variants.{Taken, Refused}
+use Rattle.job.specs.Job.{Results, resultsAt, jobOf, Buffers, Answers}
+use Rattle.job.proofs.Answered.{taken-accepted, refused-judged}
+use Rattle.job.proofs.Independent.{forces-cells, shears-cells, overturnings-cells, taken-written}
+use Rattle.job.proofs.Stages.{job-refused, job-accepted}
+use Rattle.sheet.specs.Listing.{account, refusal, listing, Levelled}
+
+abbrev pub lent : Buffers
+lent = record { forces = zeros 50; shears = zeros 50; overturnings = zeros 50 }
+
+module _ (s : SiteValues) (f : FrameValues) (ws hs : List ℕ) (few : length ws ≤ 50) where
+  room : judgedJob s f ws hs (length ws) ≡ judgedJob s f ws hs 50
+  room = room-enough s f ws hs (length ws) 50 (le-refl (length ws)) few
+
+  pub refused-listing : (r : Refusal) (b′ : Buffers) → Answers s f ws hs lent (Refused r) b′
+      → refusal (r .number) (r .place) ≡ listing (jobOf s f ws hs (length ws))
+  unfolding listing
+  refused-listing r b′ a =
+      sym (ap listing (job-refused s f ws hs (length ws) (room ∙ refused-judged s f ws hs lent r b′ a)))
+
+  module _ (n : Figures) (b′ : Buffers) (a : Answers s f ws hs lent (Taken n) b′) where
+    -- the cells of the levels, and how many they are
+    pub forces-cut : length (take (length ws) (b′ .forces)) ≡ length ws
+    forces-cut = ap length (taken-written s f ws hs lent n b′ a .forces) ∙ forces-cells n ws hs
+
+    pub shears-cut : length (take (length ws) (b′ .shears)) ≡ length ws
+    shears-cut = ap length (taken-written s f ws hs lent n b′ a .shears) ∙ shears-cells n ws hs
+
+    pub overturnings-cut : length (take (length ws) (b′ .overturnings)) ≡ length ws
+    overturnings-cut = ap length (taken-written s f ws hs lent n b′ a .overturnings) ∙ overturnings-cells n ws hs
+
+    pub cut-levelled : Levelled (take (length ws) (b′ .forces)) (take (length ws) (b′ .shears)) (take (length ws) (b′ .overturnings))
+    cut-levelled =
+        record { shears = shears-cut ∙ sym forces-cut; moments = overturnings-cut ∙ sym forces-cut; few = omega (arith, forces-cut) }
+
+    pub taken-listing : account n (take (length ws) (b′ .forces)) (take (length ws) (b′ .shears)) (take (length ws) (b′ .overturnings))
+        ≡ listing (jobOf s f ws hs (length ws))
+    unfolding listing
+    taken-listing =
+        let w = taken-written s f ws hs lent n b′ a in
+        let t = taken-accepted s f ws hs lent n b′ a in
+        rw (w .forces, w .shears, w .overturnings)
+        (ap (λ (m : Figures). listing (accepted (resultsAt m ws hs))) (t .figures)
+        ∙ sym (ap listing (job-accepted s f ws hs (length ws) (room ∙ t .judged))))

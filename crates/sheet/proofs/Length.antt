@@ -1,0 +1,62 @@
+-- No listing has over 4,610 bytes, whatever the sheet; what the code hands on says how many of its cells are the listing.
+-- Assumes nothing.
+use mathlib.Core.Path.{_≡_, refl, sym, ap, _∙_}
+use mathlib.Core.List.{List, _++_}
+use Prim.Native.Nat.{ℕ, _≤_}
+use native.Mathlib.Omega.{arith}
+use lib.ListN.{length, take, length-append}
+use Rattle.whole.proofs.Cells.{laid-part}
+use Rattle.limits.specs.declared.judging.Given.{Given}
+use Rattle.limits.specs.Judging.{judgedJob}
+use Rattle.limits.specs.Outcome.{Outcome, accepted, refused, zeros, _>>=_}
+use Rattle.limits.proofs.Accepted.{given-allowed}
+use Rattle.base_shear.specs.declared.Figures.{Figures}
+use Rattle.job.specs.Job.{Results, resultsAt, resultsOf}
+use Rattle.job.proofs.Independent.{forces-cells, shears-cells, overturnings-cells}
+use Rattle.job.proofs.Stages.{job-refused, job-accepted}
+use Rattle.sheet.proofs.Listings.{baseLine, account-room, refusal-room}
+use Rattle.sheet.specs.declared.listing.Listing.{Listing}
+use Rattle.sheet.specs.Listing.{roofFirst, account, listing, jobOfSheet, sheetListing, printed, Levelled}
+use Rattle.sheet.specs.Reading.{SheetRead, readSheet}
+
+account-short : (n : Figures) (fs us ms : List ℕ) → Levelled fs us ms → length (account n fs us ms) ≤ 4_610
+unfolding account
+account-short n fs us ms l =
+    omega (arith, length-append (baseLine fs us ms n) (roofFirst fs us ms (length fs)), account-room fs us ms n l)
+
+results-short : (n : Figures) (ws hs : List ℕ) → length ws ≤ 50 → length (listing (accepted (resultsAt n ws hs))) ≤ 4_610
+unfolding listing
+results-short n ws hs few =
+    let r = resultsAt n ws hs in
+    let same = forces-cells n ws hs in
+    account-short n (r .forces) (r .shears) (r .overturnings)
+    (record { shears = shears-cells n ws hs ∙ sym same; moments = overturnings-cells n ws hs ∙ sym same; few = omega (arith, same) })
+
+refused-short : (n p : ℕ) → length (listing (refused n p)) ≤ 4_610
+unfolding listing
+refused-short n p = refusal-room n p
+
+job-short : (r : SheetRead) → length (listing (jobOfSheet r)) ≤ 4_610
+job-short r = go (judgedJob (r .site) (r .frame) (r .weights) (r .heights) (length (r .weights))) refl
+  where
+    go : (o : Outcome Given) → judgedJob (r .site) (r .frame) (r .weights) (r .heights) (length (r .weights)) ≡ o
+        → length (listing (jobOfSheet r)) ≤ 4_610
+    go (accepted g) e =
+        let few = given-allowed (r .site) (r .frame) (r .weights) (r .heights) (length (r .weights)) g e .0 .levels .few in
+        rw (job-accepted (r .site) (r .frame) (r .weights) (r .heights) (length (r .weights)) e) (results-short _ (r .weights) (r .heights) few)
+    go (refused n p) e =
+        rw (job-refused (r .site) (r .frame) (r .weights) (r .heights) (length (r .weights)) e) (refused-short n p)
+
+pub listing-short : (s : List ℕ) → length (sheetListing s) ≤ 4_610
+unfolding sheetListing
+listing-short s = go (readSheet s)
+  where
+    go : (o : Outcome SheetRead) → length (listing (o >>= jobOfSheet)) ≤ 4_610
+    go (accepted r) = job-short r
+    go (refused n p) = refused-short n p
+
+pub listing-part : (s : List ℕ) (l : Listing) → l ≡ printed (sheetListing s)
+    → (l .length ≤ length (l .bytes)) × (take (l .length) (l .bytes) ≡ sheetListing s)
+unfolding printed
+listing-part s l e =
+    rw e (simp length-append (omega arith), laid-part (sheetListing s) (zeros 4_610) (length (sheetListing s)) refl)

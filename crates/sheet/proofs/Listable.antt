@@ -1,0 +1,32 @@
+-- A sheet that is laid out as the document says gets what the job gives of its numbers; and a listing, where no refusal applies to them.
+-- Assumes nothing.
+use mathlib.Core.Path.{_≡_, ap, _∙_}
+use Prim.Native.Nat.{ℕ}
+use lib.ListN.{length}
+use Rattle.limits.specs.declared.judging.Given.{Given}
+use Rattle.limits.specs.Applies.{Applies}
+use Rattle.limits.specs.Judging.{judgedJob}
+use Rattle.limits.specs.Outcome.{Outcome, accepted, _>>=_}
+use Rattle.limits.proofs.Refusing.{accepted-unless-refused}
+use Rattle.job.specs.Job.{Results, resultsOf}
+use Rattle.job.proofs.Stages.{job-accepted}
+use Rattle.sheet.proofs.LaidRead.{laid-read}
+use Rattle.sheet.specs.Layout.{sheetLaid, Laid}
+use Rattle.sheet.specs.Listing.{listing, jobOfSheet, sheetListing}
+use Rattle.sheet.specs.Reading.{SheetRead}
+
+module _ (r : SheetRead) where
+  -- refusal n applies to the numbers, at place p
+  abbrev pub Wrong : ℕ → ℕ → Type 0
+  Wrong = Applies (r .site) (r .frame) (r .weights) (r .heights) (length (r .weights))
+
+  pub laid-job : Laid r → sheetListing (sheetLaid r) ≡ listing (jobOfSheet r)
+  unfolding sheetListing
+  laid-job l = ap (λ (o : Outcome SheetRead). listing (o >>= jobOfSheet)) (laid-read r l)
+
+  pub laid-listed : Laid r → ((n p : ℕ) → Wrong n p → ⊥)
+      → (g : Given) × (judgedJob (r .site) (r .frame) (r .weights) (r .heights) (length (r .weights)) ≡ accepted g)
+      × (sheetListing (sheetLaid r) ≡ listing (accepted (resultsOf g (r .weights) (r .heights))))
+  laid-listed l none =
+      let j = accepted-unless-refused (r .site) (r .frame) (r .weights) (r .heights) (length (r .weights)) none in
+      (j .0, j .1, laid-job l ∙ ap listing (job-accepted (r .site) (r .frame) (r .weights) (r .heights) (length (r .weights)) (j .1)))

@@ -1,0 +1,88 @@
+-- The lines of a listing, written one after the other, and how long they are.
+-- Assumes nothing.
+use mathlib.Core.Path.{_≡_, refl, sym, ap, ap₂, _∙_}
+use mathlib.Core.List.{List, [], _∷_, _++_, append-assoc, append-nil}
+use Prim.Native.Nat.{ℕ, zero, suc, _+_, _-_, _*_, _≤_, _<_}
+use native.Mathlib.Nat.{zero-add}
+use native.Mathlib.Omega.{arith}
+use lib.ListN.{length, getD, drop, length-append}
+use Rattle.limits.specs.Outcome.{zeros}
+use Rattle.base_shear.specs.declared.Figures.{Figures}
+use Rattle.text.specs.Bytes.{bytes}
+use Rattle.text.specs.Writing.{laidOut, spliced}
+use Rattle.text.proofs.Fields.{line-most}
+use Rattle.text.proofs.Spliced.{Wrote, wrote, wrote-none, wrote-more}
+use Rattle.sheet.specs.declared.listing.Listing.{Listing}
+use Rattle.sheet.specs.Listing.{roofFirst, account, refusal, printed, Levelled}
+
+-- ---- how long: 20 digits a number at the most
+module _ (fs us ms : List ℕ) where
+  abbrev pub levelLine : ℕ → ℕ → List ℕ
+  levelLine n x = laidOut (bytes "level") (n ∷ getD fs x 0 ∷ getD us x 0 ∷ getD ms x 0 ∷ [])
+
+  roof-most : (x : ℕ) → length (roofFirst fs us ms x) ≤ 90 * x
+  unfolding roofFirst
+  roof-most zero = omega arith
+  roof-most (suc x) =
+      simp length-append (omega (arith, roof-most x, line-most (bytes "level") (suc x ∷ getD fs x 0 ∷ getD us x 0 ∷ getD ms x 0 ∷ [])))
+
+  roof-next : (n x : ℕ) → n ≡ suc x → roofFirst fs us ms n ≡ levelLine n x ++ roofFirst fs us ms x
+  unfolding roofFirst
+  roof-next n x e = rw e
+
+  -- ---- the levels from the roof down to level x + 1 are written, and with those below they are all
+  pub record Listed (old : List ℕ) (at : ℕ) (held : List ℕ) (p x : ℕ) : Type 0 where
+    pub done : List ℕ
+    pub lines : Wrote old at done held p
+    pub all : done ++ roofFirst fs us ms x ≡ roofFirst fs us ms (length fs)
+    pub under : x ≤ length fs
+
+  pub listed-none : (old : List ℕ) (at : ℕ) → Listed old at old at (length fs)
+  listed-none old at = record { done = []; lines = wrote-none old at; all = refl; under = omega arith }
+
+  module _ {old : List ℕ} {at : ℕ} {held : List ℕ} {p n : ℕ} (l : Listed old at held p n)
+      (room : at + length (roofFirst fs us ms (length fs)) ≤ length old) where
+    sum : length (l .done) + length (roofFirst fs us ms n) ≡ length (roofFirst fs us ms (length fs))
+    sum = sym (length-append (l .done) (roofFirst fs us ms n)) ∙ ap length (l .all)
+
+    pub listed-all : n ≡ 0 → (p ≡ at + length (roofFirst fs us ms (length fs))) × (held ≡ spliced old at (roofFirst fs us ms (length fs)))
+    unfolding roofFirst
+    listed-all e =
+        let same : l .done ≡ roofFirst fs us ms (length fs) = sym (append-nil (l .done)) ∙ rw e at (l .all) in
+        rw (← same) (l .lines .end, l .lines .holds)
+
+    module _ (x : ℕ) (e : n ≡ suc x) where
+      parts : length (roofFirst fs us ms n) ≡ length (levelLine n x) + length (roofFirst fs us ms x)
+      parts = ap length (roof-next n x e) ∙ length-append (levelLine n x) (roofFirst fs us ms x)
+
+      pub listed-room : p + length (levelLine n x) ≤ length held
+      listed-room = omega (arith, l .lines, sum, parts)
+
+      pub listed-more : {held′ : List ℕ} {p′ : ℕ} → p′ ≡ p + length (levelLine n x) → held′ ≡ spliced held p (levelLine n x) → Listed old at held′ p′ x
+      listed-more ep eh =
+          record {
+            done = l .done ++ levelLine n x;
+            lines = wrote-more (l .lines) (wrote _ _ _ _ _ listed-room eh ep) (omega (arith, sum, parts));
+            all = append-assoc (l .done) (levelLine n x) (roofFirst fs us ms x) ∙ ap (λ (z : List ℕ). l .done ++ z) (sym (roof-next n x e)) ∙ l .all;
+            under = omega (arith, l .under);
+          }
+
+  -- ---- the whole: what the code's array has room for
+  abbrev pub baseLine : Figures → List ℕ
+  baseLine n = laidOut (bytes "base") (n .v ∷ n .vm ∷ n .star ∷ n .vd ∷ n .t ∷ [])
+
+  pub account-room : (n : Figures) → Levelled fs us ms → length (baseLine n) + length (roofFirst fs us ms (length fs)) ≤ 4_610
+  account-room n l =
+      omega (arith, line-most (bytes "base") (n .v ∷ n .vm ∷ n .star ∷ n .vd ∷ n .t ∷ []), roof-most (length fs), l .few)
+
+pub refusal-room : (n p : ℕ) → length (refusal n p) ≤ 4_610
+unfolding refusal
+refusal-room n p = omega (arith, line-most (bytes "refused") (n ∷ p ∷ []))
+
+-- ---- an array of zeros that was written from its first cell on
+pub printed-is : {l held : List ℕ} {p : ℕ} → Wrote (zeros 4_610) 0 l held p → record { bytes = held; length = p } ≡ printed l
+unfolding printed spliced
+printed-is {l} {held} {p} w =
+    ap₂ (λ (b : List ℕ) (n : ℕ). record { bytes = b; length = n })
+    (w .holds ∙ ap (λ (k : ℕ). l ++ drop k (zeros 4_610)) (zero-add (length l)))
+    (w .end ∙ zero-add (length l))

@@ -1,0 +1,19 @@
+-- No second outcome meets the contract of `sheet_listing`: every cell that it hands on, and how many are the listing, are determined.
+-- So are those of `read_sheet` and of every function inside, whose contracts say 'the result is what the definition gives': by
+-- `determined` of `whole`.
+-- Assumes nothing.
+use mathlib.Core.Path.{_≡_}
+use mathlib.Core.List.{List}
+use Prim.Native.Nat.{ℕ}
+use Rattle.whole.proofs.Unique.{determined}
+use Rattle.sheet.specs.declared.listing.Listing.{Listing}
+use Rattle.sheet.specs.declared.reader.SheetRead.{SheetRead}
+use Rattle.sheet.specs.Listing.{sheetListing, printed}
+use Rattle.sheet.specs.Reading.{readSheet, sheetRead}
+
+module _ (s : List ℕ) where
+  pub one-listing : {l l′ : Listing} → l ≡ printed (sheetListing s) → l′ ≡ printed (sheetListing s) → l ≡ l′
+  one-listing p q = determined p q
+
+  pub one-reading : {r r′ : SheetRead} → r ≡ sheetRead (readSheet s) → r′ ≡ sheetRead (readSheet s) → r ≡ r′
+  one-reading p q = determined p q

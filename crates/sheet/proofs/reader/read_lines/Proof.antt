@@ -1,0 +1,126 @@
+-- `sheet::reader::read_lines` meets its contract: the stages of the code are the lines of `readLines`. Assumes nothing.
+use borrow.Author.Needs.{needs}
+use mathlib.Core.Path.{sym, ap, _∙_}
+use Rattle.text.proofs.Readings.{line-missed, line-went}
+use Rattle.sheet.proofs.Stages.{levels-refused, levels-taken, lines-first, lines-second, lines-later, lines-all}
+use Rattle.sheet.specs.Reading.{sheetRead}
+use Rattle.sheet.proofs.reader.read_lines.Statement.{statement}
+use Rattle.sheet.proofs.reader.read_lines.Tie as tie
+use Rattle.text.proofs.line.line.Reads as line-reads
+
+slice-aggregate-line : tie.Need-slice-aggregate-line
+slice-aggregate-line c = search needs
+
+line-requires : tie.Need-line-requires
+line-requires c κs = search needs
+
+enum-known-a : tie.Need-enum-known-a
+enum-known-a c = search needs
+
+enum-told : tie.Need-enum-told
+enum-told c = search needs
+
+stopped-requires : tie.Need-stopped-requires
+stopped-requires c κs = search needs
+
+returns : tie.Need-returns
+returns c =
+    c .stopped .ensures
+    ∙ ap sheetRead (sym (lines-first (c .before .before .before .before .before .before .args .s .now) (line-missed (record { at = 0 }) _ _ (c .before .before .before .line .ensures) (c .before .enum-told .given .1))))
+
+slice-aggregate-line-2 : tie.Need-slice-aggregate-line-2
+slice-aggregate-line-2 c = search needs
+
+line-requires-2 : tie.Need-line-requires-2
+line-requires-2 c κs = search needs
+
+enum-known-b : tie.Need-enum-known-b
+enum-known-b c = search needs
+
+enum-told-2 : tie.Need-enum-told-2
+enum-told-2 c = search needs
+
+stopped-requires-2 : tie.Need-stopped-requires-2
+stopped-requires-2 c κs = search needs
+
+returns-2 : tie.Need-returns-2
+returns-2 c =
+    let s = c .before .before .before .before .before .before .before .before .before .before .before .args .s .now in
+    let first = line-went (record { at = 0 }) _ _ _ (c .before .before .before .before .before .before .before .before .line .ensures) (c .before .before .before .before .before .before .a .given .1) in
+    c .stopped2 .ensures
+    ∙ ap sheetRead (sym (lines-second s first (line-missed (c .before .before .before .before .before .before .a .given .0 .0) _ _ (c .before .before .before .line2 .ensures) (c .before .enum-told2 .given .1))))
+
+level-lines-requires : tie.Need-level-lines-requires
+level-lines-requires c κs = search needs
+
+enum-known-l : tie.Need-enum-known-l
+enum-known-l c = search needs
+
+enum-known-l-2 : tie.Need-enum-known-l-2
+enum-known-l-2 c = search needs
+
+enum-known-l-3 : tie.Need-enum-known-l-3
+enum-known-l-3 c = search needs
+
+enum-told-3 : tie.Need-enum-told-3
+enum-told-3 c = search needs
+
+stopped-requires-3 : tie.Need-stopped-requires-3
+stopped-requires-3 c κs = search needs
+
+returns-3 : tie.Need-returns-3
+returns-3 c = search needs
+
+stopped-requires-4 : tie.Need-stopped-requires-4
+stopped-requires-4 c κs = search needs
+
+returns-4 : tie.Need-returns-4
+returns-4 c =
+    let s = c .before .before .before .before .before .before .before .before .before .before .before .before .before .before .before .before .before .before .before .args .s .now in
+    let first = line-went (record { at = 0 }) _ _ _ (c .before .before .before .before .before .before .before .before .before .before .before .before .before .before .before .before .line .ensures) (c .before .before .before .before .before .before .before .before .before .before .before .before .before .before .a .given .1) in
+    let middle = line-went (c .before .before .before .before .before .before .before .before .before .before .before .before .before .before .a .given .0 .0) _ _ _ (c .before .before .before .before .before .before .before .before .before .before .before .line2 .ensures) (c .before .before .before .before .before .before .before .before .before .b .given .1) in
+    let later = levels-refused _ _ _ (c .before .before .before .before .before .before .before .level-lines .ensures) (c .before .before .before .before .before .l2 .given .1 ∙ c .before .before .l3 .given .1) in
+    c .stopped4 .ensures ∙ ap sheetRead (sym (lines-later s first middle _ _ later))
+
+site-values-requires : tie.Need-site-values-requires
+site-values-requires c κs = search needs
+
+frame-values-requires : tie.Need-frame-values-requires
+frame-values-requires c κs = search needs
+
+returns-5 : tie.Need-returns-5
+returns-5 c =
+    let s = c .before .before .before .before .before .before .before .before .before .before .before .before .before .before .before .before .before .before .before .before .before .args .s .now in
+    let first = line-went (record { at = 0 }) _ _ _ (c .before .before .before .before .before .before .before .before .before .before .before .before .before .before .before .before .before .before .line .ensures) (c .before .before .before .before .before .before .before .before .before .before .before .before .before .before .before .before .a .given .1) in
+    let middle = line-went (c .before .before .before .before .before .before .before .before .before .before .before .before .before .before .before .before .a .given .0 .0) _ _ _ (c .before .before .before .before .before .before .before .before .before .before .before .before .before .line2 .ensures) (c .before .before .before .before .before .before .before .before .before .before .before .b .given .1) in
+    let last = levels-taken _ _ _ (c .before .before .before .before .before .before .before .before .before .level-lines .ensures) (c .before .before .before .before .before .before .before .l .given .1) in
+    lines-all s first middle last (c .before .site-values .ensures) (c .frame-values .ensures)
+
+pub read-lines-spec : {M : Type 1} → statement M
+read-lines-spec =
+    tie.close
+    (tie.spec
+    slice-aggregate-line
+    line-requires
+    enum-known-a
+    enum-told
+    stopped-requires
+    returns
+    slice-aggregate-line-2
+    line-requires-2
+    enum-known-b
+    enum-told-2
+    stopped-requires-2
+    returns-2
+    level-lines-requires
+    enum-known-l
+    enum-known-l-2
+    enum-known-l-3
+    enum-told-3
+    stopped-requires-3
+    returns-3
+    stopped-requires-4
+    returns-4
+    site-values-requires
+    frame-values-requires
+    returns-5)

@@ -1,0 +1,52 @@
+-- 'Sheet and listing': what is printed.
+--   roofFirst fs us ms x      the lines of the x lowest levels, roof first: number, force, shear, overturning
+--   account n fs us ms        the base line V, V_M, V*, V_D, T and a line for each level, of figures n, forces fs, shears us and
+--                             overturning moments ms, each lowest level first
+--   refusal n p               'A refusal prints one line: `refused`, number, place'
+--   listing o                 what is printed for a job's outcome
+--   jobOfSheet r              the job of what a sheet holds
+--   sheetListing bytes        what is printed for a sheet: 17, then 16, precede everything that a job judges
+--   printed l                 the bytes l as the code hands them on: in the first of 4,610 cells, and how many there are
+--   Levelled fs us ms         as many shears and moments as forces, and not over 50
+use mathlib.Core.Path.{_≡_}
+use mathlib.Core.List.{List, [], _∷_, _++_}
+use Prim.Native.Nat.{ℕ, zero, suc, _≤_}
+use lib.ListN.{length, getD}
+use Rattle.whole.specs.Cells.{laid}
+use Rattle.limits.specs.Outcome.{Outcome, accepted, refused, zeros, _>>=_}
+use Rattle.base_shear.specs.declared.Figures.{Figures}
+use Rattle.job.specs.Job.{Results, jobOf}
+use Rattle.text.specs.Bytes.{bytes}
+use Rattle.text.specs.Writing.{laidOut}
+use Rattle.sheet.specs.declared.listing.Listing.{Listing}
+use Rattle.sheet.specs.Reading.{SheetRead, readSheet}
+
+unfoldable pub roofFirst : List ℕ → List ℕ → List ℕ → ℕ → List ℕ
+roofFirst fs us ms zero = []
+roofFirst fs us ms (suc x) =
+    laidOut (bytes "level") (suc x ∷ getD fs x 0 ∷ getD us x 0 ∷ getD ms x 0 ∷ []) ++ roofFirst fs us ms x
+
+unfoldable pub account : Figures → List ℕ → List ℕ → List ℕ → List ℕ
+account n fs us ms =
+    laidOut (bytes "base") (n .v ∷ n .vm ∷ n .star ∷ n .vd ∷ n .t ∷ []) ++ roofFirst fs us ms (length fs)
+
+unfoldable pub refusal : ℕ → ℕ → List ℕ
+refusal n p = laidOut (bytes "refused") (n ∷ p ∷ [])
+
+unfoldable pub printed : List ℕ → Listing
+printed l = record { bytes = laid l (zeros 4_610); length = length l }
+
+pub record Levelled (fs us ms : List ℕ) : Type 0 where
+  pub shears : length us ≡ length fs
+  pub moments : length ms ≡ length fs
+  pub few : length fs ≤ 50
+
+unfoldable pub listing : Outcome Results → List ℕ
+listing (accepted r) = account (r .figures) (r .forces) (r .shears) (r .overturnings)
+listing (refused n p) = refusal n p
+
+abbrev pub jobOfSheet : SheetRead → Outcome Results
+jobOfSheet r = jobOf (r .site) (r .frame) (r .weights) (r .heights) (length (r .weights))
+
+unfoldable pub sheetListing : List ℕ → List ℕ
+sheetListing s = listing (readSheet s >>= jobOfSheet)

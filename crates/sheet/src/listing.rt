@@ -1,0 +1,98 @@
+use base_shear::Figures;
+use job::JobAnswer;
+use job::job;
+use limits::frame::FrameValues;
+use limits::refusal::Refusal;
+use limits::site::SiteValues;
+use text::writing::put_line;
+ghost use mathlib.Core.Path.{_≡_};
+ghost use Prim.Native.Nat.{_+_, _≤_};
+ghost use lib.ListN.{length};
+ghost use Rattle.job.specs.Job.{jobOf};
+ghost use Rattle.text.specs.Writing.{spliced};
+ghost use Rattle.sheet.specs.Listing.{roofFirst, account, refusal, listing, printed, Levelled};
+
+// The bytes of a listing, and how many there are. A base line has 110 at the most and a level line 90, with 20 digits a number: any
+// figures of 50 levels find room.
+pub struct Listing {
+    pub bytes: [u8; 4_610],
+    pub length: usize,
+}
+
+// Writes a line for each level from `at` on, roof first, and returns the place after them.
+pub fn put_levels(
+    out: &mut [u8],
+    at: usize,
+    forces: &[u64],
+    shears: &[u64],
+    overturnings: &[u64],
+) -> usize
+    requires { ⌜ Levelled (now forces) (now shears) (now overturnings) ⌝ }
+    requires { ⌜ at + length (roofFirst (now forces) (now shears) (now overturnings) (length (now forces))) ≤ length (now out) ⌝ }
+    ensures { λ r. ⌜ r ≡ at + length (roofFirst (now (forces .entry)) (now (shears .entry)) (now (overturnings .entry)) (length (now (forces .entry)))) ⌝ }
+    ensures { λ _. ⌜ now (out .exit) ≡ spliced (now (out .entry)) at (roofFirst (now (forces .entry)) (now (shears .entry)) (now (overturnings .entry)) (length (now (forces .entry)))) ⌝ }
+{
+    let mut p = at;
+    let mut x = forces.len();
+    while 0 < x {
+        let number = x as u64;
+        x -= 1;
+        let numbers = [number, forces[x], shears[x], overturnings[x]];
+        p = put_line(out, p, b"level", &numbers);
+    }
+    p
+}
+
+// The listing of a job that was taken.
+pub fn account_of(f: Figures, forces: &[u64], shears: &[u64], overturnings: &[u64]) -> Listing
+    requires { ⌜ Levelled (now forces) (now shears) (now overturnings) ⌝ }
+    ensures { λ r. ⌜ r ≡ printed (account f (now (forces .entry)) (now (shears .entry)) (now (overturnings .entry))) ⌝ }
+{
+    let mut bytes = [0; 4_610];
+    let base = [f.v, f.vm, f.star, f.vd, f.t];
+    let p = put_line(&mut bytes, 0, b"base", &base);
+    let length = put_levels(&mut bytes, p, forces, shears, overturnings);
+    Listing { bytes, length }
+}
+
+// The one line of a job or a sheet that was refused.
+pub fn refusal_of(r: Refusal) -> Listing
+    ensures { λ l. ⌜ l ≡ printed (refusal (r .number) (r .place)) ⌝ }
+{
+    let mut bytes = [0; 4_610];
+    let numbers = [r.number, r.place];
+    let length = put_line(&mut bytes, 0, b"refused", &numbers);
+    Listing { bytes, length }
+}
+
+// The listing of a job of at most 50 levels.
+pub fn job_listing(
+    site: SiteValues,
+    frame: FrameValues,
+    weights: &[u64],
+    heights: &[u64],
+) -> Listing
+    requires { ⌜ length (now weights) ≤ 50 ⌝ }
+    ensures { λ l. ⌜ l ≡ printed (listing (jobOf site frame (now (weights .entry)) (now (heights .entry)) (length (now (weights .entry))))) ⌝ }
+{
+    let mut forces = [0; 50];
+    let mut shears = [0; 50];
+    let mut overturnings = [0; 50];
+    let a = job(
+        site,
+        frame,
+        weights,
+        heights,
+        &mut forces,
+        &mut shears,
+        &mut overturnings,
+    );
+    let JobAnswer::Taken(figures) = a else {
+        let JobAnswer::Refused(r) = a else {
+            return refusal_of(Refusal::none());
+        };
+        return refusal_of(r);
+    };
+    let n = weights.len();
+    account_of(figures, &forces[..n], &shears[..n], &overturnings[..n])
+}

@@ -1,0 +1,106 @@
+use crate::levels::LevelsAnswer;
+use crate::levels::level_lines;
+use limits::frame::FrameValues;
+use limits::refusal::Refusal;
+use limits::sheet::Sheet;
+use limits::site::SiteValues;
+use text::line::line;
+use text::reading::Cursor;
+use text::reading::WordAnswer;
+ghost use mathlib.Core.Path.{_≡_};
+ghost use Rattle.limits.specs.Outcome.{refused};
+ghost use Rattle.sheet.specs.Reading.{siteValues, frameValues, readLines, readSheet, sheetRead};
+
+// What the site line and the frame line hold, and how many level lines there are; or the refusal.
+pub enum SheetAnswer {
+    Taken(SiteValues, FrameValues, usize),
+    Refused(Refusal),
+}
+
+// The answer, and the weights and heights of the first 50 levels beside it.
+pub struct SheetRead {
+    pub answer: SheetAnswer,
+    pub weights: [u64; 50],
+    pub heights: [u64; 50],
+}
+
+impl SheetRead {
+    fn stopped(number: u64, place: u64) -> SheetRead
+        ensures { λ r. ⌜ r ≡ sheetRead (refused number place) ⌝ }
+    {
+        SheetRead {
+            answer: SheetAnswer::Refused(Refusal { number, place }),
+            weights: [0; 50],
+            heights: [0; 50],
+        }
+    }
+}
+
+fn site_values(n: [u64; 7]) -> SiteValues
+    ensures { λ r. ⌜ r ≡ siteValues n ⌝ }
+{
+    SiteValues {
+        ssd: n[0],
+        s1d: n[1],
+        ssm: n[2],
+        s1m: n[3],
+        na: n[4],
+        nv: n[5],
+        class: n[6],
+    }
+}
+
+fn frame_values(n: [u64; 7]) -> FrameValues
+    ensures { λ r. ⌜ r ≡ frameValues n ⌝ }
+{
+    FrameValues {
+        kind: n[0],
+        calculated: n[1],
+        r: n[2],
+        i: n[3],
+        alpha: n[4],
+    }
+}
+
+// Line 1, line 2, and all later lines, each from where the one before it ended.
+pub fn read_lines(s: &[u8]) -> SheetRead
+    ensures { λ r. ⌜ r ≡ sheetRead (readLines (now (s .entry))) ⌝ }
+{
+    let first = line(s, Cursor { at: 0 }, b"site", Sheet::SITE_NUMBERS);
+    let a = first.answer;
+    let WordAnswer::Found(second) = a else {
+        return SheetRead::stopped(Refusal::LINE, Sheet::SITE_LINE);
+    };
+    let middle = line(s, second, b"frame", Sheet::FRAME_NUMBERS);
+    let b = middle.answer;
+    let WordAnswer::Found(third) = b else {
+        return SheetRead::stopped(Refusal::LINE, Sheet::FRAME_LINE);
+    };
+    let last = level_lines(s, third);
+    let l = last.answer;
+    let LevelsAnswer::Taken(count) = l else {
+        let LevelsAnswer::Refused(r) = l else {
+            return SheetRead::stopped(0, 0);
+        };
+        return SheetRead::stopped(r.number, r.place);
+    };
+    let of_site = first.numbers;
+    let of_frame = middle.numbers;
+    let weights = last.weights;
+    let heights = last.heights;
+    SheetRead {
+        answer: SheetAnswer::Taken(site_values(of_site), frame_values(of_frame), count),
+        weights,
+        heights,
+    }
+}
+
+// A sheet of any bytes: 17 precedes everything.
+pub fn read_sheet(s: &[u8]) -> SheetRead
+    ensures { λ r. ⌜ r ≡ sheetRead (readSheet (now (s .entry))) ⌝ }
+{
+    if Sheet::BYTES_MOST < s.len() as u64 {
+        return SheetRead::stopped(Refusal::SHEET, Refusal::NOWHERE);
+    }
+    read_lines(s)
+}

@@ -1,0 +1,12 @@
+pub mod Words
+pub mod Digits
+pub mod Numbers
+pub mod Readings
+pub mod Stored
+pub mod Lines
+pub mod Spliced
+pub mod Decimal
+pub mod Fields
+pub mod Printed
+pub mod Trip
+pub mod Takes

@@ -1,0 +1,5 @@
+pub mod Bytes
+pub mod Reading
+pub mod Number
+pub mod Line
+pub mod Writing

@@ -1,0 +1,49 @@
+-- A line: 'Fields are parted by one tab, lines end in LF'.
+--   tab, lf           the two bytes
+--   field             one tab, and a number
+--   fields k          k of them
+--   line w k          the word w, k numbers, LF: the numbers
+--   noLine            the code's answer where a line is otherwise
+--   lineRead c o      the code's answer to the reading o of the bytes from c on, its numbers in seven cells
+use mathlib.Core.List.{List, [], _∷_}
+use Prim.Native.Nat.{ℕ, zero, suc}
+use Rattle.whole.specs.Cells.{laid}
+use Rattle.limits.specs.Outcome.{zeros}
+use Rattle.text.specs.declared.line.LineRead.{LineRead}
+use Rattle.text.specs.declared.reading.Cursor.{Cursor}
+use Rattle.text.specs.declared.reading.WordAnswer.the-variants.{Found, Otherwise}
+use Rattle.text.specs.Bytes.{bytes}
+use Rattle.text.specs.Number.{number}
+use Rattle.text.specs.Reading.{Reading, found, otherwise, Reader, read, word, after, _>>=_, _>>_}
+
+abbrev pub tab : List ℕ
+tab = bytes "\t"
+
+abbrev pub lf : List ℕ
+lf = bytes "\n"
+
+unfoldable pub field : Reader ℕ
+field = do
+  word tab
+  number
+
+unfoldable pub fields : ℕ → Reader (List ℕ)
+fields zero = read []
+fields (suc k) = do
+  n ← field
+  ns ← fields k
+  read (n ∷ ns)
+
+unfoldable pub line : List ℕ → ℕ → Reader (List ℕ)
+line w k = do
+  word w
+  ns ← fields k
+  word lf
+  read ns
+
+abbrev pub noLine : LineRead
+noLine = record { answer = Otherwise; numbers = zeros 7 }
+
+unfoldable pub lineRead : Cursor → Reading (List ℕ) → LineRead
+lineRead c (found ns n) = record { answer = Found (after c n); numbers = laid ns (zeros 7) }
+lineRead c otherwise = noLine

@@ -1,0 +1,32 @@
+ghost use mathlib.Core.Path.{_≡_};
+ghost use lib.ListN.{drop};
+ghost use Rattle.text.specs.Reading.{word, wordAnswer};
+
+// Where reading goes on.
+pub struct Cursor {
+    pub at: usize,
+}
+
+// A word stands at a cursor, and the bytes after it begin at the next; or it does not.
+pub enum WordAnswer {
+    Found(Cursor),
+    Otherwise,
+}
+
+pub fn word(s: &[u8], c: Cursor, w: &[u8]) -> WordAnswer
+    ensures { λ a. ⌜ a ≡ wordAnswer c (word (now (w .entry)) (drop (c .at) (now (s .entry)))) ⌝ }
+{
+    let mut at = c.at;
+    let mut i = 0;
+    while i < w.len() {
+        if s.len() <= at {
+            return WordAnswer::Otherwise;
+        }
+        if w[i] != s[at] {
+            return WordAnswer::Otherwise;
+        }
+        at += 1;
+        i += 1;
+    }
+    WordAnswer::Found(Cursor { at })
+}
