@@ -1,7 +1,7 @@
 -- Demand 3 of `job` itself: of the base shear that it answers and of the cells of shears that it writes. The one premise is that it
 -- answered with figures.
 -- Assumes nothing.
-use mathlib.Core.Path.{_≡_, sym, subst}
+use mathlib.Core.Path.{_≡_, sym, ap, subst}
 use mathlib.Core.List.{List}
 use Prim.Native.Nat.{ℕ}
 use lib.ListN.{getD}
@@ -9,8 +9,10 @@ use Rattle.limits.specs.declared.frame.FrameValues.{FrameValues}
 use Rattle.limits.specs.declared.judging.Given.{Given}
 use Rattle.limits.specs.declared.site.SiteValues.{SiteValues}
 use Rattle.limits.specs.Judging.{judgedJob}
+use Rattle.limits.specs.Levels.{topHeight}
 use Rattle.limits.specs.Outcome.{accepted}
 use Rattle.site.specs.Hazards.{hazardsOf}
+use Rattle.response.specs.Period.{periodOf}
 use Rattle.response.specs.Unit.{unit}
 use Rattle.base_shear.specs.declared.Figures.{Figures}
 use Rattle.base_shear.specs.Shears.{figures}
@@ -24,10 +26,11 @@ use Rattle.job.proofs.Answered.{taken-accepted}
 use Rattle.job.proofs.Storeys.{shear-cell}
 
 module _ (s : SiteValues) (f : FrameValues) (ws hs : List ℕ) (b : Buffers) where
-  -- of a judged site and frame g, at the period in use, with square roots unrounded
+  -- at the period in use of the judged site and frame, with square roots unrounded
   pub record Kept (n : Figures) (b′ : Buffers) : Type 0 where
     pub given : Given
     pub judged : judgedJob s f ws hs (shortest b) ≡ accepted given
+    pub period : n .t ≡ periodOf (given .frame .kind) (given .frame .calculated) (topHeight hs)
     pub kept : Demand3 unit (hazardsOf (given .site) (given .frame .r)) (given .frame) ws hs (n .t) (n .vd) (λ x. getD (b′ .shears) x 0)
 
   pub demand-3 : (n : Figures) (b′ : Buffers) → Answers s f ws hs b (Taken n) b′ → Kept n b′
@@ -40,6 +43,7 @@ module _ (s : SiteValues) (f : FrameValues) (ws hs : List ℕ) (b : Buffers) whe
       record {
         given = g;
         judged = t .judged;
+        period = ap (λ (m : Figures). m .t) (t .figures);
         kept =
             of-cells unit k (g .frame) ws hs (n .t)
             (subst (λ (m : Figures). Demand3 unit k (g .frame) ws hs (m .t) (m .vd) (shearUnder (m .t) (m .vd) ws hs)) (sym (t .figures)) exact)

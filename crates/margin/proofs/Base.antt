@@ -11,9 +11,9 @@ use Rattle.response.proofs.Bent.{Meeting}
 use Rattle.base_shear.specs.Exact.{Roots, exactBase}
 use Rattle.base_shear.specs.Ready.{Shearing}
 use Rattle.base_shear.specs.Shears.{base}
-use Rattle.margin.specs.Demand3.{Number, AtLeast, LessBy}
+use Rattle.margin.specs.Demand3.{Number, AtLeast, LessBy, marginOf, Numbers}
 use Rattle.margin.specs.Roots.{Lowering, Raising}
-use Rattle.margin.proofs.Bound.{marginOf, less-by-margin, margin-positive, margin-grows, larger-at-least, larger-less-by}
+use Rattle.margin.proofs.Bound.{less-by-margin, margin-positive, margin-grows, larger-at-least, larger-less-by}
 use Rattle.margin.proofs.Shear.{shear-sound, shear-above, shear-over, star-sound, star-above, star-over}
 
 module _ (s : ℕ) (k : Hazards) (T : ℕ) (g : Shearing s k T) (m : Meeting (k .lines)) (f : Frame) (pa : 0 < f .alpha) (W : ℕ)
@@ -27,20 +27,28 @@ module _ (s : ℕ) (k : Hazards) (T : ℕ) (g : Shearing s k T) (m : Meeting (k 
       (shear-above s k T g m f pa W (k .mce) (g .mce) (r .vm) (w .vm)))
       (star-above s k T g m f pa W (r .star) (w .star))
 
-  base-sound : 0 < r .v .den → AtMost (over 1 1) (r .v) → 0 < r .vm .den → AtMost (over 1 1) (r .vm) → 0 < r .star .den
-      → Number (exactBase k f W T r)
-  base-sound pv ov pm om ps =
-      larger-positive _ _
-      (larger-positive _ _
-      (shear-sound s k T g m f pa W (k .design) (g .design) (r .v) pv ov)
-      (shear-sound s k T g m f pa W (k .mce) (g .mce) (r .vm) pm om))
-      (star-sound s k T g m f pa W (r .star) ps)
+  numbers : 0 < r .v .den → AtMost (over 1 1) (r .v) → 0 < r .vm .den → AtMost (over 1 1) (r .vm) → 0 < r .star .den
+      → Numbers k f W T r
+  numbers pv ov pm om ps = (
+    shear-sound s k T g m f pa W (k .design) (g .design) (r .v) pv ov,
+    shear-sound s k T g m f pa W (k .mce) (g .mce) (r .vm) pm om,
+    star-sound s k T g m f pa W (r .star) ps,
+  )
+
+  pub lowering-numbers : Lowering k r → Numbers k f W T r
+  lowering-numbers w = numbers (w .v .sound) (w .v .one) (w .vm .sound) (w .vm .one) (w .star .sound)
+
+  pub raising-numbers : Raising k r → Numbers k f W T r
+  raising-numbers w = numbers (w .v .sound) (w .v .one) (w .vm .sound) (w .vm .one) (w .star .sound)
+
+  base-sound : Numbers k f W T r → Number (exactBase k f W T r)
+  base-sound n = larger-positive _ _ (larger-positive _ _ (n .0) (n .1)) (n .2)
 
   pub lowering-sound : Lowering k r → Number (exactBase k f W T r)
-  lowering-sound w = base-sound (w .v .sound) (w .v .one) (w .vm .sound) (w .vm .one) (w .star .sound)
+  lowering-sound w = base-sound (lowering-numbers w)
 
   pub raising-sound : Raising k r → Number (exactBase k f W T r)
-  raising-sound w = base-sound (w .v .sound) (w .v .one) (w .vm .sound) (w .vm .one) (w .star .sound)
+  raising-sound w = base-sound (raising-numbers w)
 
   -- by less than e s-ths and a newton, for any e from six on
   pub base-over : (e : ℕ) → 6 ≤ e → k .divisor ≤ k .stardivisor → Raising k r

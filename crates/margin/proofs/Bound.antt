@@ -1,5 +1,4 @@
 -- Printed newtons beside exact ones: at least them, or above them by less than a margin.
---   marginOf e s n f W    e s-ths of I·W/(n/10·alpha-y), plus one newton: `allowed` is that of 6
 -- Assumes nothing.
 use Prim.Native.Nat.{ℕ, _+_, _*_, _≤_, _<_, max}
 use native.Mathlib.Nat.{mul-le-mul, mul-le-mul-right, mul-pos, mul-lt-mul-of-pos-right, le-of-mul-le-mul-right, lt-of-mul-lt-mul-right, le-max-left, le-max-right, max-eq-left, max-eq-right}
@@ -13,11 +12,8 @@ use Rattle.whole.proofs.Rounding.{up-law}
 use Rattle.limits.specs.declared.frame.Frame.{Frame}
 use Rattle.base_shear.specs.Exact.{exactNewtons}
 use Rattle.base_shear.specs.Shears.{newtons}
-use Rattle.margin.specs.Demand3.{AtLeast, LessBy}
+use Rattle.margin.specs.Demand3.{AtLeast, LessBy, marginOf}
 use Rattle.margin.proofs.Off.{Over}
-
-abbrev pub marginOf : ℕ → ℕ → ℕ → Frame → ℕ → Fraction
-marginOf e s n f W = plus (exactNewtons n f W (over e s)) (over 1 1)
 
 -- ---- newtons of m s-ths, over any C / D
 module _ (s C D m v : ℕ) (x : Fraction) where

@@ -18,7 +18,7 @@ use Rattle.storeys.specs.Storeys.{roofPart, roofForce, weightHeight, shearUnder
 use Rattle.storeys.proofs.Roof.{roof-most}
 use Rattle.storeys.proofs.Sums.{part-sum}
 use Rattle.margin.specs.Demand3.{allowed, Demand3}
-use Rattle.margin.proofs.Base.{base-above, base-over, lowering-sound, raising-sound}
+use Rattle.margin.proofs.Base.{base-above, base-over, lowering-numbers, raising-numbers, lowering-sound, raising-sound}
 use Rattle.margin.proofs.Bound.{margin-positive}
 use Rattle.margin.proofs.Storey.{shared-positive, storey-above, storey-over}
 
@@ -40,6 +40,9 @@ module _ (s : ℕ) (k : Hazards) (f : Frame) (ws hs : List ℕ) (T : ℕ) where
       let low = lowering-sound s k T g m f pa W in
       let high = raising-sound s k T g m f pa W in
       record {
+        margin = margin-positive 6 s (k .divisor) f W (g .unit .positive) (g .divisor .0) pa;
+        lowered = λ r w. lowering-numbers s k T g m f pa W r w;
+        raised = λ r w. raising-numbers s k T g m f pa W r w;
         never-below = λ r w. (low r w, base-above s k T g m f pa W r w);
         close = λ r w. (high r w, base-over s k T g m f pa W r _ (omega arith) more w);
         storey-never-below =
@@ -61,6 +64,9 @@ module _ (s : ℕ) (k : Hazards) (f : Frame) (ws hs : List ℕ) (T : ℕ) where
   pub of-cells : {v : ℕ} {u u′ : ℕ → ℕ} → Demand3 s k f ws hs T v u → ((x : ℕ) → x < length ws → u x ≡ u′ x) → Demand3 s k f ws hs T v u′
   of-cells d same =
       record {
+        margin = d .margin;
+        lowered = d .lowered;
+        raised = d .raised;
         never-below = d .never-below;
         close = d .close;
         storey-never-below = λ x h r w. let a = d .storey-never-below x h r w in (a .0, rw (same x h) at (a .1));

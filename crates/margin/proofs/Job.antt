@@ -1,7 +1,7 @@
 -- A job by its numbers, and what it comes to in millionths.
 --   Job                  site line, frame line, weights, heights, and what is given where they are accepted
---   jobOf ..             a job of the lines of a sheet, as its numbers stand there, with its class and kind
---   Accepted j           they are accepted, with result buffers of as many cells as levels
+--   jobOn ..             a job of the lines of a sheet, as its numbers stand there, with its class and kind
+--   IsAccepted j         they are accepted, with result buffers of as many cells as levels
 --   hazards j, period j  the three hazards; T
 --   printed j, printedUnder j x       V_D, and the shear under level x, from 0
 --   exact j r, exactUnder j r x       the same of the exact chain, at fractions r for the roots
@@ -32,8 +32,7 @@ use Rattle.base_shear.specs.Exact.{Roots, exactBase}
 use Rattle.base_shear.specs.Shears.{base}
 use Rattle.storeys.specs.Exact.{exactShearUnder}
 use Rattle.storeys.specs.Storeys.{shearUnder}
-use Rattle.margin.specs.Demand3.{Demand3}
-use Rattle.margin.proofs.Bound.{marginOf}
+use Rattle.margin.specs.Demand3.{Demand3, marginOf}
 
 pub record Job : Type 0 where
   pub site : SiteValues
@@ -48,8 +47,8 @@ siteLine ssd s1d ssm s1m na nv class = record { ssd = ssd; s1d = s1d; ssm = ssm;
 abbrev pub frameLine : ℕ → ℕ → ℕ → ℕ → ℕ → FrameValues
 frameLine kind calculated r i alpha = record { kind = kind; calculated = calculated; r = r; i = i; alpha = alpha }
 
-abbrev pub jobOf : SiteValues → Class → FrameValues → Kind → List ℕ → List ℕ → Job
-jobOf s c f k ws hs =
+abbrev pub jobOn : SiteValues → Class → FrameValues → Kind → List ℕ → List ℕ → Job
+jobOn s c f k ws hs =
     record {
       site = s;
       frame = f;
@@ -58,8 +57,8 @@ jobOf s c f k ws hs =
       given = record { site = siteOf s c; frame = frameOf f k };
     }
 
-abbrev pub Accepted : Job → Type 0
-Accepted j = judgedJob (j .site) (j .frame) (j .weights) (j .heights) (length (j .weights)) ≡ accepted (j .given)
+abbrev pub IsAccepted : Job → Type 0
+IsAccepted j = judgedJob (j .site) (j .frame) (j .weights) (j .heights) (length (j .weights)) ≡ accepted (j .given)
 
 abbrev pub hazards : Job → Hazards
 hazards j = hazardsOf (j .given .site) (j .given .frame .r)

@@ -31,16 +31,16 @@ module _ (k : Hazards) (f : Frame) (W T : ℕ) (m : Meeting (k .lines)) where
         → AtMost (exactFactor (h .a) (h .b) T (h .capacity) r) (exactFactor (h .a) (h .b) T (h .capacity) r′)
     factor-rises = exact-factor-rises (h .a) (h .b) T (h .capacity) pa pb pc
 
-    pub shear-falls : (r r′ : Fraction) → 0 < r .den → 0 < r′ .den → AtMost r r′
+    pub exact-shear-falls : (r r′ : Fraction) → 0 < r .den → 0 < r′ .den → AtMost r r′
         → AtMost (exactShear k h f W T r′) (exactShear k h f W T r)
-    shear-falls r r′ p p′ a =
+    exact-shear-falls r r′ p p′ a =
         times-rises (over (10_000 * (f .i * W)) (k .divisor * f .alpha)) _ _
         (exact-modified-rises (k .lines) m _ _
         (quotient-falls (exactSpectrum (h .a) (h .b) T) _ _ (factor-rises r r′ p p′ a)))
 
-  pub star-rises : 0 < k .star .a → 0 < k .star .b → 0 < k .star .capacity .den → (r r′ : Fraction) → 0 < r .den → 0 < r′ .den
+  pub exact-star-rises : 0 < k .star .a → 0 < k .star .b → 0 < k .star .capacity .den → (r r′ : Fraction) → 0 < r .den → 0 < r′ .den
       → AtMost r r′ → AtMost (exactStar k f W T r) (exactStar k f W T r′)
-  star-rises pa pb pc r r′ p p′ a =
+  exact-star-rises pa pb pc r r′ p p′ a =
       times-rises (over (10_000 * (f .i * W)) (k .stardivisor * f .alpha)) _ _
       (exact-blended-rises (k .lines) m (exactSpectrum (k .star .a) (k .star .b) T) _ _
       (factor-rises (k .star) pa pb pc r r′ p p′ a))
@@ -57,13 +57,13 @@ module _ (s : ℕ) (k : Hazards) (T : ℕ) (g : Shearing s k T) (m : Meeting (k 
       let ss = star-sound s k T g m f pa W (r′ .star) (w′ .star .sound) in
       larger-rises _ _ _ _ (larger-positive _ _ sv sm) ss
       (larger-rises _ _ _ _ sv sm
-      (shear-falls k f W T m d (g .design .shape .a-positive) (g .design .shape .b-positive) (g .design .ductile .cap-positive)
+      (exact-shear-falls k f W T m d (g .design .shape .a-positive) (g .design .shape .b-positive) (g .design .ductile .cap-positive)
       (r′ .v) (r .v) (w′ .v .sound) (w .v .sound)
       (low-below-high (d .square) (r′ .v) (r .v) (g .design .ductile .square-positive) (w′ .v) (w .v)))
-      (shear-falls k f W T m c (g .mce .shape .a-positive) (g .mce .shape .b-positive) (g .mce .ductile .cap-positive)
+      (exact-shear-falls k f W T m c (g .mce .shape .a-positive) (g .mce .shape .b-positive) (g .mce .ductile .cap-positive)
       (r′ .vm) (r .vm) (w′ .vm .sound) (w .vm .sound)
       (low-below-high (c .square) (r′ .vm) (r .vm) (g .mce .ductile .square-positive) (w′ .vm) (w .vm))))
-      (star-rises k f W T m (g .star .shape .a-positive) (g .star .shape .b-positive) (g .star .ductile .cap-positive)
+      (exact-star-rises k f W T m (g .star .shape .a-positive) (g .star .shape .b-positive) (g .star .ductile .cap-positive)
       (r .star) (r′ .star) (w .star .sound) (w′ .star .sound)
       (low-below-high (h .square) (r .star) (r′ .star) (g .star .ductile .square-positive) (w .star) (w′ .star)))
 

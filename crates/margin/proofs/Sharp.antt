@@ -30,27 +30,27 @@ use Rattle.response.specs.Unit.{unit}
 use Rattle.base_shear.specs.Exact.{Roots}
 use Rattle.base_shear.specs.Shears.{newtons, shear, star, base}
 use Rattle.storeys.specs.Storeys.{weightHeight}
-use Rattle.margin.specs.Demand3.{LessBy, allowed}
+use Rattle.margin.specs.Demand3.{LessBy, allowed, allowedUnder}
 use Rattle.margin.specs.Roots.{High, Low, Raising}
-use Rattle.margin.proofs.Job.{Job, siteLine, frameLine, jobOf, Accepted, hazards, printed, printedUnder, exact, exactUnder, margin}
+use Rattle.margin.proofs.Job.{Job, siteLine, frameLine, jobOn, IsAccepted, hazards, printed, printedUnder, exact, exactUnder, margin}
 
 -- 50 levels of 20,000 kN, a decimetre apart
 abbrev pub heavy : Job
 heavy =
-    jobOf (siteLine 50 30 100 45 144 134 3) Soft (frameLine 1 115 102 150 100) Steel (cells (λ x. 20_000) 50)
+    jobOn (siteLine 50 30 100 45 144 134 3) Soft (frameLine 1 115 102 150 100) Steel (cells (λ x. 20_000) 50)
     (cells (λ x. x + 1) 50)
 
 abbrev pub tall : Job
 tall =
-    jobOf (siteLine 70 30 70 40 149 135 1) Hard (frameLine 1 6246 244 125 199) Steel (12 ∷ 1 ∷ 1 ∷ 1 ∷ 2 ∷ 1 ∷ [])
+    jobOn (siteLine 70 30 70 40 149 135 1) Hard (frameLine 1 6246 244 125 199) Steel (12 ∷ 1 ∷ 1 ∷ 1 ∷ 2 ∷ 1 ∷ [])
     (207 ∷ 630 ∷ 1464 ∷ 1481 ∷ 1657 ∷ 2000 ∷ [])
 
 abbrev pub stiff : Job
 stiff =
-    jobOf (siteLine 80 45 100 55 100 100 1) Hard (frameLine 2 200 480 100 150) Concrete (5000 ∷ 5000 ∷ 5000 ∷ [])
+    jobOn (siteLine 80 45 100 55 100 100 1) Hard (frameLine 2 200 480 100 150) Concrete (5000 ∷ 5000 ∷ 5000 ∷ [])
     (100 ∷ 200 ∷ 300 ∷ [])
 
-pub all-accepted : Accepted heavy × Accepted tall × Accepted stiff
+pub all-accepted : IsAccepted heavy × IsAccepted tall × IsAccepted stiff
 unfolding cells judgedJob judgedLevels weighed raised within inRange among listed judgedSite judgedMapped judgedNearFault
     judgedClass judgedFrame judgedKind judgedPeriod
 all-accepted = (refl, refl, refl)
@@ -89,7 +89,7 @@ tall-raising =
 -- printed 924 N, exact 921.74 N; six millionths are 0.05 N. The margin plus two newtons is six millionths plus three newtons
 pub over-two-newtons :
     AtMost (plus (exactUnder tall tallRoots 5) (plus (margin 6 tall) (over 1 1))) (over (printedUnder tall 5) 1)
-    × LessBy (printedUnder tall 5) (exactUnder tall tallRoots 5) (plus (margin 6 tall) (over 2 1))
+    × LessBy (printedUnder tall 5) (exactUnder tall tallRoots 5) (allowedUnder unit (hazards tall) (tall .given .frame) (sum (tall .weights)))
 unfolding sum between up down largest smallest bitsFrom lowerRoot upperRoot floor ceiling approximate inUse spectrum exactSpectrum
     factor lowerFactor upperFactor ratio modified blended bent newtons shear star base weightHeight
 over-two-newtons = (lit≤ tt, lit< tt)

@@ -17,9 +17,9 @@ use Rattle.response.proofs.Most.{spectrum-positive, spectrum-within, lower-fact
 use Rattle.base_shear.specs.Exact.{exactShear, exactStar}
 use Rattle.base_shear.specs.Ready.{Ready, Shearing}
 use Rattle.base_shear.specs.Shears.{shear, star}
-use Rattle.margin.specs.Demand3.{Number, AtLeast, LessBy}
+use Rattle.margin.specs.Demand3.{Number, AtLeast, LessBy, marginOf}
 use Rattle.margin.specs.Roots.{High, Low}
-use Rattle.margin.proofs.Bound.{marginOf, newtons-above, newtons-over}
+use Rattle.margin.proofs.Bound.{newtons-above, newtons-over}
 use Rattle.margin.proofs.Factor.{factorAt, lowerAt, upperAt, factor-positive, factor-least, lower-below, upper-above, lower-short, upper-over}
 use Rattle.margin.proofs.Off.{Over}
 use Rattle.margin.proofs.Ratio.{ratio-above, ratio-over, modified-above, modified-over, blended-above, blended-over}

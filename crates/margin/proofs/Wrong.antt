@@ -28,15 +28,15 @@ use Rattle.base_shear.specs.Exact.{Roots}
 use Rattle.storeys.specs.Storeys.{weightHeight}
 use Rattle.margin.specs.Roots.{Lowering, Raising}
 use Rattle.margin.proofs.Bound.{at-least-number, below-number}
-use Rattle.margin.proofs.Job.{Job, siteLine, frameLine, jobOf, Accepted, Demand3Of, hazards, exact, exactUnder, margin}
+use Rattle.margin.proofs.Job.{Job, siteLine, frameLine, jobOn, IsAccepted, Demand3Of, hazards, exact, exactUnder, margin}
 
 abbrev pub Meets : (Job → ℕ) → (Job → ℕ → ℕ) → Type 0
-Meets v u = (j : Job) → Accepted j → Demand3Of j (v j) (u j)
+Meets v u = (j : Job) → IsAccepted j → Demand3Of j (v j) (u j)
 
 -- ---- the sheet, at any weights
 abbrev sheet : List ℕ → Job
 sheet ws =
-    jobOf (siteLine 80 45 100 55 100 100 1) Hard (frameLine 2 1000 480 100 150) Concrete ws (100 ∷ 200 ∷ 300 ∷ [])
+    jobOn (siteLine 80 45 100 55 100 100 1) Hard (frameLine 2 1000 480 100 150) Concrete ws (100 ∷ 200 ∷ 300 ∷ [])
 
 abbrev worked : Job
 worked = sheet (5000 ∷ 5000 ∷ 5000 ∷ [])
@@ -44,7 +44,7 @@ worked = sheet (5000 ∷ 5000 ∷ 5000 ∷ [])
 abbrev light : Job
 light = sheet (1 ∷ 1 ∷ 1 ∷ [])
 
-both-accepted : Accepted worked × Accepted light
+both-accepted : IsAccepted worked × IsAccepted light
 unfolding judgedJob judgedLevels weighed raised within inRange among listed judgedSite judgedMapped judgedNearFault judgedClass
     judgedFrame judgedKind judgedPeriod
 both-accepted = (refl, refl)
@@ -102,7 +102,7 @@ module _ (v : ℕ) (u : ℕ → ℕ) where
 
 -- ---- so no constant is the base shear of both, and the shear under the sheet's roof is not that under its lowest level
 module _ (v : Job → ℕ) (u : Job → ℕ → ℕ) (meets : Meets v u) where
-  pub no-constant : (c : ℕ) → ((j : Job) → Accepted j → v j ≡ c) → ⊥
+  pub no-constant : (c : ℕ) → ((j : Job) → IsAccepted j → v j ≡ c) → ⊥
   no-constant c same =
       omega (
         arith,
@@ -112,7 +112,7 @@ module _ (v : Job → ℕ) (u : Job → ℕ → ℕ) (meets : Meets v u) where
         same light (both-accepted .1),
       )
 
-  pub no-roof-copied : ((j : Job) → Accepted j → (x : ℕ) → x < length (j .weights) → u j x ≡ u j (length (j .weights) - 1)) → ⊥
+  pub no-roof-copied : ((j : Job) → IsAccepted j → (x : ℕ) → x < length (j .weights) → u j x ≡ u j (length (j .weights) - 1)) → ⊥
   no-roof-copied same =
       let copied : u worked 0 ≡ u worked 2 = same worked (both-accepted .0) 0 (lit< tt) in
       omega (

@@ -5,11 +5,10 @@ use Prim.Native.Nat.{ℕ, zero, suc, _+_, _*_, _/_, _%_, _≤_, _<_}
 use native.Mathlib.Nat.{mul-pos, zero-mul, div-add-mod', div-le-of-le-mul, mod-lt, mul-le-mul-right}
 use native.Mathlib.Omega.{arith}
 use Rattle.whole.specs.declared.Fraction.{Fraction}
-use Rattle.whole.specs.Fraction.{upIn}
 use Rattle.whole.specs.Rounding.{up}
 use Rattle.whole.proofs.Choice.{by-leb}
 use Rattle.whole.proofs.Rounding.{up-same, up-up, up-whole, up-is}
-use Rattle.response.specs.Spectrum.{exactSpectrum, spectrum}
+use Rattle.response.specs.Spectrum.{exactSpectrum, rounded, spectrum}
 
 -- the quotient by B taken in parts: 3·T·A is q·B and r more
 pub in-parts : (a b ta d : ℕ) → 0 < b → 0 < d
@@ -31,7 +30,7 @@ module _ (s A B T d : ℕ) (pb : 0 < B) (pd : 0 < d) (e : d * s ≡ 100_000_000)
       let N = A * (4 * (1 * (1000 * B)) + 3 * T * A * 10) in
       let F = A * (400 * B + 3 * (T * A)) in
       let ten : N ≡ 10 * F = omega arith in
-      by-leb (λ (z : Fraction). upIn s z ≡ up F (1000 * d * B)) (T * (10 * A)) (2 * (1000 * B) * 1) _ _
+      by-leb (λ (z : Fraction). rounded s z ≡ up F (1000 * d * B)) (T * (10 * A)) (2 * (1000 * B) * 1) _ _
       (λ _.
       up-same (s * N) (100_000_000 * (10 * (1 * (1000 * B)))) F (1000 * d * B) (omega arith)
       (mul-pos (omega arith) pb)
@@ -48,9 +47,9 @@ module _ (s A B T d : ℕ) (pb : 0 < B) (pd : 0 < d) (e : d * s ≡ 100_000_000)
   pub second-branch : 200 * B < T * A → T * A ≤ 1000 * B → spectrum s A B T ≡ up A d
   unfolding spectrum exactSpectrum
   second-branch h l =
-      by-leb (λ (z : Fraction). upIn s z ≡ up A d) (T * (10 * A)) (2 * (1000 * B) * 1) _ _ (λ k. absurd (omega arith))
+      by-leb (λ (z : Fraction). rounded s z ≡ up A d) (T * (10 * A)) (2 * (1000 * B) * 1) _ _ (λ k. absurd (omega arith))
       (λ _.
-      by-leb (λ (z : Fraction). upIn s z ≡ up A d) (T * A) (1000 * B * 1) _ _
+      by-leb (λ (z : Fraction). rounded s z ≡ up A d) (T * A) (1000 * B * 1) _ _
       (λ _. up-same (s * A) 100_000_000 A d (omega arith) pd (omega (arith, ap (λ (z : ℕ). A * z) e)))
       (λ k. absurd (omega arith)))
 
@@ -58,12 +57,12 @@ module _ (s A B T d : ℕ) (pb : 0 < B) (pd : 0 < d) (e : d * s ≡ 100_000_000)
   pub third-branch : 1000 * B < T * A → T * A ≤ 2500 * B → 0 < T → spectrum s A B T ≡ up (1000 * B) (d * T)
   unfolding spectrum exactSpectrum
   third-branch h l pt =
-      by-leb (λ (z : Fraction). upIn s z ≡ up (1000 * B) (d * T)) (T * (10 * A)) (2 * (1000 * B) * 1) _ _
+      by-leb (λ (z : Fraction). rounded s z ≡ up (1000 * B) (d * T)) (T * (10 * A)) (2 * (1000 * B) * 1) _ _
       (λ k. absurd (omega arith))
       (λ _.
-      by-leb (λ (z : Fraction). upIn s z ≡ up (1000 * B) (d * T)) (T * A) (1000 * B * 1) _ _ (λ k. absurd (omega arith))
+      by-leb (λ (z : Fraction). rounded s z ≡ up (1000 * B) (d * T)) (T * A) (1000 * B * 1) _ _ (λ k. absurd (omega arith))
       (λ _.
-      by-leb (λ (z : Fraction). upIn s z ≡ up (1000 * B) (d * T)) (T * (10 * A)) (25 * (1000 * B) * 1) _ _
+      by-leb (λ (z : Fraction). rounded s z ≡ up (1000 * B) (d * T)) (T * (10 * A)) (25 * (1000 * B) * 1) _ _
       (λ _.
       up-same (s * (B * 1000)) (100_000_000 * T) (1000 * B) (d * T) (omega arith) (mul-pos pd pt)
       (omega (arith, ap (λ (z : ℕ). 1000 * (B * T) * z) e)))
@@ -73,12 +72,12 @@ module _ (s A B T d : ℕ) (pb : 0 < B) (pd : 0 < d) (e : d * s ≡ 100_000_000)
   pub fourth-branch : 2500 * B < T * A → spectrum s A B T ≡ up (4 * A) (10 * d)
   unfolding spectrum exactSpectrum
   fourth-branch h =
-      by-leb (λ (z : Fraction). upIn s z ≡ up (4 * A) (10 * d)) (T * (10 * A)) (2 * (1000 * B) * 1) _ _
+      by-leb (λ (z : Fraction). rounded s z ≡ up (4 * A) (10 * d)) (T * (10 * A)) (2 * (1000 * B) * 1) _ _
       (λ k. absurd (omega arith))
       (λ _.
-      by-leb (λ (z : Fraction). upIn s z ≡ up (4 * A) (10 * d)) (T * A) (1000 * B * 1) _ _ (λ k. absurd (omega arith))
+      by-leb (λ (z : Fraction). rounded s z ≡ up (4 * A) (10 * d)) (T * A) (1000 * B * 1) _ _ (λ k. absurd (omega arith))
       (λ _.
-      by-leb (λ (z : Fraction). upIn s z ≡ up (4 * A) (10 * d)) (T * (10 * A)) (25 * (1000 * B) * 1) _ _
+      by-leb (λ (z : Fraction). rounded s z ≡ up (4 * A) (10 * d)) (T * (10 * A)) (25 * (1000 * B) * 1) _ _
       (λ k. absurd (omega arith))
       (λ _.
       up-same (s * (4 * A)) (10 * 100_000_000) (4 * A) (10 * d) (omega arith) (omega arith)
