@@ -30,7 +30,7 @@ tenth k n h =
     omega (arith, e)
 
 -- where k + 1 digits are enough, one more changes nothing
-digits-enough : (k n : ℕ) → n < 10 ^ (k + 1) → digitsOf (suc k) n ≡ digitsOf k n
+pub digits-enough : (k n : ℕ) → n < 10 ^ (k + 1) → digitsOf (suc k) n ≡ digitsOf k n
 digits-enough zero n h = digits-small 1 n h ∙ sym (digits-small 0 n h)
 digits-enough (suc k) n h = go (leb 10 n) refl (digits-enough k (n / 10) (tenth k n h))
   where

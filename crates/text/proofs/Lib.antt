@@ -10,3 +10,4 @@ pub mod Fields
 pub mod Printed
 pub mod Trip
 pub mod Takes
+pub mod Back
