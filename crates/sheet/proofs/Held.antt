@@ -1,12 +1,13 @@
 -- What the code holds of a sheet: its answer, and the weights and heights of the first 50 levels.
 -- Assumes nothing.
-use mathlib.Core.Path.{_≡_, refl, sym, ap, _∙_}
+use mathlib.Core.Path.{_≡_, refl, sym, ap, subst, _∙_}
 use mathlib.Core.List.{List, [], _∷_}
 use Prim.Native.Nat.{ℕ, zero, suc, _+_, _≤_}
 use native.Mathlib.Omega.{arith}
 use lib.Dec.{leb}
 use lib.ListN.{length, take}
 use lib.Seq.{take-all}
+use borrow.Author.Tests.{leb-true}
 use Rattle.whole.proofs.Cells.{laid-part}
 use Rattle.limits.specs.declared.frame.FrameValues.{FrameValues}
 use Rattle.limits.specs.declared.refusal.Refusal.{Refusal}
@@ -14,7 +15,7 @@ use Rattle.limits.specs.declared.site.SiteValues.{SiteValues}
 use Rattle.limits.specs.Judging.{judgedJob}
 use Rattle.limits.specs.Levels.{counted, judgedLevels}
 use Rattle.limits.specs.Outcome.{Outcome, accepted, refused, zeros, require, _>>=_}
-use Rattle.limits.proofs.Passed.{bind-passed, one-value, never, then-passed, within-passed}
+use Rattle.limits.proofs.Passed.{bind-passed, one-value, never, then-passed, require-passed, within-passed}
 use Rattle.job.specs.Job.{jobOf}
 use Rattle.job.proofs.Stages.{job-refused}
 use Rattle.text.specs.Bytes.{bytes}
@@ -25,7 +26,7 @@ use Rattle.sheet.specs.Listing.{refusal, listing, jobOfSheet, sheetListi
 use Rattle.sheet.specs.Reading.{Line, lineAt, siteValues, frameValues, Levels, level, linesFrom, levelLines, SheetRead, readLines, readSheet, cellsOf, sheetRead}
 
 -- ---- as many heights as weights
-lines-same : (most p : ℕ) (s : List ℕ) (ls : Levels) → linesFrom most p s ≡ accepted ls → length (ls .heights) ≡ length (ls .weights)
+pub lines-same : (most p : ℕ) (s : List ℕ) (ls : Levels) → linesFrom most p s ≡ accepted ls → length (ls .heights) ≡ length (ls .weights)
 unfolding linesFrom
 lines-same zero p s ls e = absurd (never e)
 lines-same (suc most) p [] ls e = let same = one-value e in rw (← same)
@@ -35,20 +36,43 @@ lines-same (suc most) p (b ∷ s) ls e =
     let same = one-value (r .2) in
     rw (← same) (ap suc (lines-same most (p + 1) (l .0 .rest) (r .0) (r .1)))
 
-read-same : (s : List ℕ) (r : SheetRead) → readSheet s ≡ accepted r → length (r .heights) ≡ length (r .weights)
+-- ---- the lines of a sheet that is read
+abbrev pub sheetOf : Line → Line → Levels → SheetRead
+sheetOf site frame ls =
+    record { site = siteValues (site .numbers); frame = frameValues (frame .numbers); weights = ls .weights; heights = ls .heights }
+
+pub record SheetLines (s : List ℕ) (r : SheetRead) : Type 0 where
+  pub short : length s ≤ 4_096
+  pub site : Line
+  pub frame : Line
+  pub levels : Levels
+  pub site-is : lineAt 1 (bytes "site") 7 s ≡ accepted site
+  pub frame-is : lineAt 2 (bytes "frame") 5 (site .rest) ≡ accepted frame
+  pub levels-are : levelLines 3 (frame .rest) ≡ accepted levels
+  pub all : sheetOf site frame levels ≡ r
+
+pub sheet-parts : (s : List ℕ) (r : SheetRead) → readSheet s ≡ accepted r → SheetLines s r
 unfolding readSheet readLines
-read-same s r e =
-    let q = then-passed (require (leb (length s) 4_096) 17 0) (readLines s) e .1 in
-    let site = bind-passed (lineAt 1 (bytes "site") 7 s) _ q in
+sheet-parts s r e =
+    let q = then-passed (require (leb (length s) 4_096) 17 0) (readLines s) e in
+    let site = bind-passed (lineAt 1 (bytes "site") 7 s) _ (q .1) in
     let frame = bind-passed (lineAt 2 (bytes "frame") 5 (site .0 .rest)) _ (site .2) in
-    let ls = bind-passed (levelLines 3 (frame .0 .rest)) (λ ls. accepted (record {
-      site = siteValues (site .0 .numbers);
-      frame = frameValues (frame .0 .numbers);
-      weights = ls .weights;
-      heights = ls .heights;
-    })) (frame .2) in
-    let same = one-value (ls .2) in
-    rw (← same) (lines-same _ 3 (frame .0 .rest) (ls .0) (ls .1))
+    let ls = bind-passed (levelLines 3 (frame .0 .rest)) (λ ls. accepted (sheetOf (site .0) (frame .0) ls)) (frame .2) in
+    record {
+      short = leb-true (length s) 4_096 (require-passed (leb (length s) 4_096) 17 0 (q .0));
+      site = site .0;
+      frame = frame .0;
+      levels = ls .0;
+      site-is = site .1;
+      frame-is = frame .1;
+      levels-are = ls .1;
+      all = one-value (ls .2);
+    }
+
+pub read-same : (s : List ℕ) (r : SheetRead) → readSheet s ≡ accepted r → length (r .heights) ≡ length (r .weights)
+read-same s r e =
+    let l = sheet-parts s r e in
+    subst (λ (x : SheetRead). length (x .heights) ≡ length (x .weights)) (l .all) (lines-same _ 3 (l .frame .rest) (l .levels) (l .levels-are))
 
 -- the first cells, as many as there are levels, are the list
 cut : (l : List ℕ) (n : ℕ) → length l ≡ n → n ≤ 50 → take n (cellsOf l) ≡ l

@@ -8,3 +8,4 @@ pub mod Length
 pub mod LaidRead
 pub mod Unique
 pub mod Listable
+pub mod ReadLaid
