@@ -7,5 +7,6 @@ pub mod Held
 pub mod Length
 pub mod LaidRead
 pub mod Unique
+pub mod Allowed
 pub mod Listable
 pub mod ReadLaid

@@ -4,7 +4,7 @@
 use mathlib.Core.Path.{_≡_, refl, sym, ap, ap₂, _∙_}
 use mathlib.Core.Bool.{Bool, true, false}
 use mathlib.Core.List.{List, [], _∷_, _++_, append-assoc, append-nil}
-use Prim.Native.Nat.{ℕ, zero, suc, _+_, _^_, _≤_, _<_}
+use Prim.Native.Nat.{ℕ, zero, suc, _+_, _*_, _^_, _≤_, _<_}
 use native.Mathlib.Nat.{add-zero, lt-of-le-of-lt}
 use native.Mathlib.Omega.{arith}
 use lib.Dec.{leb, lit<}
@@ -90,3 +90,16 @@ line-read w ns l s =
     (both-read (fields (length ns)) (λ ms. word lf >> read ms) (fieldsOf ns) lf l ns ns
     (fields-read ns (lf ++ l) s refl)
     (rw (word-read lf l)))
+
+-- ---- how long a line of such numbers is: 9 digits and a tab each
+short-length : (n : ℕ) → Short n → length (decimal n) ≤ 9
+unfolding decimal
+short-length n s = printed-few 8 19 n (omega arith) (lt-of-le-of-lt s (lit< tt))
+
+fields-short : (ns : List ℕ) → AllShort ns → length (fieldsOf ns) ≤ 10 * length ns
+unfolding fieldsOf fieldOf
+fields-short [] s = omega arith
+fields-short (n ∷ ns) s = simp length-append (omega (arith, fields-short ns (s .1), short-length n (s .0)))
+
+pub line-short : (w ns : List ℕ) → AllShort ns → length (laidOut w ns) ≤ length w + 10 * length ns + 1
+line-short w ns s = omega (arith, line-length w ns, fields-short ns s)
