@@ -12,23 +12,23 @@ from sample import all_strata, draw_in
 
 HERE = pathlib.Path(__file__).resolve().parent.parent / 'crates' / 'jobs'
 ROW, WEIGHTS, HEIGHTS, LISTED, MOST_BYTES = 140, 20, 80, 60, 65_536
-OLD = (7, 8, 9)
-SEED = 1
+OLD, SEED, LARGEST = (7, 8, 9), 1, 2**64 - 1
 
 
 class Case(NamedTuple):
-    """A call: what it is of, and the lengths of the buffers of forces, shears and moments."""
+    """A call: what it is of, the lengths of the buffers of forces, shears and moments, and what a cell of each holds."""
 
     site: tuple
     frame: tuple
     weights: list
     heights: list
     buffers: tuple
+    old: tuple = OLD
 
     def row(self):
         """The numbers that the program reads."""
         row = [0] * ROW
-        numbers = (*self.site, *self.frame, len(self.weights), len(self.heights), *self.buffers)
+        numbers = (*self.site, *self.frame, len(self.weights), len(self.heights), *self.buffers, *self.old)
         row[:len(numbers)] = numbers
         row[WEIGHTS:WEIGHTS + len(self.weights)] = self.weights
         row[HEIGHTS:HEIGHTS + len(self.heights)] = self.heights
@@ -40,7 +40,7 @@ class Case(NamedTuple):
         plain = job(self.site, self.frame, self.weights, self.heights)
         cells = [[]] * 3 if result[0] == 'refused' else [result.forces, result.shears, result.moments]
         lines = [answer(result)]
-        for name, written, old, length in zip(('forces', 'shears', 'moments'), cells, OLD, self.buffers):
+        for name, written, old, length in zip(('forces', 'shears', 'moments'), cells, self.old, self.buffers):
             lines.append('\t'.join(map(str, (name, *written, *[old] * (length - len(written))))))
         return '\n'.join([*lines, 'without buffers ' + answer(plain)]) + '\n'
 
@@ -70,10 +70,14 @@ def buffer_cases():
 def list_cases():
     """0, 1, 2, 49, 50 and 51 levels; lists of unequal length."""
     yield from (tower(count) for count in (0, 1, 2, 49, 50, 51))
+    yield tower(0)._replace(buffers=(0, 0, 0))
     yield tower(50)._replace(buffers=(50, 50, 50))
     yield tower(50)._replace(buffers=(50, 49, 50))
     for weights, heights in ((3, 2), (2, 3), (0, 3), (3, 51), (51, 3), (50, 49)):
         yield tower(51)._replace(weights=[5000] * weights, heights=[38 * (i + 1) for i in range(heights)])
+    yield tower(51)._replace(buffers=(3, 55, 55))
+    yield WORKED._replace(weights=[5000, 0, 5000], buffers=(2, 3, 3))
+    yield WORKED._replace(weights=[5000, 0, 5000], heights=[100, 200])
 
 
 def wrong_cases():
@@ -85,16 +89,19 @@ def wrong_cases():
     yield longer._replace(weights=[5000, 5000, 0], heights=[0, 0, 0], site=(0,) * 7, frame=(0,) * 5)
     for place in range(7):
         yield longer._replace(site=WORKED.site[:place] + (0,) * (7 - place))
-        yield longer._replace(site=WORKED.site[:place] + (10**18,) + WORKED.site[place + 1:])
+        yield longer._replace(site=WORKED.site[:place] + (LARGEST,) + WORKED.site[place + 1:])
     for place in range(5):
-        yield longer._replace(frame=WORKED.frame[:place] + (10**9,) + WORKED.frame[place + 1:])
+        yield longer._replace(frame=WORKED.frame[:place] + (LARGEST,) + WORKED.frame[place + 1:])
         yield longer._replace(frame=WORKED.frame[:place] + (61_000,) * (5 - place))
     yield longer._replace(site=(80, 45, 100, 55, 99, 201, 4), frame=(5, 60_001, 99, 101, 99))
 
 
 def order_cases():
-    """The same job before and after another, accepted and refused."""
+    """The same job before and after another, accepted and refused; buffers that hold another job's figures."""
+    used = WORKED._replace(old=(573_215, 1_071_429, 57_321_500), buffers=(5, 5, 5))
     yield from (WORKED, OTHER, WORKED, WORKED._replace(weights=[0, 0, 0]), WORKED, tower(51), OTHER)
+    yield from (used, used._replace(weights=[5000, LARGEST, 0]), used._replace(heights=[100, LARGEST, 300]), used,
+                OTHER._replace(old=(0, LARGEST, 1)))
 
 
 def drawn_cases():

@@ -17,7 +17,7 @@ use Rattle.base_shear.specs.declared.Figures.{Figures}
 use Rattle.base_shear.specs.Shears.{figuresOf}
 use Rattle.job.specs.declared.JobAnswer.{JobAnswer}
 use Rattle.job.specs.declared.JobAnswer.the-variants.{Taken, Refused}
-use Rattle.job.specs.Job.{Results, resultsAt, jobOf, figuresOnly, answerOutcome, Buffers, shortest, written, Answers}
+use Rattle.job.specs.Job.{Results, resultsAt, jobOf, figuresOnly, five, answerOutcome, Buffers, shortest, written, Answers}
 use Rattle.job.proofs.Stages.{job-refused, job-accepted}
 
 one-refusal : {A : Type 0} {n p m q : ℕ} → _≡_ {A = Outcome A} (refused n p) (refused m q) → (n ≡ m) × (p ≡ q)
@@ -65,9 +65,6 @@ module _ (s : SiteValues) (f : FrameValues) (ws hs : List ℕ) (b : Buffers) whe
     refused-untouched = a .1 ∙ ap (λ (x : Outcome Results). written x b) (job-refused s f ws hs (shortest b) refused-judged)
 
 -- the numbers that come back: number and place, and 'figures 0' where data is refused
-abbrev pub five : Figures → List ℕ
-five n = n .v ∷ n .vm ∷ n .star ∷ n .vd ∷ n .t ∷ []
-
 pub taken-values : (n : Figures)
     → (number (answerOutcome (Taken n)) ≡ 0) × (place (answerOutcome (Taken n)) ≡ 0) × (values five 5 (answerOutcome (Taken n)) ≡ five n)
 taken-values n = success n five 5

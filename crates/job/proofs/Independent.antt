@@ -39,10 +39,15 @@ module _ (s : SiteValues) (f : FrameValues) (ws hs : List ℕ) where
   unfolding jobOf
   job-room room room′ h h′ = ap (λ (o : Outcome Given). o >>= λ g. accepted (resultsOf g ws hs)) (room-enough s f ws hs room room′ h h′)
 
-  -- whatever long enough buffers hold, the answer is one
-  pub same-answer : (b c : Buffers) (a a′ : JobAnswer) (b′ c′ : Buffers) → length ws ≤ shortest b → length ws ≤ shortest c
+  -- whatever buffers of the same shortest length hold, the answer is one
+  pub same-answer : (b c : Buffers) (a a′ : JobAnswer) (b′ c′ : Buffers) → shortest b ≡ shortest c
       → Answers s f ws hs b a b′ → Answers s f ws hs c a′ c′ → a ≡ a′
-  same-answer b c a a′ b′ c′ hb hc p q =
+  same-answer b c a a′ b′ c′ e p q = answer-unique (p .0 ∙ ap (λ (n : ℕ). figuresOnly (jobOf s f ws hs n)) e) (q .0)
+
+  -- and it is one for all that have a cell for each level
+  pub longer-answer : (b c : Buffers) (a a′ : JobAnswer) (b′ c′ : Buffers) → length ws ≤ shortest b → length ws ≤ shortest c
+      → Answers s f ws hs b a b′ → Answers s f ws hs c a′ c′ → a ≡ a′
+  longer-answer b c a a′ b′ c′ hb hc p q =
       answer-unique (p .0 ∙ ap figuresOnly (job-room (shortest b) (shortest c) hb hc)) (q .0)
 
   -- and it is the answer without buffers

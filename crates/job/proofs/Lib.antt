@@ -5,3 +5,5 @@ pub mod Answered
 pub mod Refusing
 pub mod Independent
 pub mod Storeys
+pub mod Demand3
+pub mod Worked

@@ -2,7 +2,7 @@
 -- Assumes nothing.
 use mathlib.Core.Path.{_≡_, refl}
 use mathlib.Core.List.{List}
-use Prim.Native.Nat.{ℕ, _+_, _≤_}
+use Prim.Native.Nat.{ℕ, _≤_}
 use Rattle.limits.specs.declared.frame.FrameValues.{FrameValues}
 use Rattle.limits.specs.declared.refusal.Refusal.{Refusal}
 use Rattle.limits.specs.declared.site.SiteValues.{SiteValues}
@@ -44,6 +44,6 @@ module _ (s : SiteValues) (f : FrameValues) (ws hs : List ℕ) (b : Buffers) whe
     lowest-number m q w =
         order.lowest-number s f ws hs (shortest b) (r .number) (r .place) m q (refused-judged s f ws hs b r b′ a) w
 
-    pub lowest-place : (q : ℕ) → Wrong (r .number) (1 + q) → (1 ≤ r .place) × (r .place ≤ 1 + q)
+    pub lowest-place : (q : ℕ) → Wrong (r .number) q → r .place ≤ q
     lowest-place q w =
         order.lowest-place s f ws hs (shortest b) (r .number) (r .place) q (refused-judged s f ws hs b r b′ a) w

@@ -4,13 +4,14 @@
 --   resultsOf g ws hs          those of a judged site and frame: W is the sum of the weights, h the last height
 --   jobOf s f ws hs room       the results, or the first refusal; room is the length of the shortest result buffer
 --   figuresOnly o              what is left of an outcome without the levels
+--   five n                     the figures in the listing's order: the values of an answer
 --   answerOutcome a            what the code's answer a says
 --   Buffers, shortest b        what three lent buffers hold, and the length of the shortest
 --   written o b                what they hold after: each level's cell written, the rest as it was; where data is refused, all as it was
 --   Figured s f ws hs a        a is the answer without buffers
 --   Answers s f ws hs b a b′   a is the answer, and b′ what the buffers hold that held b
 use mathlib.Core.Path.{_≡_}
-use mathlib.Core.List.{List}
+use mathlib.Core.List.{List, [], _∷_}
 use Prim.Native.Nat.{ℕ, min}
 use lib.ListN.{length}
 use Rattle.whole.specs.Cells.{sum, laid}
@@ -19,7 +20,7 @@ use Rattle.limits.specs.declared.judging.Given.{Given}
 use Rattle.limits.specs.declared.site.SiteValues.{SiteValues}
 use Rattle.limits.specs.Judging.{judgedJob}
 use Rattle.limits.specs.Levels.{topHeight}
-use Rattle.limits.specs.Outcome.{Outcome, accepted, refused, values, _>>=_}
+use Rattle.limits.specs.Outcome.{Outcome, accepted, refused, _>>=_}
 use Rattle.base_shear.specs.declared.Figures.{Figures}
 use Rattle.base_shear.specs.Shears.{figuresOf}
 use Rattle.storeys.specs.Storeys.{shears, forces, overturnings}
@@ -50,6 +51,9 @@ figuresOnly o = do
   r ← o
   accepted (r .figures)
 
+abbrev pub five : Figures → List ℕ
+five n = n .v ∷ n .vm ∷ n .star ∷ n .vd ∷ n .t ∷ []
+
 abbrev pub answerOutcome : JobAnswer → Outcome Figures
 answerOutcome (Taken n) = accepted n
 answerOutcome (Refused r) = refused (r .number) (r .place)
@@ -63,12 +67,13 @@ abbrev pub shortest : Buffers → ℕ
 shortest b = min (min (length (b .forces)) (length (b .shears))) (length (b .overturnings))
 
 abbrev pub written : Outcome Results → Buffers → Buffers
-written o b =
+written (accepted r) b =
     record {
-      forces = laid (values (λ r. r .forces) 0 o) (b .forces);
-      shears = laid (values (λ r. r .shears) 0 o) (b .shears);
-      overturnings = laid (values (λ r. r .overturnings) 0 o) (b .overturnings);
+      forces = laid (r .forces) (b .forces);
+      shears = laid (r .shears) (b .shears);
+      overturnings = laid (r .overturnings) (b .overturnings);
     }
+written (refused n p) b = b
 
 abbrev pub Figured : SiteValues → FrameValues → List ℕ → List ℕ → JobAnswer → Type 0
 Figured s f ws hs a = answerOutcome a ≡ figuresOnly (jobOf s f ws hs (length ws))

@@ -39,7 +39,7 @@ pub fn top_height(heights: &[u64]) -> u64
     heights[heights.len() - 1]
 }
 
-// Those of a judged site and frame.
+// The five figures of a judged site and frame.
 pub fn given_figures(given: Given, weights: &[u64], heights: &[u64]) -> Figures
     requires { ⌜ AllowedGiven given (now weights) (now heights) ⌝ }
     ensures { λ r. ⌜ r ≡ figuresOf (given .site) (given .frame) (sum (now (weights .entry))) (topHeight (now (heights .entry))) ⌝ }
@@ -52,7 +52,7 @@ pub fn given_figures(given: Given, weights: &[u64], heights: &[u64]) -> Figures
     )
 }
 
-// Those of unjudged values, with no buffer to write to.
+// The five figures of unjudged values, or the refusal, with no buffer to write to.
 pub fn figures(site: SiteValues, frame: FrameValues, weights: &[u64], heights: &[u64]) -> JobAnswer
     ensures { λ a. ⌜ Figured site frame (now (weights .entry)) (now (heights .entry)) a ⌝ }
 {

@@ -9,6 +9,7 @@ use row::FRAME;
 use row::HEIGHT_COUNT;
 use row::HEIGHTS;
 use row::LISTED;
+use row::OLD;
 use row::SITE;
 use row::WEIGHT_COUNT;
 use row::WEIGHTS;
@@ -19,13 +20,6 @@ mod row;
 
 ghost use Prim.Native.Nat.{_≤_};
 ghost use lib.ListN.{length};
-
-// What a cell of each buffer holds before the call.
-const OLD_FORCE: u64 = 7;
-
-const OLD_SHEAR: u64 = 8;
-
-const OLD_MOMENT: u64 = 9;
 
 fn site(row: [u64; 140]) -> SiteValues {
     SiteValues {
@@ -141,9 +135,9 @@ fn parted(
 }
 
 fn case(row: [u64; 140]) {
-    let mut forces = [OLD_FORCE; 60];
-    let mut shears = [OLD_SHEAR; 60];
-    let mut moments = [OLD_MOMENT; 60];
+    let mut forces = [row[OLD]; 60];
+    let mut shears = [row[OLD + 1]; 60];
+    let mut moments = [row[OLD + 2]; 60];
     parted(
         site(row),
         frame(row),

@@ -12,6 +12,9 @@ pub const HEIGHT_COUNT: usize = 13;
 // The lengths of the buffers of forces, shears and overturning moments.
 pub const BUFFERS: usize = 14;
 
+// What each cell of the three buffers holds before the call.
+pub const OLD: usize = 17;
+
 pub const WEIGHTS: usize = 20;
 
 pub const HEIGHTS: usize = 80;
@@ -23,8 +26,8 @@ pub const ROW: usize = 140;
 const DIGIT_LEAST: u8 = 48;
 
 const DIGIT_MOST: u8 = 57;
-// What a number of the cases is below.
-const LARGE: u64 = 1_000_000_000_000_000_000;
+// The largest u64.
+const LARGEST: u64 = 18_446_744_073_709_551_615;
 
 pub struct Read {
     pub value: u64,
@@ -66,10 +69,11 @@ pub fn number(s: &[u8], at: usize) -> Read
         if !digit(c) {
             break;
         }
-        if LARGE <= value {
+        let d = (c % 16) as u64;
+        if (LARGEST - d) / 10 < value {
             break;
         }
-        value = value * 10 + (c % 16) as u64;
+        value = value * 10 + d;
         i += 1;
     }
     Read {

@@ -24,6 +24,8 @@ use Rattle.limits.specs.Outcome.{accepted, refused, require, _>>=_, _>>_
 use Rattle.limits.specs.Ranges.{among, within, listed}
 use Rattle.limits.specs.Site.{judgedClass, judgedMapped, judgedNearFault, judgedSite}
 use Rattle.limits.proofs.Accepted.{below-more}
+use Rattle.limits.proofs.Places.{named, not-above}
+use Rattle.limits.proofs.Refusing.{refused-applies}
 use Rattle.limits.proofs.Ahead.{Ahead, Stops, Yields, UpTo, up-to-more, up-to-yields, stopped-number, stopped-place, both-yield, both-up-to, bound-up-to, require-up-to, within-up-to, first-stops, later-stops, bound-stops, value-stops, require-yields, require-stops, within-yields, within-stops}
 
 -- ---- what is out of a range is not in it, and what is not listed is not among the values
@@ -299,8 +301,10 @@ module _ (s : SiteValues) (f : FrameValues) (ws hs : List ℕ) (room : ℕ) wher
   lowest-number n p m q e a = stopped-number m q n p (subst (Stops m q) e (stops m q a))
 
   -- at its lowest place
-  pub lowest-place : (n p q : ℕ) → judgedJob s f ws hs room ≡ refused n p → Applies s f ws hs room n (1 + q) → (1 ≤ p) × (p ≤ 1 + q)
-  lowest-place n p q e a = stopped-place n q p (subst (Stops n (1 + q)) e (stops n (1 + q) a))
+  pub lowest-place : (n p q : ℕ) → judgedJob s f ws hs room ≡ refused n p → Applies s f ws hs room n q → p ≤ q
+  lowest-place n p q e a =
+      not-above n p q (named (refused-applies s f ws hs room n p e)) (named a)
+      (λ i z. stopped-place n i p (subst (Stops n (1 + i)) e (stops n (1 + i) (subst (Applies s f ws hs room n) z a))) .1)
 
   -- nothing is accepted to which a refusal applies
   pub accepted-none : (g : Given) (n p : ℕ) → judgedJob s f ws hs room ≡ accepted g → Applies s f ws hs room n p → ⊥

@@ -8,5 +8,6 @@ pub mod Reading
 pub mod Told
 pub mod Ahead
 pub mod Refusing
+pub mod Places
 pub mod Foremost
 pub mod Room

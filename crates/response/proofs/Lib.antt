@@ -7,3 +7,5 @@ pub mod Printed
 pub mod Spectra
 pub mod Reached
 pub mod Most
+pub mod Bent
+pub mod Exact

@@ -55,7 +55,7 @@ spectrum-most s A B T pb h =
     (omega (arith, mul-le-mul-left s (spectrum-within 2 1 A B T (omega arith))))
 
 -- ---- the factors: a mean of 1, a root from 1 on and a capacity from 1 on is at least 1
-mean-least : (w : Weights) (r c : Fraction) → r .den ≤ r .num → c .den ≤ c .num → mean w r c .den ≤ mean w r c .num
+pub mean-least : (w : Weights) (r c : Fraction) → r .den ≤ r .num → c .den ≤ c .num → mean w r c .den ≤ mean w r c .num
 mean-least w r c h k =
     omega (arith, mul-le-mul-right (w .root * c .den) h, mul-le-mul-right (w .cap * r .den) k)
 

@@ -20,6 +20,14 @@ use Rattle.storeys.proofs.Roof.{roof-most}
 use Rattle.storeys.proofs.Sums.{part-sum, sum-falls}
 
 -- ---- the shears
+-- the lowest is V
+pub shear-lowest : (T v : ℕ) (ws hs : List ℕ) → 0 < weightHeight ws hs → 7 * T ≤ 100_000 → shearUnder T v ws hs 0 ≡ v
+shear-lowest T v ws hs p h =
+    let P = weightHeight ws hs in
+    let r = v - roofForce T v in
+    let e : up (r * P) P ≡ r = ap (λ (n : ℕ). up n P) (omega arith) ∙ up-exact r P p in
+    omega (arith, e, roof-most T v h)
+
 -- no shear is above the one below it
 pub shear-falls : (T v : ℕ) (ws hs : List ℕ) (x : ℕ) → 0 < weightHeight ws hs
     → shearUnder T v ws hs (x + 1) ≤ shearUnder T v ws hs x
@@ -30,15 +38,7 @@ shear-falls T v ws hs x p =
     let r = v - roofForce T v in
     omega (arith, up-mono (r * a) P (r * b) P p (le-refl P) (mul-le-mul-left r (sum-falls ws hs x)))
 
--- the lowest is V
-pub shear-lowest : (T v : ℕ) (ws hs : List ℕ) → 0 < weightHeight ws hs → 7 * T ≤ 100_000 → shearUnder T v ws hs 0 ≡ v
-shear-lowest T v ws hs p h =
-    let P = weightHeight ws hs in
-    let r = v - roofForce T v in
-    let e : up (r * P) P ≡ r = ap (λ (n : ℕ). up n P) (omega arith) ∙ up-exact r P p in
-    omega (arith, e, roof-most T v h)
-
--- and none is above V
+-- none is above V
 pub shear-most : (T v : ℕ) (ws hs : List ℕ) (x : ℕ) → 0 < weightHeight ws hs → 7 * T ≤ 100_000 → shearUnder T v ws hs x ≤ v
 shear-most T v ws hs x p h =
     let P = weightHeight ws hs in

@@ -9,14 +9,17 @@
 --   about b fs hs         force times height above b, added
 --   overturning fs hs x   (23) without its factor, about the bottom of storey x, in N·dm, over the levels from x upward
 --   overturnings fs hs    those of all storeys
--- ℕ's subtraction stops at 0; that no difference here goes below it is a law.
+--   Filled T v ws hs us fs ms us′ fs′ ms′    us′, fs′ and ms′ are what buffers that held us, fs and ms hold when shears, forces and
+--                         overturning moments are laid over their first cells
+-- ℕ's subtraction stops at 0; that no difference here goes below it: `roof-most`, `force-whole`, `above-from` of proofs/.
+use mathlib.Core.Path.{_≡_}
 use mathlib.Core.List.{List, [], _∷_}
 use Prim.Native.Nat.{ℕ, zero, suc, _+_, _-_, _*_}
 use lib.ListN.{length, drop, getD}
 use Rattle.whole.specs.declared.Fraction.{Fraction}
 use Rattle.whole.specs.Rounding.{up}
 use Rattle.whole.specs.Fraction.{over}
-use Rattle.whole.specs.Cells.{cells}
+use Rattle.whole.specs.Cells.{cells, laid}
 
 abbrev pub roofPart : ℕ → Fraction
 roofPart T = over (7 * T) 100_000
@@ -58,3 +61,9 @@ overturning fs hs x = about (bottom hs x) (drop x fs) (drop x hs)
 
 abbrev pub overturnings : List ℕ → List ℕ → List ℕ
 overturnings fs hs = cells (overturning fs hs) (length fs)
+
+abbrev pub Filled : ℕ → ℕ → List ℕ → List ℕ → List ℕ → List ℕ → List ℕ → List ℕ → List ℕ → List ℕ → Type 0
+Filled T v ws hs us fs ms us′ fs′ ms′ =
+    (us′ ≡ laid (shears T v ws hs) us)
+    × (fs′ ≡ laid (forces (shears T v ws hs)) fs)
+    × (ms′ ≡ laid (overturnings (forces (shears T v ws hs)) hs) ms)

@@ -1,12 +1,10 @@
 use crate::level_force::fill_forces;
 use crate::overturning::fill_overturnings;
 use crate::shear::fill_shears;
-ghost use mathlib.Core.Path.{_≡_};
 ghost use Prim.Native.Nat.{_≤_};
 ghost use lib.ListN.{length};
-ghost use Rattle.whole.specs.Cells.{laid};
 ghost use Rattle.storeys.specs.Reach.{Load, Standing};
-ghost use Rattle.storeys.specs.Storeys.{shears, forces, overturnings};
+ghost use Rattle.storeys.specs.Storeys.{Filled};
 
 // Shears, forces and overturning of every storey, into the first cells of the three buffers.
 pub fn fill_storeys(
@@ -14,15 +12,15 @@ pub fn fill_storeys(
     v: u64,
     weights: &[u64],
     heights: &[u64],
-    under: &mut [u64],
-    at: &mut [u64],
-    about: &mut [u64],
+    shears: &mut [u64],
+    forces: &mut [u64],
+    overturnings: &mut [u64],
 )
-    requires { ⌜ Load t v × Standing (now weights) (now heights) × (length (now weights) ≤ length (now under)) × (length (now weights) ≤ length (now at)) × (length (now weights) ≤ length (now about)) ⌝ }
-    ensures { λ _. ⌜ (now (under .exit) ≡ laid (shears t v (now (weights .entry)) (now (heights .entry))) (now (under .entry))) × (now (at .exit) ≡ laid (forces (shears t v (now (weights .entry)) (now (heights .entry)))) (now (at .entry))) × (now (about .exit) ≡ laid (overturnings (forces (shears t v (now (weights .entry)) (now (heights .entry)))) (now (heights .entry))) (now (about .entry))) ⌝ }
+    requires { ⌜ Load t v × Standing (now weights) (now heights) × (length (now weights) ≤ length (now shears)) × (length (now weights) ≤ length (now forces)) × (length (now weights) ≤ length (now overturnings)) ⌝ }
+    ensures { λ _. ⌜ Filled t v (now (weights .entry)) (now (heights .entry)) (now (shears .entry)) (now (forces .entry)) (now (overturnings .entry)) (now (shears .exit)) (now (forces .exit)) (now (overturnings .exit)) ⌝ }
 {
     let n = weights.len();
-    fill_shears(t, v, weights, heights, under);
-    fill_forces(&under[..n], at);
-    fill_overturnings(&at[..n], heights, about);
+    fill_shears(t, v, weights, heights, shears);
+    fill_forces(&shears[..n], forces);
+    fill_overturnings(&forces[..n], heights, overturnings);
 }

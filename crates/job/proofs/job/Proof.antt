@@ -61,8 +61,9 @@ fill-storeys-requires c κs =
     let all = given-allowed (a .site) (a .frame) (a .weights .now) (a .heights .now) _ g e in
     let n = c .before .before .before .given-figures .ensures in
     let short = c .before .before .before .before .before .before .before .before .shorter2 .ensures in
-    let shorter = c .before .before .before .before .before .before .before .before .before .shorter .ensures in (
-      subst (λ (n : Figures). Load (n .t) (n .vd)) (sym n) (load g (a .weights .now) (a .heights .now) (all .0)),
+    let shorter = c .before .before .before .before .before .before .before .before .before .shorter .ensures in
+    let l = subst (λ (n : Figures). Load (n .t) (n .vd)) (sym n) (load g (a .weights .now) (a .heights .now) (all .0)) in (
+      record { part = l .part; shear = omega (arith, l .shear) },
       standing (a .weights .now) (a .heights .now) (all .0 .levels),
       omega (arith, all .1),
       omega (arith, all .1),

@@ -20,11 +20,14 @@ shared-slice-read-c c = search needs
 digit-requires : tie.Need-digit-requires Inv-loop μ-loop
 digit-requires c κs = search needs
 
+cast-d : tie.Need-cast-d Inv-loop μ-loop
+cast-d c = search needs
+
+sub-if2 : tie.Need-sub-if2 Inv-loop μ-loop
+sub-if2 c = search needs
+
 mul-value : tie.Need-mul-value Inv-loop μ-loop
 mul-value c = search needs
-
-cast-value : tie.Need-cast-value Inv-loop μ-loop
-cast-value c = search needs
 
 add-value : tie.Need-add-value Inv-loop μ-loop
 add-value c = search needs
@@ -53,8 +56,9 @@ number-spec =
     loop-holds
     shared-slice-read-c
     digit-requires
+    cast-d
+    sub-if2
     mul-value
-    cast-value
     add-value
     add-i
     loop-less

@@ -30,7 +30,7 @@ slice-aggregate-fill-forces c =
     let n = length ws in
     let us = shears (a .t) (a .v) ws hs in
     let size = shears-length (a .t) (a .v) ws hs in
-    let e = ap (λ (l : List ℕ). take n l) (c .before .before .before .fill-shears .ensures) ∙ laid-part us (a .under .now) n size in
+    let e = ap (λ (l : List ℕ). take n l) (c .before .before .before .fill-shears .ensures) ∙ laid-part us (a .shears .now) n size in
     sym (ap length e ∙ size)
 
 fill-forces-requires : tie.Need-fill-forces-requires
@@ -42,7 +42,7 @@ fill-forces-requires c κs =
     let n = length ws in
     let us = shears (a .t) (a .v) ws hs in
     let size = shears-length (a .t) (a .v) ws hs in
-    let e = ap (λ (l : List ℕ). take n l) (c .before .before .before .before .fill-shears .ensures) ∙ laid-part us (a .under .now) n size in
+    let e = ap (λ (l : List ℕ). take n l) (c .before .before .before .before .fill-shears .ensures) ∙ laid-part us (a .shears .now) n size in
     (subst (λ (l : List ℕ). Falling l) (sym e) (shears-fall (a .t) (a .v) ws hs (b .pre .1 .positive)), omega (arith, ap length e, size))
 
 slice-reshare-prefix-fill-overturnings : tie.Need-slice-reshare-prefix-fill-overturnings
@@ -57,9 +57,9 @@ slice-aggregate-fill-overturnings c =
     let n = length ws in
     let us = shears (a .t) (a .v) ws hs in
     let size = shears-length (a .t) (a .v) ws hs in
-    let e = ap (λ (l : List ℕ). take n l) (c .before .before .before .before .before .before .before .before .fill-shears .ensures) ∙ laid-part us (a .under .now) n size in
-    let w = c .before .before .before .fill-forces .ensures ∙ ap (λ (l : List ℕ). laid (forces l) (a .at .now)) e in
-    let f = ap (λ (l : List ℕ). take n l) w ∙ laid-part (forces us) (a .at .now) n (forces-length us ∙ size) in
+    let e = ap (λ (l : List ℕ). take n l) (c .before .before .before .before .before .before .before .before .fill-shears .ensures) ∙ laid-part us (a .shears .now) n size in
+    let w = c .before .before .before .fill-forces .ensures ∙ ap (λ (l : List ℕ). laid (forces l) (a .forces .now)) e in
+    let f = ap (λ (l : List ℕ). take n l) w ∙ laid-part (forces us) (a .forces .now) n (forces-length us ∙ size) in
     sym (ap length f ∙ forces-length us ∙ size)
 
 fill-overturnings-requires : tie.Need-fill-overturnings-requires
@@ -71,9 +71,9 @@ fill-overturnings-requires c κs =
     let n = length ws in
     let us = shears (a .t) (a .v) ws hs in
     let size = shears-length (a .t) (a .v) ws hs in
-    let e = ap (λ (l : List ℕ). take n l) (c .before .before .before .before .before .before .before .before .before .fill-shears .ensures) ∙ laid-part us (a .under .now) n size in
-    let w = c .before .before .before .before .fill-forces .ensures ∙ ap (λ (l : List ℕ). laid (forces l) (a .at .now)) e in
-    let f = ap (λ (l : List ℕ). take n l) w ∙ laid-part (forces us) (a .at .now) n (forces-length us ∙ size) in
+    let e = ap (λ (l : List ℕ). take n l) (c .before .before .before .before .before .before .before .before .before .fill-shears .ensures) ∙ laid-part us (a .shears .now) n size in
+    let w = c .before .before .before .before .fill-forces .ensures ∙ ap (λ (l : List ℕ). laid (forces l) (a .forces .now)) e in
+    let f = ap (λ (l : List ℕ). take n l) w ∙ laid-part (forces us) (a .forces .now) n (forces-length us ∙ size) in
     (subst (λ (l : List ℕ). Turning l hs) (sym f) (turning-of (a .t) (a .v) ws hs (b .pre .0) (b .pre .1)), omega (arith, ap length f, forces-length us, size))
 
 same-length : tie.Need-same-length
@@ -94,10 +94,10 @@ returns c =
     let n = length ws in
     let us = shears (a .t) (a .v) ws hs in
     let size = shears-length (a .t) (a .v) ws hs in
-    let e = ap (λ (l : List ℕ). take n l) (c .before .before .before .before .before .before .before .before .before .before .before .before .fill-shears .ensures) ∙ laid-part us (a .under .now) n size in
-    let w = c .before .before .before .before .before .before .before .fill-forces .ensures ∙ ap (λ (l : List ℕ). laid (forces l) (a .at .now)) e in
-    let f = ap (λ (l : List ℕ). take n l) w ∙ laid-part (forces us) (a .at .now) n (forces-length us ∙ size) in
-    (c .before .before .before .before .before .before .before .before .before .before .before .before .fill-shears .ensures, w, c .before .before .fill-overturnings .ensures ∙ ap (λ (l : List ℕ). laid (overturnings l hs) (a .about .now)) f)
+    let e = ap (λ (l : List ℕ). take n l) (c .before .before .before .before .before .before .before .before .before .before .before .before .fill-shears .ensures) ∙ laid-part us (a .shears .now) n size in
+    let w = c .before .before .before .before .before .before .before .fill-forces .ensures ∙ ap (λ (l : List ℕ). laid (forces l) (a .forces .now)) e in
+    let f = ap (λ (l : List ℕ). take n l) w ∙ laid-part (forces us) (a .forces .now) n (forces-length us ∙ size) in
+    (c .before .before .before .before .before .before .before .before .before .before .before .before .fill-shears .ensures, w, c .before .before .fill-overturnings .ensures ∙ ap (λ (l : List ℕ). laid (overturnings l hs) (a .overturnings .now)) f)
 
 pub fill-storeys-spec : {M : Type 1} → statement M
 fill-storeys-spec =

@@ -1,0 +1,86 @@
+-- A job by its numbers, and what it comes to in millionths.
+--   Job                  site line, frame line, weights, heights, and what is given where they are accepted
+--   jobOf ..             a job of the lines of a sheet, as its numbers stand there, with its class and kind
+--   Accepted j           they are accepted, with result buffers of as many cells as levels
+--   hazards j, period j  the three hazards; T
+--   printed j, printedUnder j x       V_D, and the shear under level x, from 0
+--   exact j r, exactUnder j r x       the same of the exact chain, at fractions r for the roots
+--   Demand3Of j v u      demand 3 of a base shear v and storey shears u
+--   margin e j           e millionths of I·W/(1.4·alpha-y), plus one newton
+-- Assumes nothing.
+use mathlib.Core.Path.{_≡_}
+use mathlib.Core.List.{List}
+use Prim.Native.Nat.{ℕ}
+use lib.ListN.{length}
+use Rattle.whole.specs.declared.Fraction.{Fraction}
+use Rattle.whole.specs.Cells.{sum}
+use Rattle.limits.specs.Frame.{frameOf}
+use Rattle.limits.specs.Judging.{judgedJob}
+use Rattle.limits.specs.Levels.{topHeight}
+use Rattle.limits.specs.Outcome.{accepted}
+use Rattle.limits.specs.Site.{siteOf}
+use Rattle.limits.specs.declared.frame.FrameValues.{FrameValues}
+use Rattle.limits.specs.declared.frame.Kind.{Kind}
+use Rattle.limits.specs.declared.judging.Given.{Given}
+use Rattle.limits.specs.declared.site.Class.{Class}
+use Rattle.limits.specs.declared.site.SiteValues.{SiteValues}
+use Rattle.site.specs.Hazards.{hazardsOf}
+use Rattle.site.specs.declared.hazard.Hazards.{Hazards}
+use Rattle.response.specs.Period.{periodOf}
+use Rattle.response.specs.Unit.{unit}
+use Rattle.base_shear.specs.Exact.{Roots, exactBase}
+use Rattle.base_shear.specs.Shears.{base}
+use Rattle.storeys.specs.Exact.{exactShearUnder}
+use Rattle.storeys.specs.Storeys.{shearUnder}
+use Rattle.margin.specs.Demand3.{Demand3}
+use Rattle.margin.proofs.Bound.{marginOf}
+
+pub record Job : Type 0 where
+  pub site : SiteValues
+  pub frame : FrameValues
+  pub weights : List ℕ
+  pub heights : List ℕ
+  pub given : Given
+
+abbrev pub siteLine : ℕ → ℕ → ℕ → ℕ → ℕ → ℕ → ℕ → SiteValues
+siteLine ssd s1d ssm s1m na nv class = record { ssd = ssd; s1d = s1d; ssm = ssm; s1m = s1m; na = na; nv = nv; class = class }
+
+abbrev pub frameLine : ℕ → ℕ → ℕ → ℕ → ℕ → FrameValues
+frameLine kind calculated r i alpha = record { kind = kind; calculated = calculated; r = r; i = i; alpha = alpha }
+
+abbrev pub jobOf : SiteValues → Class → FrameValues → Kind → List ℕ → List ℕ → Job
+jobOf s c f k ws hs =
+    record {
+      site = s;
+      frame = f;
+      weights = ws;
+      heights = hs;
+      given = record { site = siteOf s c; frame = frameOf f k };
+    }
+
+abbrev pub Accepted : Job → Type 0
+Accepted j = judgedJob (j .site) (j .frame) (j .weights) (j .heights) (length (j .weights)) ≡ accepted (j .given)
+
+abbrev pub hazards : Job → Hazards
+hazards j = hazardsOf (j .given .site) (j .given .frame .r)
+
+abbrev pub period : Job → ℕ
+period j = periodOf (j .given .frame .kind) (j .given .frame .calculated) (topHeight (j .heights))
+
+abbrev pub printed : Job → ℕ
+printed j = base unit (hazards j) (j .given .frame) (sum (j .weights)) (period j)
+
+abbrev pub exact : Job → Roots → Fraction
+exact j r = exactBase (hazards j) (j .given .frame) (sum (j .weights)) (period j) r
+
+abbrev pub printedUnder : Job → ℕ → ℕ
+printedUnder j x = shearUnder (period j) (printed j) (j .weights) (j .heights) x
+
+abbrev pub exactUnder : Job → Roots → ℕ → Fraction
+exactUnder j r x = exactShearUnder (period j) (j .weights) (j .heights) (exact j r) x
+
+abbrev pub margin : ℕ → Job → Fraction
+margin e j = marginOf e unit (hazards j .divisor) (j .given .frame) (sum (j .weights))
+
+abbrev pub Demand3Of : Job → ℕ → (ℕ → ℕ) → Type 0
+Demand3Of j v u = Demand3 unit (hazards j) (j .given .frame) (j .weights) (j .heights) (period j) v u

@@ -1,0 +1,17 @@
+pub mod Off
+pub mod Root
+pub mod Factor
+pub mod Ratio
+pub mod Bound
+pub mod Job
+pub mod Sharp
+pub mod Shear
+pub mod Base
+pub mod Storey
+pub mod Demand3
+pub mod Allowed
+pub mod Moves
+pub mod There
+pub mod Literal
+pub mod Wrong
+pub mod Accepted

@@ -1,0 +1,73 @@
+-- The exact chain in document 01's own numbers: m, the newtons, the margin, the storeys. The spectrum and the factor stand so in
+-- their definitions. That the factor's sign is never a minus is `factor-natural`, that p is the factor times m of the spectrum
+-- over the factor `blended-is-modified`, both of response/proofs/Exact.antt.
+-- Assumes nothing.
+use mathlib.Core.Path.{_≡_, ap}
+use Prim.Native.Nat.{ℕ, _+_, _*_, _-_, _≤_}
+use native.Mathlib.Omega.{arith}
+use Rattle.whole.specs.declared.Fraction.{Fraction}
+use Rattle.whole.specs.Fraction.{over, plus, times, quotient, Same, AtMost, Less}
+use Rattle.whole.proofs.Choice.{by-leb}
+use Rattle.limits.specs.declared.frame.Frame.{Frame}
+use Rattle.site.specs.Hazards.{lines}
+use Rattle.site.specs.declared.hazard.Hazards.{Hazards}
+use Rattle.response.specs.Ratio.{bent, exactModified}
+use Rattle.base_shear.specs.Exact.{exactNewtons}
+use Rattle.storeys.specs.Exact.{exactRoofForce, rest}
+use Rattle.storeys.specs.Storeys.{roofPart}
+use Rattle.margin.specs.Demand3.{allowed}
+
+-- 'Up to 300,000: q.'
+pub exact-modified-first : (q : Fraction) → AtMost q (over 3 10) → Same (exactModified lines q) q
+unfolding bent
+exact-modified-first q h =
+    by-leb (λ (z : ℕ). z * q .den ≡ q .num * (1000 * q .den)) (1000 * q .num) (300 * q .den) _ _
+    (λ _. omega arith)
+    (λ k. absurd (omega arith))
+
+-- 'Up to 800,000: 0.52·q + 144,000.'
+pub exact-modified-second : (q : Fraction) → Less (over 3 10) q → AtMost q (over 8 10)
+    → Same (exactModified lines q) (plus (times (over 52 100) q) (over 144 1000))
+unfolding bent
+exact-modified-second q h k =
+    let x = plus (times (over 52 100) q) (over 144 1000) in
+    by-leb (λ (z : ℕ). z * x .den ≡ x .num * (1000 * q .den)) (1000 * q .num) (300 * q .den) _ _
+    (λ a. absurd (omega arith))
+    (λ a.
+    by-leb (λ (z : ℕ). z * x .den ≡ x .num * (1000 * q .den)) (1000 * q .num) (800 * q .den) _ _
+    (λ _. omega arith)
+    (λ b. absurd (omega arith)))
+
+-- 'Above: 0.7·q.'
+pub exact-modified-last : (q : Fraction) → Less (over 8 10) q → Same (exactModified lines q) (times (over 7 10) q)
+unfolding bent
+exact-modified-last q h =
+    let x = times (over 7 10) q in
+    by-leb (λ (z : ℕ). z * x .den ≡ x .num * (1000 * q .den)) (1000 * q .num) (300 * q .den) _ _
+    (λ a. absurd (omega arith))
+    (λ a.
+    by-leb (λ (z : ℕ). z * x .den ≡ x .num * (1000 * q .den)) (1000 * q .num) (800 * q .den) _ _
+    (λ b. absurd (omega arith))
+    (λ _. omega arith))
+
+-- I·x·W over n/10·alpha-y: I and alpha-y in hundredths, W in kN of 1000 N
+pub newtons-are : (n : ℕ) (f : Frame) (W : ℕ) (x : Fraction)
+    → Same (exactNewtons n f W x)
+    (quotient (times (times (over (f .i) 100) x) (over (1000 * W) 1)) (times (over n 10) (over (f .alpha) 100)))
+newtons-are n f W x = omega arith
+
+-- the margin: six s-ths of I·W/(n/10·alpha-y), plus one newton
+pub allowed-is : (s : ℕ) (k : Hazards) (f : Frame) (W : ℕ)
+    → Same (allowed s k f W)
+    (plus
+    (times (over 6 s)
+    (quotient (times (over (f .i) 100) (over (1000 * W) 1)) (times (over (k .divisor) 10) (over (f .alpha) 100))))
+    (over 1 1))
+allowed-is s k f W = omega arith
+
+-- V − F_t, as the storeys have it: what is left of V beside F_t
+pub rest-beside-roof-force : (T : ℕ) (v : Fraction) → 7 * T ≤ 100_000
+    → Same (plus (exactRoofForce T v) (times (rest (roofPart T)) v)) v
+rest-beside-roof-force T v h =
+    let e : 7 * T + (100_000 - 7 * T) ≡ 100_000 = omega arith in
+    omega (arith, ap (λ (z : ℕ). z * (100_000 * (v .num * (v .den * v .den)))) e)

@@ -1,0 +1,114 @@
+-- Three accepted jobs that show how sharp demand 3 is, worked out by the checker: its margins cannot be much smaller, and its
+-- fractions cannot stand the other way round.
+--   heavy     a million kN: the base shear is above the exact one by more than four millionths and a newton
+--   tall      2,000 dm: the shear under the roof is above the exact one by more than six millionths and two newtons
+--   stiff     with a low fraction in V the chain is above the printed base shear
+-- Assumes nothing.
+use mathlib.Core.Path.{refl}
+use mathlib.Core.List.{[], _∷_}
+use Prim.Native.Nat.{_+_}
+use lib.Dec.{lit<, lit≤}
+use Rattle.whole.specs.Cells.{cells, sum}
+use Rattle.whole.specs.Fraction.{over, plus, AtMost, Less}
+use Rattle.whole.specs.Line.{between}
+use Rattle.whole.specs.Root.{lowerRoot, upperRoot}
+use Rattle.whole.specs.Rounding.{up, down}
+use Rattle.whole.specs.Search.{bitsFrom, largest, smallest}
+use Rattle.whole.specs.Signed.{floor, ceiling}
+use Rattle.limits.specs.Frame.{judgedKind, judgedPeriod, judgedFrame}
+use Rattle.limits.specs.Judging.{judgedJob}
+use Rattle.limits.specs.Levels.{weighed, raised, judgedLevels}
+use Rattle.limits.specs.Ranges.{inRange, within, among, listed}
+use Rattle.limits.specs.Site.{judgedClass, judgedMapped, judgedNearFault, judgedSite}
+use Rattle.limits.specs.declared.frame.Kind.the-variants.{Steel, Concrete}
+use Rattle.limits.specs.declared.site.Class.the-variants.{Hard, Soft}
+use Rattle.response.specs.Factor.{factor, lowerFactor, upperFactor}
+use Rattle.response.specs.Period.{approximate, inUse}
+use Rattle.response.specs.Ratio.{bent, ratio, modified, blended}
+use Rattle.response.specs.Spectrum.{exactSpectrum, spectrum}
+use Rattle.response.specs.Unit.{unit}
+use Rattle.base_shear.specs.Exact.{Roots}
+use Rattle.base_shear.specs.Shears.{newtons, shear, star, base}
+use Rattle.storeys.specs.Storeys.{weightHeight}
+use Rattle.margin.specs.Demand3.{LessBy, allowed}
+use Rattle.margin.specs.Roots.{High, Low, Raising}
+use Rattle.margin.proofs.Job.{Job, siteLine, frameLine, jobOf, Accepted, hazards, printed, printedUnder, exact, exactUnder, margin}
+
+-- 50 levels of 20,000 kN, a decimetre apart
+abbrev pub heavy : Job
+heavy =
+    jobOf (siteLine 50 30 100 45 144 134 3) Soft (frameLine 1 115 102 150 100) Steel (cells (λ x. 20_000) 50)
+    (cells (λ x. x + 1) 50)
+
+abbrev pub tall : Job
+tall =
+    jobOf (siteLine 70 30 70 40 149 135 1) Hard (frameLine 1 6246 244 125 199) Steel (12 ∷ 1 ∷ 1 ∷ 1 ∷ 2 ∷ 1 ∷ [])
+    (207 ∷ 630 ∷ 1464 ∷ 1481 ∷ 1657 ∷ 2000 ∷ [])
+
+abbrev pub stiff : Job
+stiff =
+    jobOf (siteLine 80 45 100 55 100 100 1) Hard (frameLine 2 200 480 100 150) Concrete (5000 ∷ 5000 ∷ 5000 ∷ [])
+    (100 ∷ 200 ∷ 300 ∷ [])
+
+pub all-accepted : Accepted heavy × Accepted tall × Accepted stiff
+unfolding cells judgedJob judgedLevels weighed raised within inRange among listed judgedSite judgedMapped judgedNearFault
+    judgedClass judgedFrame judgedKind judgedPeriod
+all-accepted = (refl, refl, refl)
+
+-- ---- the base
+abbrev pub heavyRoots : Roots
+heavyRoots = record { v = over 1 1; vm = over 10_505 10_301; star = over 2 1 }
+
+pub heavy-raising : Raising (hazards heavy) heavyRoots
+heavy-raising =
+    record {
+      v = record { sound = lit< tt; one = lit≤ tt; low = lit≤ tt };
+      vm = record { sound = lit< tt; one = lit≤ tt; low = lit≤ tt };
+      star = record { sound = lit< tt; one = lit≤ tt; high = lit≤ tt };
+    }
+
+-- printed 1,047,228,215 N, exact at these fractions 1,047,223,890.96 N; a millionth is 1,071.43 N
+pub over-four-millionths : AtMost (plus (exact heavy heavyRoots) (margin 4 heavy)) (over (printed heavy) 1)
+    × LessBy (printed heavy) (exact heavy heavyRoots) (allowed unit (hazards heavy) (heavy .given .frame) (sum (heavy .weights)))
+unfolding cells sum between up down largest smallest bitsFrom lowerRoot upperRoot floor ceiling approximate inUse spectrum
+    exactSpectrum factor lowerFactor upperFactor ratio modified blended bent newtons shear star base
+over-four-millionths = (lit≤ tt, lit< tt)
+
+-- ---- the storeys
+abbrev pub tallRoots : Roots
+tallRoots = record { v = over 1 1; vm = over 1 1; star = over 2 1 }
+
+pub tall-raising : Raising (hazards tall) tallRoots
+tall-raising =
+    record {
+      v = record { sound = lit< tt; one = lit≤ tt; low = lit≤ tt };
+      vm = record { sound = lit< tt; one = lit≤ tt; low = lit≤ tt };
+      star = record { sound = lit< tt; one = lit≤ tt; high = lit≤ tt };
+    }
+
+-- printed 924 N, exact 921.74 N; six millionths are 0.05 N. The margin plus two newtons is six millionths plus three newtons
+pub over-two-newtons :
+    AtMost (plus (exactUnder tall tallRoots 5) (plus (margin 6 tall) (over 1 1))) (over (printedUnder tall 5) 1)
+    × LessBy (printedUnder tall 5) (exactUnder tall tallRoots 5) (plus (margin 6 tall) (over 2 1))
+unfolding sum between up down largest smallest bitsFrom lowerRoot upperRoot floor ceiling approximate inUse spectrum exactSpectrum
+    factor lowerFactor upperFactor ratio modified blended bent newtons shear star base weightHeight
+over-two-newtons = (lit≤ tt, lit< tt)
+
+-- ---- the fractions
+abbrev pub stiffRoots : Roots
+stiffRoots = record { v = over 1 1; vm = over 3 1; star = over 2 1 }
+
+-- as `Lowering` asks, but for V
+pub stiff-fractions : Low (hazards stiff .design .square) (stiffRoots .v) × High (hazards stiff .mce .square) (stiffRoots .vm)
+    × Low (hazards stiff .star .square) (stiffRoots .star)
+stiff-fractions = (
+  record { sound = lit< tt; one = lit≤ tt; low = lit≤ tt },
+  record { sound = lit< tt; one = lit≤ tt; high = lit≤ tt },
+  record { sound = lit< tt; one = lit≤ tt; low = lit≤ tt },
+)
+
+-- printed 2,295,136 N, the chain 4,000,000 N
+pub low-fraction-in-v : Less (over (printed stiff) 1) (exact stiff stiffRoots)
+unfolding sum between up down largest smallest bitsFrom lowerRoot upperRoot floor ceiling approximate inUse spectrum exactSpectrum
+    factor lowerFactor upperFactor ratio modified blended bent newtons shear star base
+low-fraction-in-v = lit< tt
