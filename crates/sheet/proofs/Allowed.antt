@@ -1,10 +1,9 @@
 -- A sheet of numbers that a job accepts is short enough: 9 digits a number, 4,096 bytes in all.
 -- Assumes nothing.
-use mathlib.Core.Path.{_≡_, refl, sym, subst, _∙_}
+use mathlib.Core.Path.{_≡_, refl, sym, subst}
 use mathlib.Core.Bool.{Bool, true, false}
-use mathlib.Core.List.{List, [], _∷_, _++_}
-use Prim.Native.Nat.{ℕ, zero, suc, _+_, _*_, _≤_, _<_}
-use native.Mathlib.Nat.{suc-inj}
+use mathlib.Core.List.{List, [], _∷_}
+use Prim.Native.Nat.{ℕ, suc, _*_, _≤_, _<_}
 use native.Mathlib.Omega.{arith}
 use lib.Dec.{eqb}
 use lib.ListN.{length, getD, length-append}
@@ -21,19 +20,20 @@ use Rattle.limits.specs.Allowed.{AllowedSite, AllowedFrame}
 use Rattle.limits.specs.Frame.{judgedKind, judgedPeriod, frameOf, judgedFrame}
 use Rattle.limits.specs.Judging.{judgedJob}
 use Rattle.limits.specs.Levels.{judgedLevels}
-use Rattle.limits.specs.Outcome.{Outcome, accepted, refused, _>>=_, _>>_}
+use Rattle.limits.specs.Outcome.{Outcome, accepted, _>>_}
 use Rattle.limits.specs.Ranges.{within, listed}
 use Rattle.limits.specs.Site.{judgedClass, siteOf, judgedMapped, judgedNearFault, judgedSite}
 use Rattle.limits.proofs.Accepted.{site-allowed, frame-allowed, levels-allowed}
 use Rattle.limits.proofs.Passed.{never, one-value, then-passed, bind-passed}
 use Rattle.text.specs.Bytes.{bytes}
-use Rattle.text.specs.Writing.{laidOut, AllShort}
+use Rattle.text.specs.Writing.{AllShort}
 use Rattle.text.proofs.Trip.{line-short}
 use Rattle.sheet.specs.Layout.{siteNumbers, frameNumbers, levelsLaid, sheetLaid, Laid}
 use Rattle.sheet.specs.Reading.{SheetRead}
 
 -- a number that is chosen from a list of numbers up to m
-chosen : {A : Type 0} (m k n : ℕ) (a c : A) (o : Outcome A) → k ≤ m → (o ≡ accepted c → n ≤ m) → pick (eqb n k) (accepted a) o ≡ accepted c → n ≤ m
+chosen : {A : Type 0} (m k n : ℕ) (a c : A) (o : Outcome A) → k ≤ m → (o ≡ accepted c → n ≤ m)
+    → pick (eqb n k) (accepted a) o ≡ accepted c → n ≤ m
 chosen m k n a c o h f e = go (eqb n k) refl e
   where
     go : (t : Bool) → eqb n k ≡ t → pick t (accepted a) o ≡ accepted c → n ≤ m
@@ -49,7 +49,8 @@ kind-small : (n : ℕ) (k : Kind) → judgedKind n ≡ accepted k → n ≤ 4
 unfolding judgedKind
 kind-small n k =
     chosen 4 1 n _ k _ (omega arith)
-    (chosen 4 2 n _ k _ (omega arith) (chosen 4 3 n _ k _ (omega arith) (chosen 4 4 n _ k _ (omega arith) (λ e. absurd (never e)))))
+    (chosen 4 2 n _ k _ (omega arith)
+    (chosen 4 3 n _ k _ (omega arith) (chosen 4 4 n _ k _ (omega arith) (λ e. absurd (never e)))))
 
 site-short : (v : SiteValues) (s : Site) → judgedSite v ≡ accepted s → AllShort (siteNumbers v)
 unfolding judgedSite
@@ -58,8 +59,13 @@ site-short v s e =
     let near = then-passed (judgedNearFault v) _ (mapped .1) in
     let class = bind-passed (judgedClass (v .class)) (λ c. accepted (siteOf v c)) (near .1) in
     let a = subst AllowedSite (sym (one-value (class .2))) (site-allowed v s e) in
-    let c = class-small (v .class) (class .0) (class .1) in
-    (omega (arith, a .ssd), (omega (arith, a .s1d), (omega (arith, a .ssm), (omega (arith, a .s1m), (omega (arith, a .na), (omega (arith, a .nv), (omega arith, tt)))))))
+    let c = class-small (v .class) (class .0) (class .1) in (
+      omega (arith, a .ssd),
+      (
+        omega (arith, a .s1d),
+        (omega (arith, a .ssm), (omega (arith, a .s1m), (omega (arith, a .na), (omega (arith, a .nv), (omega arith, tt))))),
+      ),
+    )
 
 frame-short : (v : FrameValues) (f : Frame) → judgedFrame v ≡ accepted f → AllShort (frameNumbers v)
 unfolding judgedFrame
@@ -82,9 +88,11 @@ unfolding levelsLaid
 levels-length [] hs s t = omega arith
 levels-length (w ∷ ws) [] s t = omega arith
 levels-length (w ∷ ws) (h ∷ hs) s t =
-    simp length-append (omega (arith, levels-length ws hs (s .1) (t .1), line-short (bytes "level") (w ∷ h ∷ []) (s .0, (t .0, tt))))
+    simp length-append
+    (omega (arith, levels-length ws hs (s .1) (t .1), line-short (bytes "level") (w ∷ h ∷ []) (s .0, (t .0, tt))))
 
-pub allowed-laid : (r : SheetRead) (room : ℕ) (g : Given) → judgedJob (r .site) (r .frame) (r .weights) (r .heights) room ≡ accepted g → Laid r
+pub allowed-laid : (r : SheetRead) (room : ℕ) (g : Given)
+    → judgedJob (r .site) (r .frame) (r .weights) (r .heights) room ≡ accepted g → Laid r
 unfolding judgedJob sheetLaid
 allowed-laid r room g e =
     let levels = then-passed (judgedLevels (r .weights) (r .heights) room) _ e in
@@ -101,5 +109,14 @@ allowed-laid r room g e =
       weights = ws;
       heights = hs;
       same = sym (l .same);
-      fits = simp length-append (omega (arith, l .few, levels-length (r .weights) (r .heights) ws hs, line-short (bytes "site") (siteNumbers (r .site)) ss, line-short (bytes "frame") (frameNumbers (r .frame)) fs));
+      fits =
+          simp length-append
+          (omega (
+            arith,
+            l .few,
+            levels-length (r .weights) (r .heights) ws hs,
+            line-short (bytes "site")
+                (siteNumbers (r .site)) ss,
+            line-short (bytes "frame") (frameNumbers (r .frame)) fs,
+          ));
     }

@@ -3,6 +3,7 @@ pub mod Gathering
 pub mod Stages
 pub mod Listings
 pub mod Joining
+pub mod Parts
 pub mod Held
 pub mod Length
 pub mod LaidRead

@@ -2,24 +2,22 @@
 -- Assumes nothing.
 use mathlib.Core.Path.{_≡_, refl, sym, ap, ap₂, subst, _∙_}
 use mathlib.Core.List.{List, [], _∷_, _++_}
-use Prim.Native.Nat.{ℕ, zero, suc, _+_, _≤_, _<_}
-use native.Mathlib.Omega.{arith}
-use lib.Dec.{leb}
+use Prim.Native.Nat.{ℕ, zero, suc, _+_, _≤_}
 use lib.ListN.{length, getD, drop}
 use lib.Seq.{ext-getD}
-use borrow.Author.Tests.{leb-true}
 use Rattle.whole.specs.Cells.{cells}
 use Rattle.whole.proofs.Cells.{cells-length, cells-at}
-use Rattle.limits.specs.Outcome.{Outcome, accepted, refused, require, _>>=_, _>>_}
-use Rattle.limits.proofs.Passed.{never, one-value, then-passed, bind-passed, require-passed}
+use Rattle.limits.specs.Outcome.{accepted}
+use Rattle.limits.proofs.Passed.{never, one-value, bind-passed}
 use Rattle.text.specs.Bytes.{bytes}
 use Rattle.text.specs.Line.{line}
 use Rattle.text.specs.Reading.{Reading, found, otherwise}
 use Rattle.text.specs.Writing.{laidOut, AllShort}
-use Rattle.text.proofs.Back.{Lined, line-back}
-use Rattle.sheet.proofs.Held.{lines-same, sheetOf, sheet-parts}
+use Rattle.text.proofs.Back.{line-back}
+use Rattle.sheet.proofs.Parts.{lines-same, sheetOf, sheet-parts}
 use Rattle.sheet.specs.Layout.{siteNumbers, frameNumbers, levelsLaid, sheetLaid, Laid}
-use Rattle.sheet.specs.Reading.{Line, lineAt, judgedLine, siteValues, frameValues, Levels, level, linesFrom, levelLines, SheetRead, readLines, readSheet}
+use Rattle.sheet.specs.Reading.{Line, lineAt, judgedLine, siteValues, frameValues}
+use Rattle.sheet.specs.Reading.{Levels, level, linesFrom, SheetRead, readSheet}
 
 -- ---- a line's numbers, one by one
 numbers-back : (ns : List ℕ) (k : ℕ) → length ns ≡ k → cells (λ i. getD ns i 0) k ≡ ns
@@ -63,7 +61,8 @@ pub record LevelsLaid (s : List ℕ) (ls : Levels) : Type 0 where
   pub weights : AllShort (ls .weights)
   pub heights : AllShort (ls .heights)
 
-level-laid : (s : List ℕ) (l : Line) (ls : Levels) → LineLaid (bytes "level") 2 s l → LevelsLaid (l .rest) ls → LevelsLaid s (level (l .numbers) ls)
+level-laid : (s : List ℕ) (l : Line) (ls : Levels) → LineLaid (bytes "level") 2 s l → LevelsLaid (l .rest) ls
+    → LevelsLaid s (level (l .numbers) ls)
 unfolding levelsLaid
 level-laid s l ls h t =
     let two = level-back (l .numbers) (h .count) in
@@ -83,7 +82,8 @@ lines-laid (suc most) p (b ∷ s) ls e =
     let l = bind-passed (lineAt p (bytes "level") 2 (b ∷ s)) _ e in
     let r = bind-passed (linesFrom most (p + 1) (l .0 .rest)) (λ ms. accepted (level (l .0 .numbers) ms)) (l .2) in
     subst (LevelsLaid (b ∷ s)) (one-value (r .2))
-    (level-laid (b ∷ s) (l .0) (r .0) (line-laid p (bytes "level") 2 (b ∷ s) (l .0) (l .1)) (lines-laid most (p + 1) (l .0 .rest) (r .0) (r .1)))
+    (level-laid (b ∷ s) (l .0) (r .0) (line-laid p (bytes "level") 2 (b ∷ s) (l .0) (l .1))
+    (lines-laid most (p + 1) (l .0 .rest) (r .0) (r .1)))
 
 -- THE SHEET WAS LAID OUT: no other is read
 pub read-laid : (s : List ℕ) (r : SheetRead) → readSheet s ≡ accepted r → (s ≡ sheetLaid r) × Laid r
@@ -98,13 +98,14 @@ read-laid s r e =
     let is : s ≡ sheetLaid (sheetOf (parts .site) (parts .frame) (parts .levels)) =
     site .is ∙ ap₂ (λ (ns rest : List ℕ). laidOut (bytes "site") ns ++ rest) (sym seven)
     (frame .is ∙ ap₂ (λ (ns rest : List ℕ). laidOut (bytes "frame") ns ++ rest) (sym five) (levels .is)) in
-    subst (λ (x : SheetRead). (s ≡ sheetLaid x) × Laid x) (parts .all)
-    (is,
-    record {
-      site = subst AllShort (sym seven) (site .short);
-      frame = subst AllShort (sym five) (frame .short);
-      weights = levels .weights;
-      heights = levels .heights;
-      same = sym (lines-same _ 3 (parts .frame .rest) (parts .levels) (parts .levels-are));
-      fits = subst (λ (x : List ℕ). length x ≤ 4_096) is (parts .short);
-    })
+    subst (λ (x : SheetRead). (s ≡ sheetLaid x) × Laid x) (parts .all) (
+      is,
+      record {
+        site = subst AllShort (sym seven) (site .short);
+        frame = subst AllShort (sym five) (frame .short);
+        weights = levels .weights;
+        heights = levels .heights;
+        same = sym (lines-same _ 3 (parts .frame .rest) (parts .levels) (parts .levels-are));
+        fits = subst (λ (x : List ℕ). length x ≤ 4_096) is (parts .short);
+      },
+    )

@@ -1,6 +1,6 @@
 -- An array whose first cells are stored one after another, by value: the cells from the i-th on are as they were.
 -- Assumes nothing.
-use mathlib.Core.Path.{_≡_, refl, sym, ap, ap₂, _∙_}
+use mathlib.Core.Path.{_≡_, refl, sym, ap, _∙_}
 use mathlib.Core.Bool.{Bool, true, false}
 use mathlib.Core.List.{List, [], _∷_, _++_, append-assoc, append-nil}
 use Prim.Native.Nat.{ℕ, zero, suc, _+_, _≤_, _<_}
@@ -25,7 +25,9 @@ module _ {old held : List ℕ} {i : ℕ} (st : Stored old i held) (v : ℕ) (h :
   stored-more =
       record {
         size = length-set held i v ∙ st .size;
-        rest = drop-set-lt (i + 1) held i v (omega arith) ∙ sym (drop-drop 1 i held) ∙ ap (λ (l : List ℕ). drop 1 l) (st .rest) ∙ drop-drop 1 i old;
+        rest =
+            drop-set-lt (i + 1) held i v (omega arith) ∙ sym (drop-drop 1 i held) ∙ ap (λ (l : List ℕ). drop 1 l) (st .rest)
+            ∙ drop-drop 1 i old;
       }
 
   pub stored-last : take (i + 1) (set held i v) ≡ take i held ++ (v ∷ [])

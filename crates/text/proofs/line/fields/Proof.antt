@@ -1,11 +1,11 @@
 -- `text::line::fields` meets its contract. The invariant: all fields are read as those in the first i cells and what is left of them.
 -- Assumes nothing.
 use borrow.Author.Needs.{needs}
-use mathlib.Core.Path.{_≡_, refl, sym, ap, _∙_}
+use mathlib.Core.Path.{_≡_, sym, _∙_}
 use Prim.Native.Nat.{_+_, _-_, _≤_}
 use native.Mathlib.Nat.{sub-zero}
 use native.Mathlib.Omega.{arith}
-use lib.ListN.{length, take, drop}
+use lib.ListN.{take, drop}
 use Rattle.limits.specs.Outcome.{zeros}
 use Rattle.text.proofs.Lines.{gathered, gathered-none, fields-stop, fields-more, fields-none}
 use Rattle.text.proofs.Readings.{stays, number-missed, number-went}
