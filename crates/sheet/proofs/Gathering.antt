@@ -11,9 +11,9 @@ use lib.Seq.{drop-cons, drop-drop}
 use Rattle.whole.specs.Cells.{laid}
 use Rattle.limits.specs.Outcome.{Outcome, accepted, refused, zeros, _>>=_}
 use Rattle.text.specs.Bytes.{bytes}
-use Rattle.text.specs.Line.{line}
+use Rattle.text.specs.Line.{line, blank}
 use Rattle.text.specs.Reading.{found, otherwise}
-use Rattle.text.proofs.Stored.{kept-length, kept-more, padded}
+use Rattle.text.proofs.Stored.{kept-length, kept-more, in-cells}
 use Rattle.text.proofs.Takes.{line-takes}
 use Rattle.sheet.specs.declared.levels.LevelsAnswer.the-variants.{Taken}
 use Rattle.sheet.specs.Reading.{Levels, level, lineAt, linesFrom, levelLines, cellsOf, levelsRead}
@@ -136,10 +136,10 @@ module _ {s : List ℕ} {from : ℕ} {weights heights : List ℕ} {n at : ℕ} (
         stored : (l held : List ℕ) (v : ℕ) → length l ≡ n → held ≡ cellsOf l → set held n v ≡ cellsOf (l ++ (v ∷ []))
         stored l held v c e = rw (← c, e) (sym (kept-more (zeros 50) l v))
 
-    -- as the code stores it: the line's numbers stand in the first of seven cells
-    pub gathered-more : (ns held : List ℕ) (k : ℕ) → line (bytes "level") 2 (drop at s) ≡ found ns k → held ≡ laid ns (zeros 7)
+    -- as the code stores it: the line's numbers stand in the first of its cells
+    pub gathered-more : (ns held : List ℕ) (k : ℕ) → line (bytes "level") 2 (drop at s) ≡ found ns k → held ≡ laid ns blank
         → {weights′ heights′ : List ℕ} {at′ : ℕ} → weights′ ≡ set weights n (getD held 0 0)
         → heights′ ≡ set heights n (getD held 1 0) → at + k ≡ at′
         → Gathered s from weights′ heights′ (n + 1) at′
     gathered-more ns held k o e ew eh ea =
-        rw (ew, eh, ← ea, e, padded ns 7 0, padded ns 7 1) (gathered-one ns k o)
+        rw (ew, eh, ← ea, e, in-cells ns 0, in-cells ns 1) (gathered-one ns k o)

@@ -20,7 +20,7 @@ use Rattle.sheet.specs.Layout.{siteNumbers, frameNumbers, levelsLaid, sh
 use Rattle.sheet.specs.Reading.{lineAt, siteValues, frameValues, linesFrom, SheetRead, readLines, readSheet}
 
 -- line p, laid out, at the front of the bytes
-laid-line : (p : ℕ) (w ns l : List ℕ) → AllShort ns
+pub laid-line : (p : ℕ) (w ns l : List ℕ) → AllShort ns
     → lineAt p w (length ns) (laidOut w ns ++ l) ≡ accepted (record { numbers = ns; rest = l })
 unfolding lineAt
 laid-line p w ns l s =

@@ -11,3 +11,4 @@ pub mod Unique
 pub mod Allowed
 pub mod Listable
 pub mod ReadLaid
+pub mod First

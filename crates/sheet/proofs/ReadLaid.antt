@@ -43,7 +43,7 @@ pub record LineLaid (w : List ℕ) (k : ℕ) (s : List ℕ) (l : Line) : Type 0 
   pub short : AllShort (l .numbers)
   pub count : length (l .numbers) ≡ k
 
-line-laid : (p : ℕ) (w : List ℕ) (k : ℕ) (s : List ℕ) (l : Line) → lineAt p w k s ≡ accepted l → LineLaid w k s l
+pub line-laid : (p : ℕ) (w : List ℕ) (k : ℕ) (s : List ℕ) (l : Line) → lineAt p w k s ≡ accepted l → LineLaid w k s l
 unfolding lineAt
 line-laid p w k s l e = go (line w k s) refl e
   where

@@ -11,13 +11,13 @@ use Rattle.whole.specs.Cells.{laid}
 use Rattle.limits.specs.declared.frame.FrameValues.{FrameValues}
 use Rattle.limits.specs.declared.refusal.Refusal.{Refusal}
 use Rattle.limits.specs.declared.site.SiteValues.{SiteValues}
-use Rattle.limits.specs.Outcome.{Outcome, accepted, refused, zeros}
+use Rattle.limits.specs.Outcome.{Outcome, accepted, refused}
 use Rattle.text.specs.declared.reading.Cursor.{Cursor}
 use Rattle.text.specs.Bytes.{bytes}
-use Rattle.text.specs.Line.{line}
+use Rattle.text.specs.Line.{line, blank}
 use Rattle.text.specs.Reading.{otherwise}
 use Rattle.text.proofs.Readings.{Went, LineWent}
-use Rattle.text.proofs.Stored.{padded}
+use Rattle.text.proofs.Stored.{in-cells}
 use Rattle.sheet.specs.declared.levels.LevelsAnswer.the-variants.{Taken as TakenLevels, Refused as RefusedLevels}
 use Rattle.sheet.specs.declared.levels.LevelsRead.{LevelsRead}
 use Rattle.sheet.specs.declared.reader.SheetAnswer.the-variants.{Taken}
@@ -78,12 +78,12 @@ levels-taken (refused k p) r n e m =
 abbrev start : Cursor
 start = record { at = 0 }
 
-site-held : (ns : List ℕ) → siteValues (laid ns (zeros 7)) ≡ siteValues ns
+site-held : (ns : List ℕ) → siteValues (laid ns blank) ≡ siteValues ns
 site-held ns =
-    rw (padded ns 7 0, padded ns 7 1, padded ns 7 2, padded ns 7 3, padded ns 7 4, padded ns 7 5, padded ns 7 6)
+    rw (in-cells ns 0, in-cells ns 1, in-cells ns 2, in-cells ns 3, in-cells ns 4, in-cells ns 5, in-cells ns 6)
 
-frame-held : (ns : List ℕ) → frameValues (laid ns (zeros 7)) ≡ frameValues ns
-frame-held ns = rw (padded ns 7 0, padded ns 7 1, padded ns 7 2, padded ns 7 3, padded ns 7 4)
+frame-held : (ns : List ℕ) → frameValues (laid ns blank) ≡ frameValues ns
+frame-held ns = rw (in-cells ns 0, in-cells ns 1, in-cells ns 2, in-cells ns 3, in-cells ns 4)
 
 module _ (s : List ℕ) where
   pub lines-first : line (bytes "site") 7 s ≡ otherwise → readLines s ≡ refused 16 1

@@ -12,8 +12,8 @@ ghost use Rattle.job.specs.Job.{jobOf};
 ghost use Rattle.text.specs.Writing.{spliced};
 ghost use Rattle.sheet.specs.Listing.{allLevels, account, refusal, listing, printed, Levelled};
 
-// The bytes of a listing, and how many there are. With 20 digits a number a base line has 110 bytes and a level line 90: any figures
-// of 50 levels find room.
+// The bytes of a listing, and how many there are. With 20 digits a number a base line has 110 bytes and a level line 90: there is room
+// for any figures of 50 levels.
 pub struct Listing {
     pub bytes: [u8; 4_610],
     pub length: usize,

@@ -7,11 +7,10 @@ use Prim.Native.Nat.{ℕ, suc}
 use native.Mathlib.Nat.{add-zero}
 use lib.ListN.{drop}
 use Rattle.whole.specs.Cells.{laid}
-use Rattle.limits.specs.Outcome.{zeros}
 use Rattle.text.specs.declared.line.LineRead.{LineRead}
 use Rattle.text.specs.declared.reading.Cursor.{Cursor}
 use Rattle.text.specs.declared.reading.WordAnswer.the-variants.{Found}
-use Rattle.text.specs.Line.{lf, field, fields, line, noLine, lineRead}
+use Rattle.text.specs.Line.{lf, field, fields, line, blank, noLine, lineRead}
 use Rattle.text.specs.Reading.{Reading, found, otherwise, read, later, next, word, _>>=_, _>>_}
 use Rattle.text.proofs.Readings.{Moves, line-moves, stays, Went, onward}
 
@@ -86,6 +85,6 @@ module _ (s w : List ℕ) (k : ℕ) (c : Cursor) where
       line-last o = counted ∙ simp o
 
       pub line-whole : (x : Cursor) → Went e x (word lf (drop (e .at) s)) tt
-          → lineRead c (line w k (drop (c .at) s)) ≡ record { answer = Found x; numbers = laid ns (zeros 7) }
+          → lineRead c (line w k (drop (c .at) s)) ≡ record { answer = Found x; numbers = laid ns blank }
       unfolding lineRead
       line-whole x last = counted ∙ onward s lineRead line-moves last (λ _. read ns) ∙ rw (stays x)

@@ -8,12 +8,12 @@ use native.Mathlib.Omega.{arith}
 use lib.ListN.{drop}
 use lib.Seq.{drop-drop}
 use Rattle.whole.specs.Cells.{laid}
-use Rattle.limits.specs.Outcome.{Done, zeros}
+use Rattle.limits.specs.Outcome.{Done}
 use Rattle.text.specs.declared.line.LineRead.{LineRead}
 use Rattle.text.specs.declared.number.NumberAnswer.the-variants.{Found as FoundNumber, Otherwise as NoNumber}
 use Rattle.text.specs.declared.reading.Cursor.{Cursor}
 use Rattle.text.specs.declared.reading.WordAnswer.the-variants.{Found, Otherwise}
-use Rattle.text.specs.Line.{lineRead}
+use Rattle.text.specs.Line.{blank, lineRead}
 use Rattle.text.specs.Number.{numberAnswer}
 use Rattle.text.specs.Reading.{Reading, found, otherwise, Reader, later, next, after, wordAnswer}
 
@@ -31,7 +31,7 @@ number-moves c n otherwise = refl
 
 pub line-moves : Moves lineRead
 unfolding lineRead
-line-moves c n (found ns m) = ap (λ (d : Cursor). record { answer = Found d; numbers = laid ns (zeros 7) }) (further c n m)
+line-moves c n (found ns m) = ap (λ (d : Cursor). record { answer = Found d; numbers = laid ns blank }) (further c n m)
 line-moves c n otherwise = refl
 
 pub stays : (c : Cursor) → after c 0 ≡ c
@@ -78,7 +78,7 @@ number-went c c′ v otherwise e = absurd (let z : _≡_ {A = ℕ} 0 1 = cc in l
 
 pub record LineWent (c c′ : Cursor) (o : Reading (List ℕ)) (held : List ℕ) : Type 0 where
   pub numbers : List ℕ
-  pub held-is : held ≡ laid numbers (zeros 7)
+  pub held-is : held ≡ laid numbers blank
   pub went : Went c c′ o numbers
 
 pub line-went : (c c′ : Cursor) (o : Reading (List ℕ)) (r : LineRead) → r ≡ lineRead c o → r .answer ≡ Found c′
