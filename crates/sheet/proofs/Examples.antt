@@ -1,19 +1,22 @@
--- The definitions, run on document 01's sheet and on some that are otherwise.
+-- The definitions, run on document 01's sheet, on some that are otherwise, and on the figures of its listing.
 -- Assumes nothing.
 use mathlib.Core.Path.{_≡_, refl}
 use mathlib.Core.List.{List, [], _∷_, _++_}
 use Prim.Native.Nat.{ℕ}
-use lib.ListN.{length}
-use Rattle.limits.specs.Outcome.{Outcome, accepted, refused}
+use Rattle.limits.specs.Outcome.{accepted, refused}
 use Rattle.limits.specs.Ranges.{inRange}
 use Rattle.text.specs.Bytes.{bytes}
 use Rattle.text.specs.Line.{field, fields, line}
 use Rattle.text.specs.Number.{digits, valueFrom, wellMade, number}
 use Rattle.text.specs.Reading.{starts, word}
-use Rattle.sheet.specs.Reading.{lineAt, linesFrom, SheetRead, readLines, readSheet}
+use Rattle.text.specs.Writing.{digitsOf, decimal, fieldOf, fieldsOf, laidOut}
+use Rattle.sheet.specs.Listing.{roofFirst, account, refusal}
+use Rattle.sheet.specs.Reading.{lineAt, linesFrom, readLines, readSheet}
 
 abbrev office : List ℕ
-office = bytes "site\t80\t45\t100\t55\t100\t100\t1\nframe\t2\t1000\t480\t100\t150\nlevel\t5000\t100\nlevel\t5000\t200\nlevel\t5000\t300\n"
+office =
+    bytes "site\t80\t45\t100\t55\t100\t100\t1\n" ++ (bytes "frame\t2\t1000\t480\t100\t150\n"
+    ++ (bytes "level\t5000\t100\n" ++ (bytes "level\t5000\t200\n" ++ bytes "level\t5000\t300\n")))
 
 pub office-read : readSheet office ≡ accepted (record {
   site = record { ssd = 80; s1d = 45; ssm = 100; s1m = 55; na = 100; nv = 100; class = 1 };
@@ -28,3 +31,14 @@ pub otherwise-read : (readSheet [] ≡ refused 16 1) × (readSheet (bytes "site\
     × (readSheet (office ++ bytes "\n") ≡ refused 16 6)
 unfolding readSheet readLines lineAt linesFrom line fields field word starts number digits wellMade inRange valueFrom
 otherwise-read = (refl, refl, refl)
+
+pub office-listed : account (record { v = 909_708; vm = 818_458; star = 1_071_429; vd = 1_071_429; t = 1_000 })
+    (166_071 ∷ 332_143 ∷ 573_215 ∷ []) (1_071_429 ∷ 905_358 ∷ 573_215 ∷ []) (255_000_200 ∷ 147_857_300 ∷ 57_321_500 ∷ [])
+    ≡ bytes "base\t909708\t818458\t1071429\t1071429\t1000\n" ++ (bytes "level\t3\t573215\t573215\t57321500\n"
+    ++ (bytes "level\t2\t332143\t905358\t147857300\n" ++ bytes "level\t1\t166071\t1071429\t255000200\n"))
+unfolding account roofFirst laidOut fieldsOf fieldOf decimal digitsOf
+office-listed = refl
+
+pub refusal-listed : refusal 16 80 ≡ bytes "refused\t16\t80\n"
+unfolding refusal laidOut fieldsOf fieldOf decimal digitsOf
+refusal-listed = refl

@@ -3,18 +3,17 @@
 -- Assumes nothing.
 use mathlib.Core.Path.{_≡_, refl, sym, ap, ap₂, _∙_}
 use mathlib.Core.List.{List, [], _∷_, _++_, append-assoc, append-nil}
-use Prim.Native.Nat.{ℕ, zero, suc, _+_, _-_, _≤_, _<_}
+use Prim.Native.Nat.{ℕ, suc, _+_, _-_, _≤_, _<_}
 use native.Mathlib.Nat.{add-assoc}
-use native.Mathlib.Numerals.{add-one}
 use native.Mathlib.Omega.{arith}
-use lib.ListN.{length, getD, set, take, drop, length-append, length-drop, drop-of-length-le}
+use lib.ListN.{length, getD, set, drop, length-append, length-drop, drop-of-length-le}
 use lib.Seq.{drop-cons, drop-drop}
 use Rattle.whole.specs.Cells.{laid}
 use Rattle.limits.specs.Outcome.{Outcome, accepted, refused, zeros, _>>=_}
 use Rattle.text.specs.Bytes.{bytes}
-use Rattle.text.specs.Line.{line}
-use Rattle.text.specs.Reading.{Reading, found, otherwise}
-use Rattle.text.proofs.Stored.{kept-length, kept-more, padded}
+use Rattle.text.specs.Line.{line, blank}
+use Rattle.text.specs.Reading.{found, otherwise}
+use Rattle.text.proofs.Stored.{kept-length, kept-more, in-cells}
 use Rattle.text.proofs.Takes.{line-takes}
 use Rattle.sheet.specs.declared.levels.LevelsAnswer.the-variants.{Taken}
 use Rattle.sheet.specs.Reading.{Levels, level, lineAt, linesFrom, levelLines, cellsOf, levelsRead}
@@ -58,7 +57,9 @@ module _ (s : List ℕ) (p at left q : ℕ) (e : left ≡ suc q) where
         → joined before (linesFrom left p (drop at s)) ≡ joined (above before (one ns)) (linesFrom q (p + 1) (drop (at + n) s))
     unfolding linesFrom lineAt
     lines-more ns n o before =
-        rw (← drop-drop n at s, e, drop-cons s at 0 h) (simp (rw (drop-cons s at 0 h) at o) (joined-one before ns (linesFrom q (p + 1) (drop n (getD s at 0 ∷ drop (suc at) s)))))
+        rw (← drop-drop n at s, e, drop-cons s at 0 h)
+        (simp (rw (drop-cons s at 0 h) at o)
+        (joined-one before ns (linesFrom q (p + 1) (drop n (getD s at 0 ∷ drop (suc at) s)))))
 
 -- ---- after n lines, at the byte `at`: the cells keep the first levels, and the whole is those before and what is left
 pub record Gathered (s : List ℕ) (from : ℕ) (weights heights : List ℕ) (n at : ℕ) : Type 0 where
@@ -92,8 +93,11 @@ module _ {s : List ℕ} {from : ℕ} {weights heights : List ℕ} {n at : ℕ} (
   fuel = omega (arith, g .enough)
 
   pub gathered-size : (length weights ≡ 50) × (length heights ≡ 50)
-  gathered-size =
-      (ap length (g .cells .0) ∙ kept-length (zeros 50) (g .before .weights), ap length (g .cells .1) ∙ kept-length (zeros 50) (g .before .heights))
+  gathered-size = (
+    ap length (g .cells .0) ∙ kept-length (zeros 50) (g .before .weights),
+    ap length (g .cells .1)
+        ∙ kept-length (zeros 50) (g .before .heights),
+  )
 
   pub gathered-all : length s ≤ at
       → levelsRead (levelLines 3 (drop from s)) ≡ record { answer = Taken n; weights = weights; heights = heights }
@@ -110,22 +114,32 @@ module _ {s : List ℕ} {from : ℕ} {weights heights : List ℕ} {n at : ℕ} (
     gathered-one ns k o =
         record {
           before = above (g .before) (one ns);
-          count = (length-append (g .before .weights) (getD ns 0 0 ∷ []) ∙ omega (arith, g .count), length-append (g .before .heights) (getD ns 1 0 ∷ []) ∙ omega (arith, g .count));
-          cells = (stored (g .before .weights) weights (getD ns 0 0) (g .count .0) (g .cells .0), stored (g .before .heights) heights (getD ns 1 0) (g .count .1) (g .cells .1));
+          count = (
+            length-append (g .before .weights) (getD ns 0 0 ∷ [])
+                ∙ omega (arith, g .count),
+            length-append (g .before .heights) (getD ns 1 0 ∷ []) ∙ omega (arith, g .count),
+          );
+          cells = (
+            stored (g .before .weights) weights (getD ns 0 0) (g .count .0) (g .cells .0),
+            stored
+                (g .before .heights) heights (getD ns 1 0) (g .count .1) (g .cells .1),
+          );
           few = omega (arith, g .few, line-takes (bytes "level") 2 (drop at s) ns k o);
           left = g .left - 1;
           enough = omega (arith, g .enough, line-takes (bytes "level") 2 (drop at s) ns k o);
           whole =
               g .whole ∙ lines-more s (3 + n) at (g .left) (g .left - 1) fuel h ns k o (g .before)
-              ∙ ap (λ (m : ℕ). joined (above (g .before) (one ns)) (linesFrom (g .left - 1) m (drop (at + k) s))) (add-assoc 3 n 1);
+              ∙ ap (λ (m : ℕ). joined (above (g .before) (one ns)) (linesFrom (g .left - 1) m (drop (at + k) s)))
+              (add-assoc 3 n 1);
         }
       where
         stored : (l held : List ℕ) (v : ℕ) → length l ≡ n → held ≡ cellsOf l → set held n v ≡ cellsOf (l ++ (v ∷ []))
         stored l held v c e = rw (← c, e) (sym (kept-more (zeros 50) l v))
 
-    -- as the code stores it: the line's numbers stand in the first of seven cells
-    pub gathered-more : (ns held : List ℕ) (k : ℕ) → line (bytes "level") 2 (drop at s) ≡ found ns k → held ≡ laid ns (zeros 7)
-        → {weights′ heights′ : List ℕ} {at′ : ℕ} → weights′ ≡ set weights n (getD held 0 0) → heights′ ≡ set heights n (getD held 1 0) → at + k ≡ at′
+    -- as the code stores it: the line's numbers stand in the first of its cells
+    pub gathered-more : (ns held : List ℕ) (k : ℕ) → line (bytes "level") 2 (drop at s) ≡ found ns k → held ≡ laid ns blank
+        → {weights′ heights′ : List ℕ} {at′ : ℕ} → weights′ ≡ set weights n (getD held 0 0)
+        → heights′ ≡ set heights n (getD held 1 0) → at + k ≡ at′
         → Gathered s from weights′ heights′ (n + 1) at′
     gathered-more ns held k o e ew eh ea =
-        rw (ew, eh, ← ea, e, padded ns 7 0, padded ns 7 1) (gathered-one ns k o)
+        rw (ew, eh, ← ea, e, in-cells ns 0, in-cells ns 1) (gathered-one ns k o)

@@ -1,10 +1,9 @@
 -- What the code holds of a sheet: its answer, and the weights and heights of the first 50 levels.
 -- Assumes nothing.
 use mathlib.Core.Path.{_≡_, refl, sym, ap, _∙_}
-use mathlib.Core.List.{List, [], _∷_}
-use Prim.Native.Nat.{ℕ, zero, suc, _+_, _≤_}
+use mathlib.Core.List.{List}
+use Prim.Native.Nat.{ℕ, _≤_}
 use native.Mathlib.Omega.{arith}
-use lib.Dec.{leb}
 use lib.ListN.{length, take}
 use lib.Seq.{take-all}
 use Rattle.whole.proofs.Cells.{laid-part}
@@ -13,49 +12,24 @@ use Rattle.limits.specs.declared.refusal.Refusal.{Refusal}
 use Rattle.limits.specs.declared.site.SiteValues.{SiteValues}
 use Rattle.limits.specs.Judging.{judgedJob}
 use Rattle.limits.specs.Levels.{counted, judgedLevels}
-use Rattle.limits.specs.Outcome.{Outcome, accepted, refused, zeros, require, _>>=_}
-use Rattle.limits.proofs.Passed.{bind-passed, one-value, never, then-passed, within-passed}
+use Rattle.limits.specs.Outcome.{Outcome, accepted, refused, zeros, _>>=_}
+use Rattle.limits.proofs.Passed.{within-passed}
 use Rattle.job.specs.Job.{jobOf}
 use Rattle.job.proofs.Stages.{job-refused}
-use Rattle.text.specs.Bytes.{bytes}
 use Rattle.text.proofs.Stored.{kept-length}
 use Rattle.sheet.specs.declared.reader.SheetAnswer.the-variants.{Taken, Refused}
 use Rattle.sheet.specs.declared.reader.SheetRead.{SheetRead as SheetCells}
 use Rattle.sheet.specs.Listing.{refusal, listing, jobOfSheet, sheetListing}
-use Rattle.sheet.specs.Reading.{Line, lineAt, siteValues, frameValues, Levels, level, linesFrom, levelLines, SheetRead, readLines, readSheet, cellsOf, sheetRead}
-
--- ---- as many heights as weights
-lines-same : (most p : ℕ) (s : List ℕ) (ls : Levels) → linesFrom most p s ≡ accepted ls → length (ls .heights) ≡ length (ls .weights)
-unfolding linesFrom
-lines-same zero p s ls e = absurd (never e)
-lines-same (suc most) p [] ls e = let same = one-value e in rw (← same)
-lines-same (suc most) p (b ∷ s) ls e =
-    let l = bind-passed (lineAt p (bytes "level") 2 (b ∷ s)) _ e in
-    let r = bind-passed (linesFrom most (p + 1) (l .0 .rest)) (λ ms. accepted (level (l .0 .numbers) ms)) (l .2) in
-    let same = one-value (r .2) in
-    rw (← same) (ap suc (lines-same most (p + 1) (l .0 .rest) (r .0) (r .1)))
-
-read-same : (s : List ℕ) (r : SheetRead) → readSheet s ≡ accepted r → length (r .heights) ≡ length (r .weights)
-unfolding readSheet readLines
-read-same s r e =
-    let q = then-passed (require (leb (length s) 4_096) 17 0) (readLines s) e .1 in
-    let site = bind-passed (lineAt 1 (bytes "site") 7 s) _ q in
-    let frame = bind-passed (lineAt 2 (bytes "frame") 5 (site .0 .rest)) _ (site .2) in
-    let ls = bind-passed (levelLines 3 (frame .0 .rest)) (λ ls. accepted (record {
-      site = siteValues (site .0 .numbers);
-      frame = frameValues (frame .0 .numbers);
-      weights = ls .weights;
-      heights = ls .heights;
-    })) (frame .2) in
-    let same = one-value (ls .2) in
-    rw (← same) (lines-same _ 3 (frame .0 .rest) (ls .0) (ls .1))
+use Rattle.sheet.specs.Reading.{SheetRead, readSheet, cellsOf, sheetRead}
+use Rattle.sheet.proofs.Parts.{read-same}
 
 -- the first cells, as many as there are levels, are the list
 cut : (l : List ℕ) (n : ℕ) → length l ≡ n → n ≤ 50 → take n (cellsOf l) ≡ l
 cut l n e h = rw (take-all 50 l (omega arith)) (laid-part l (zeros 50) n e)
 
 -- ---- an answer, once it is known
-said-refused : (o : Outcome SheetRead) (c : SheetCells) (f : Refusal) → c ≡ sheetRead o → c .answer ≡ Refused f → o ≡ refused (f .number) (f .place)
+said-refused : (o : Outcome SheetRead) (c : SheetCells) (f : Refusal) → c ≡ sheetRead o → c .answer ≡ Refused f
+    → o ≡ refused (f .number) (f .place)
 unfolding sheetRead
 said-refused (accepted r) c f e m =
     let e′ = sym (ap (λ (x : SheetCells). x .answer) e) ∙ m in
@@ -74,7 +48,8 @@ pub record SheetTaken (o : Outcome SheetRead) (c : SheetCells) (v : SiteValues) 
   pub weights : c .weights ≡ cellsOf (read .weights)
   pub heights : c .heights ≡ cellsOf (read .heights)
 
-said-taken : (o : Outcome SheetRead) (c : SheetCells) (v : SiteValues) (f : FrameValues) (n : ℕ) → c ≡ sheetRead o → c .answer ≡ Taken v f n
+said-taken : (o : Outcome SheetRead) (c : SheetCells) (v : SiteValues) (f : FrameValues) (n : ℕ) → c ≡ sheetRead o
+    → c .answer ≡ Taken v f n
     → SheetTaken o c v f n
 unfolding sheetRead
 said-taken (accepted r) c v f n e m =
@@ -98,7 +73,8 @@ unfolding judgedJob judgedLevels
 first-judged r n p e =
     job-refused (r .site) (r .frame) (r .weights) (r .heights) (length (r .weights)) (simp e)
 
-sheet-job : (s : List ℕ) (r : SheetRead) {v : SiteValues} {f : FrameValues} {ws hs : List ℕ} → readSheet s ≡ accepted r → r .site ≡ v → r .frame ≡ f
+sheet-job : (s : List ℕ) (r : SheetRead) {v : SiteValues} {f : FrameValues} {ws hs : List ℕ} → readSheet s ≡ accepted r
+    → r .site ≡ v → r .frame ≡ f
     → ws ≡ r .weights → hs ≡ r .heights → listing (jobOf v f ws hs (length ws)) ≡ sheetListing s
 unfolding sheetListing
 sheet-job s r e ev ef ew eh = rw (ew, eh, ← ev, ← ef, e)
@@ -143,5 +119,6 @@ module _ (s : List ℕ) (c : SheetCells) (e : c ≡ sheetRead (readSheet s)) whe
       pub heights-length : length (take n (c .heights)) ≡ n
       heights-length = ap length heights-cut ∙ read-same s (held .read) (held .is) ∙ held .count
 
-      pub job-of-sheet : listing (jobOf v f (take n (c .weights)) (take n (c .heights)) (length (take n (c .weights)))) ≡ sheetListing s
+      pub job-of-sheet : listing
+          (jobOf v f (take n (c .weights)) (take n (c .heights)) (length (take n (c .weights)))) ≡ sheetListing s
       job-of-sheet = sheet-job s (held .read) (held .is) (held .site) (held .frame) weights-cut heights-cut

@@ -1,21 +1,20 @@
 -- The job of a sheet's numbers, called with buffers of 50 cells: what its answer says of the listing.
 -- Assumes nothing.
-use mathlib.Core.Path.{_≡_, refl, sym, ap, _∙_}
+use mathlib.Core.Path.{_≡_, sym, ap, _∙_}
 use mathlib.Core.List.{List}
 use Prim.Native.Nat.{ℕ, _≤_}
 use native.Mathlib.Nat.{le-refl}
 use native.Mathlib.Omega.{arith}
 use lib.ListN.{length, take}
 use Rattle.limits.specs.declared.frame.FrameValues.{FrameValues}
-use Rattle.limits.specs.declared.judging.Given.{Given}
 use Rattle.limits.specs.declared.refusal.Refusal.{Refusal}
 use Rattle.limits.specs.declared.site.SiteValues.{SiteValues}
 use Rattle.limits.specs.Judging.{judgedJob}
-use Rattle.limits.specs.Outcome.{Outcome, accepted, refused, zeros}
+use Rattle.limits.specs.Outcome.{accepted, zeros}
 use Rattle.limits.proofs.Room.{room-enough}
 use Rattle.base_shear.specs.declared.Figures.{Figures}
 use Rattle.job.specs.declared.JobAnswer.the-variants.{Taken, Refused}
-use Rattle.job.specs.Job.{Results, resultsAt, jobOf, Buffers, Answers}
+use Rattle.job.specs.Job.{resultsAt, jobOf, Buffers, Answers}
 use Rattle.job.proofs.Answered.{taken-accepted, refused-judged}
 use Rattle.job.proofs.Independent.{forces-cells, shears-cells, overturnings-cells, taken-written}
 use Rattle.job.proofs.Stages.{job-refused, job-accepted}
@@ -45,11 +44,18 @@ module _ (s : SiteValues) (f : FrameValues) (ws hs : List ℕ) (few : length ws 
     pub overturnings-cut : length (take (length ws) (b′ .overturnings)) ≡ length ws
     overturnings-cut = ap length (taken-written s f ws hs lent n b′ a .overturnings) ∙ overturnings-cells n ws hs
 
-    pub cut-levelled : Levelled (take (length ws) (b′ .forces)) (take (length ws) (b′ .shears)) (take (length ws) (b′ .overturnings))
+    pub cut-levelled : Levelled (take (length ws) (b′ .forces)) (take (length ws) (b′ .shears))
+        (take (length ws) (b′ .overturnings))
     cut-levelled =
-        record { shears = shears-cut ∙ sym forces-cut; moments = overturnings-cut ∙ sym forces-cut; few = omega (arith, forces-cut) }
+        record {
+          shears =
+              shears-cut ∙ sym forces-cut;
+          overturnings = overturnings-cut ∙ sym forces-cut;
+          few = omega (arith, forces-cut);
+        }
 
-    pub taken-listing : account n (take (length ws) (b′ .forces)) (take (length ws) (b′ .shears)) (take (length ws) (b′ .overturnings))
+    pub taken-listing : account n (take (length ws) (b′ .forces)) (take (length ws) (b′ .shears))
+        (take (length ws) (b′ .overturnings))
         ≡ listing (jobOf s f ws hs (length ws))
     unfolding listing
     taken-listing =

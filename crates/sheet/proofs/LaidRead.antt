@@ -1,28 +1,27 @@
 -- A sheet that is laid out as the document says is read, and gives back its numbers.
 -- Assumes nothing.
-use mathlib.Core.Path.{_≡_, refl, sym, ap, ap₂, _∙_}
-use mathlib.Core.List.{List, [], _∷_, _++_, append-nil}
-use Prim.Native.Nat.{ℕ, zero, suc, _+_, _-_, _≤_, _<_}
+use mathlib.Core.Path.{_≡_, refl, sym, ap, _∙_}
+use mathlib.Core.List.{List, [], _∷_, _++_}
+use Prim.Native.Nat.{ℕ, suc, _+_, _-_, _<_}
 use native.Mathlib.Nat.{suc-inj, zero-add}
 use native.Mathlib.Omega.{arith}
-use lib.ListN.{length, getD, drop, length-append}
+use lib.ListN.{length, drop, length-append}
 use lib.Seq.{drop-at}
 use Rattle.limits.specs.declared.frame.FrameValues.{FrameValues}
 use Rattle.limits.specs.declared.site.SiteValues.{SiteValues}
-use Rattle.limits.specs.Outcome.{Outcome, accepted, refused, _>>=_}
+use Rattle.limits.specs.Outcome.{accepted}
 use Rattle.text.specs.Bytes.{bytes}
-use Rattle.text.specs.Line.{line}
-use Rattle.text.specs.Reading.{found}
 use Rattle.text.specs.Writing.{laidOut, AllShort}
 use Rattle.text.proofs.Fields.{line-length}
 use Rattle.text.proofs.Trip.{line-read}
-use Rattle.sheet.proofs.Gathering.{above, one, none, joined, joined-none, lines-end, lines-more}
+use Rattle.sheet.proofs.Gathering.{one, none, joined, joined-none, lines-end, lines-more}
 use Rattle.sheet.proofs.Stages.{sheet-lines}
 use Rattle.sheet.specs.Layout.{siteNumbers, frameNumbers, levelsLaid, sheetLaid, Laid}
-use Rattle.sheet.specs.Reading.{Line, lineAt, siteValues, frameValues, Levels, linesFrom, levelLines, SheetRead, readLines, readSheet}
+use Rattle.sheet.specs.Reading.{lineAt, siteValues, frameValues, linesFrom, SheetRead, readLines, readSheet}
 
 -- line p, laid out, at the front of the bytes
-laid-line : (p : ℕ) (w ns l : List ℕ) → AllShort ns → lineAt p w (length ns) (laidOut w ns ++ l) ≡ accepted (record { numbers = ns; rest = l })
+pub laid-line : (p : ℕ) (w ns l : List ℕ) → AllShort ns
+    → lineAt p w (length ns) (laidOut w ns ++ l) ≡ accepted (record { numbers = ns; rest = l })
 unfolding lineAt
 laid-line p w ns l s =
     rw (line-read w ns l s, drop-at (laidOut w ns) l (length (laidOut w ns)) refl)
@@ -42,7 +41,8 @@ laid-levels most p (w ∷ ws) (h ∷ hs) room e s t =
     let some = line-length (bytes "level") (w ∷ h ∷ []) in
     let rest = laid-levels (most - 1) (p + 1) ws hs (omega (arith, n, some)) (suc-inj e) (s .1) (t .1) in
     sym (joined-none (linesFrom most p (x ++ y)))
-    ∙ lines-more (x ++ y) p 0 most (most - 1) (omega arith) (omega (arith, n, some)) (w ∷ h ∷ []) (length x) (line-read (bytes "level") (w ∷ h ∷ []) y (s .0, (t .0, tt))) none
+    ∙ lines-more (x ++ y) p 0 most (most - 1) (omega arith) (omega (arith, n, some)) (w ∷ h ∷ []) (length x)
+    (line-read (bytes "level") (w ∷ h ∷ []) y (s .0, (t .0, tt))) none
     ∙ ap (λ (k : ℕ). joined (one (w ∷ h ∷ [])) (linesFrom (most - 1) (p + 1) (drop k (x ++ y)))) (zero-add (length x))
     ∙ ap (λ (l : List ℕ). joined (one (w ∷ h ∷ [])) (linesFrom (most - 1) (p + 1) l)) (drop-at x y (length x) refl)
     ∙ ap (joined (one (w ∷ h ∷ []))) rest
@@ -60,7 +60,13 @@ laid-lines r l =
     let site = laidOut (bytes "site") (siteNumbers (r .site)) in
     let frame = laidOut (bytes "frame") (frameNumbers (r .frame)) in
     let levels = levelsLaid (r .weights) (r .heights) in
-    simp (laid-line 1 (bytes "site") (siteNumbers (r .site)) (frame ++ levels) (l .site), laid-line 2 (bytes "frame") (frameNumbers (r .frame)) levels (l .frame), laid-levels (suc (length levels)) 3 (r .weights) (r .heights) (omega arith) (l .same) (l .weights) (l .heights))
+    simp (
+      laid-line 1 (bytes "site") (siteNumbers (r .site)) (frame ++ levels) (l .site),
+      laid-line 2 (bytes "frame")
+          (frameNumbers (r .frame)) levels (l .frame),
+      laid-levels (suc (length levels)) 3 (r .weights) (r .heights) (omega arith)
+          (l .same) (l .weights) (l .heights),
+    )
 
 -- THE SHEET IS READ
 pub laid-read : (r : SheetRead) → Laid r → readSheet (sheetLaid r) ≡ accepted r

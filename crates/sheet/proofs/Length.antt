@@ -1,7 +1,7 @@
 -- No listing has over 4,610 bytes, whatever the sheet; what the code hands on says how many of its cells are the listing.
 -- Assumes nothing.
-use mathlib.Core.Path.{_≡_, refl, sym, ap, _∙_}
-use mathlib.Core.List.{List, _++_}
+use mathlib.Core.Path.{_≡_, refl, sym, _∙_}
+use mathlib.Core.List.{List}
 use Prim.Native.Nat.{ℕ, _≤_}
 use native.Mathlib.Omega.{arith}
 use lib.ListN.{length, take, length-append}
@@ -11,7 +11,7 @@ use Rattle.limits.specs.Judging.{judgedJob}
 use Rattle.limits.specs.Outcome.{Outcome, accepted, refused, zeros, _>>=_}
 use Rattle.limits.proofs.Accepted.{given-allowed}
 use Rattle.base_shear.specs.declared.Figures.{Figures}
-use Rattle.job.specs.Job.{Results, resultsAt, resultsOf}
+use Rattle.job.specs.Job.{resultsAt}
 use Rattle.job.proofs.Independent.{forces-cells, shears-cells, overturnings-cells}
 use Rattle.job.proofs.Stages.{job-refused, job-accepted}
 use Rattle.sheet.proofs.Listings.{baseLine, account-room, refusal-room}
@@ -30,7 +30,12 @@ results-short n ws hs few =
     let r = resultsAt n ws hs in
     let same = forces-cells n ws hs in
     account-short n (r .forces) (r .shears) (r .overturnings)
-    (record { shears = shears-cells n ws hs ∙ sym same; moments = overturnings-cells n ws hs ∙ sym same; few = omega (arith, same) })
+    (record {
+      shears =
+          shears-cells n ws hs ∙ sym same;
+      overturnings = overturnings-cells n ws hs ∙ sym same;
+      few = omega (arith, same);
+    })
 
 refused-short : (n p : ℕ) → length (listing (refused n p)) ≤ 4_610
 unfolding listing
@@ -43,7 +48,8 @@ job-short r = go (judgedJob (r .site) (r .frame) (r .weights) (r .heights) (leng
         → length (listing (jobOfSheet r)) ≤ 4_610
     go (accepted g) e =
         let few = given-allowed (r .site) (r .frame) (r .weights) (r .heights) (length (r .weights)) g e .0 .levels .few in
-        rw (job-accepted (r .site) (r .frame) (r .weights) (r .heights) (length (r .weights)) e) (results-short _ (r .weights) (r .heights) few)
+        rw (job-accepted (r .site) (r .frame) (r .weights) (r .heights) (length (r .weights)) e)
+        (results-short _ (r .weights) (r .heights) few)
     go (refused n p) e =
         rw (job-refused (r .site) (r .frame) (r .weights) (r .heights) (length (r .weights)) e) (refused-short n p)
 

@@ -3,8 +3,12 @@ pub mod Gathering
 pub mod Stages
 pub mod Listings
 pub mod Joining
+pub mod Parts
 pub mod Held
 pub mod Length
 pub mod LaidRead
 pub mod Unique
+pub mod Allowed
 pub mod Listable
+pub mod ReadLaid
+pub mod First

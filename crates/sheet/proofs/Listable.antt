@@ -1,4 +1,4 @@
--- A sheet that is laid out as the document says gets what the job gives of its numbers; and a listing, where no refusal applies to them.
+-- A sheet laid out as the document says gets what the job gives of its numbers: a listing where no refusal applies to them.
 -- Assumes nothing.
 use mathlib.Core.Path.{_≡_, ap, _∙_}
 use Prim.Native.Nat.{ℕ}
@@ -8,8 +8,9 @@ use Rattle.limits.specs.Applies.{Applies}
 use Rattle.limits.specs.Judging.{judgedJob}
 use Rattle.limits.specs.Outcome.{Outcome, accepted, _>>=_}
 use Rattle.limits.proofs.Refusing.{accepted-unless-refused}
-use Rattle.job.specs.Job.{Results, resultsOf}
+use Rattle.job.specs.Job.{resultsOf}
 use Rattle.job.proofs.Stages.{job-accepted}
+use Rattle.sheet.proofs.Allowed.{allowed-laid}
 use Rattle.sheet.proofs.LaidRead.{laid-read}
 use Rattle.sheet.specs.Layout.{sheetLaid, Laid}
 use Rattle.sheet.specs.Listing.{listing, jobOfSheet, sheetListing}
@@ -24,9 +25,13 @@ module _ (r : SheetRead) where
   unfolding sheetListing
   laid-job l = ap (λ (o : Outcome SheetRead). listing (o >>= jobOfSheet)) (laid-read r l)
 
-  pub laid-listed : Laid r → ((n p : ℕ) → Wrong n p → ⊥)
+  pub laid-listed : ((n p : ℕ) → Wrong n p → ⊥)
       → (g : Given) × (judgedJob (r .site) (r .frame) (r .weights) (r .heights) (length (r .weights)) ≡ accepted g)
       × (sheetListing (sheetLaid r) ≡ listing (accepted (resultsOf g (r .weights) (r .heights))))
-  laid-listed l none =
-      let j = accepted-unless-refused (r .site) (r .frame) (r .weights) (r .heights) (length (r .weights)) none in
-      (j .0, j .1, laid-job l ∙ ap listing (job-accepted (r .site) (r .frame) (r .weights) (r .heights) (length (r .weights)) (j .1)))
+  laid-listed none =
+      let j = accepted-unless-refused (r .site) (r .frame) (r .weights) (r .heights) (length (r .weights)) none in (
+        j .0,
+        j .1,
+        laid-job (allowed-laid r (length (r .weights)) (j .0) (j .1))
+            ∙ ap listing (job-accepted (r .site) (r .frame) (r .weights) (r .heights) (length (r .weights)) (j .1)),
+      )

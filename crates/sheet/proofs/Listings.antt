@@ -2,7 +2,7 @@
 -- Assumes nothing.
 use mathlib.Core.Path.{_≡_, refl, sym, ap, ap₂, _∙_}
 use mathlib.Core.List.{List, [], _∷_, _++_, append-assoc, append-nil}
-use Prim.Native.Nat.{ℕ, zero, suc, _+_, _-_, _*_, _≤_, _<_}
+use Prim.Native.Nat.{ℕ, zero, suc, _+_, _*_, _≤_}
 use native.Mathlib.Nat.{zero-add}
 use native.Mathlib.Omega.{arith}
 use lib.ListN.{length, getD, drop, length-append}
@@ -12,8 +12,7 @@ use Rattle.text.specs.Bytes.{bytes}
 use Rattle.text.specs.Writing.{laidOut, spliced}
 use Rattle.text.proofs.Fields.{line-most}
 use Rattle.text.proofs.Spliced.{Wrote, wrote, wrote-none, wrote-more}
-use Rattle.sheet.specs.declared.listing.Listing.{Listing}
-use Rattle.sheet.specs.Listing.{roofFirst, account, refusal, printed, Levelled}
+use Rattle.sheet.specs.Listing.{roofFirst, refusal, printed, Levelled}
 
 -- ---- how long: 20 digits a number at the most
 module _ (fs us ms : List ℕ) where
@@ -24,7 +23,8 @@ module _ (fs us ms : List ℕ) where
   unfolding roofFirst
   roof-most zero = omega arith
   roof-most (suc x) =
-      simp length-append (omega (arith, roof-most x, line-most (bytes "level") (suc x ∷ getD fs x 0 ∷ getD us x 0 ∷ getD ms x 0 ∷ [])))
+      simp length-append
+      (omega (arith, roof-most x, line-most (bytes "level") (suc x ∷ getD fs x 0 ∷ getD us x 0 ∷ getD ms x 0 ∷ [])))
 
   roof-next : (n x : ℕ) → n ≡ suc x → roofFirst fs us ms n ≡ levelLine n x ++ roofFirst fs us ms x
   unfolding roofFirst
@@ -45,7 +45,8 @@ module _ (fs us ms : List ℕ) where
     sum : length (l .done) + length (roofFirst fs us ms n) ≡ length (roofFirst fs us ms (length fs))
     sum = sym (length-append (l .done) (roofFirst fs us ms n)) ∙ ap length (l .all)
 
-    pub listed-all : n ≡ 0 → (p ≡ at + length (roofFirst fs us ms (length fs))) × (held ≡ spliced old at (roofFirst fs us ms (length fs)))
+    pub listed-all : n ≡ 0 → (p ≡ at + length (roofFirst fs us ms (length fs)))
+        × (held ≡ spliced old at (roofFirst fs us ms (length fs)))
     unfolding roofFirst
     listed-all e =
         let same : l .done ≡ roofFirst fs us ms (length fs) = sym (append-nil (l .done)) ∙ rw e at (l .all) in
@@ -58,12 +59,15 @@ module _ (fs us ms : List ℕ) where
       pub listed-room : p + length (levelLine n x) ≤ length held
       listed-room = omega (arith, l .lines, sum, parts)
 
-      pub listed-more : {held′ : List ℕ} {p′ : ℕ} → p′ ≡ p + length (levelLine n x) → held′ ≡ spliced held p (levelLine n x) → Listed old at held′ p′ x
+      pub listed-more : {held′ : List ℕ} {p′ : ℕ} → p′ ≡ p + length (levelLine n x) → held′ ≡ spliced held p (levelLine n x)
+          → Listed old at held′ p′ x
       listed-more ep eh =
           record {
             done = l .done ++ levelLine n x;
             lines = wrote-more (l .lines) (wrote _ _ _ _ _ listed-room eh ep) (omega (arith, sum, parts));
-            all = append-assoc (l .done) (levelLine n x) (roofFirst fs us ms x) ∙ ap (λ (z : List ℕ). l .done ++ z) (sym (roof-next n x e)) ∙ l .all;
+            all =
+                append-assoc (l .done) (levelLine n x) (roofFirst fs us ms x)
+                ∙ ap (λ (z : List ℕ). l .done ++ z) (sym (roof-next n x e)) ∙ l .all;
             under = omega (arith, l .under);
           }
 

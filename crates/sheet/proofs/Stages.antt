@@ -1,36 +1,39 @@
 -- The stages of a sheet, as the code takes them: line 1, line 2, all later lines.
 -- Assumes nothing.
-use mathlib.Core.Path.{_≡_, refl, sym, ap, ap₂, _∙_}
+use mathlib.Core.Path.{_≡_, refl, sym, ap, _∙_}
 use mathlib.Core.List.{List}
-use Prim.Native.Nat.{ℕ, _+_, _≤_, _<_}
+use Prim.Native.Nat.{ℕ, _≤_, _<_}
 use native.Mathlib.Omega.{arith}
-use lib.Dec.{leb}
-use lib.ListN.{length, getD, drop}
+use lib.ListN.{length, drop}
 use lib.Seq.{drop-drop}
 use borrow.Author.Tests.{le-leb, lt-leb}
 use Rattle.whole.specs.Cells.{laid}
 use Rattle.limits.specs.declared.frame.FrameValues.{FrameValues}
 use Rattle.limits.specs.declared.refusal.Refusal.{Refusal}
 use Rattle.limits.specs.declared.site.SiteValues.{SiteValues}
-use Rattle.limits.specs.Outcome.{Outcome, accepted, refused, zeros, _>>=_}
+use Rattle.limits.specs.Outcome.{Outcome, accepted, refused}
 use Rattle.text.specs.declared.reading.Cursor.{Cursor}
 use Rattle.text.specs.Bytes.{bytes}
-use Rattle.text.specs.Line.{line}
-use Rattle.text.specs.Reading.{Reading, found, otherwise}
+use Rattle.text.specs.Line.{line, blank}
+use Rattle.text.specs.Reading.{otherwise}
 use Rattle.text.proofs.Readings.{Went, LineWent}
-use Rattle.text.proofs.Stored.{padded}
+use Rattle.text.proofs.Stored.{in-cells}
 use Rattle.sheet.specs.declared.levels.LevelsAnswer.the-variants.{Taken as TakenLevels, Refused as RefusedLevels}
 use Rattle.sheet.specs.declared.levels.LevelsRead.{LevelsRead}
 use Rattle.sheet.specs.declared.reader.SheetAnswer.the-variants.{Taken}
-use Rattle.sheet.specs.declared.reader.SheetRead.{SheetRead as SheetCells}
-use Rattle.sheet.specs.Reading.{Line, lineAt, siteValues, frameValues, Levels, levelLines, SheetRead, readLines, readSheet, cellsOf, levelsRead, sheetRead}
+use Rattle.sheet.specs.Reading.{lineAt, siteValues, frameValues, Levels, levelLines}
+use Rattle.sheet.specs.Reading.{readLines, readSheet, cellsOf, levelsRead, sheetRead}
 
 -- ---- a line at a cursor
 line-at : (s w : List ℕ) (p k : ℕ) {c c′ : Cursor} {ns : List ℕ} → Went c c′ (line w k (drop (c .at) s)) ns
     → lineAt p w k (drop (c .at) s) ≡ accepted (record { numbers = ns; rest = drop (c′ .at) s })
 unfolding lineAt
 line-at s w p k {c} {c′} {ns} went =
-    rw (went .is, drop-drop (went .used) (c .at) s) (ap (λ (d : Cursor). accepted (record { numbers = ns; rest = drop (d .at) s })) (went .to))
+    rw (went .is, drop-drop (went .used) (c .at) s) (ap (λ (d : Cursor). accepted (record {
+      numbers =
+          ns;
+      rest = drop (d .at) s;
+    })) (went .to))
 
 line-not : (s w : List ℕ) (p k : ℕ) → line w k s ≡ otherwise → lineAt p w k s ≡ refused 16 p
 unfolding lineAt
@@ -55,7 +58,8 @@ pub record LevelsTaken (o : Outcome Levels) (r : LevelsRead) (n : ℕ) : Type 0 
   pub weights : r .weights ≡ cellsOf (levels .weights)
   pub heights : r .heights ≡ cellsOf (levels .heights)
 
-pub levels-taken : (o : Outcome Levels) (r : LevelsRead) (n : ℕ) → r ≡ levelsRead o → r .answer ≡ TakenLevels n → LevelsTaken o r n
+pub levels-taken : (o : Outcome Levels) (r : LevelsRead) (n : ℕ) → r ≡ levelsRead o → r .answer ≡ TakenLevels n
+    → LevelsTaken o r n
 unfolding levelsRead
 levels-taken (accepted ls) r n e m =
     let e′ = sym (ap (λ (x : LevelsRead). x .answer) e) ∙ m in
@@ -74,12 +78,12 @@ levels-taken (refused k p) r n e m =
 abbrev start : Cursor
 start = record { at = 0 }
 
-site-held : (ns : List ℕ) → siteValues (laid ns (zeros 7)) ≡ siteValues ns
+site-held : (ns : List ℕ) → siteValues (laid ns blank) ≡ siteValues ns
 site-held ns =
-    rw (padded ns 7 0, padded ns 7 1, padded ns 7 2, padded ns 7 3, padded ns 7 4, padded ns 7 5, padded ns 7 6)
+    rw (in-cells ns 0, in-cells ns 1, in-cells ns 2, in-cells ns 3, in-cells ns 4, in-cells ns 5, in-cells ns 6)
 
-frame-held : (ns : List ℕ) → frameValues (laid ns (zeros 7)) ≡ frameValues ns
-frame-held ns = rw (padded ns 7 0, padded ns 7 1, padded ns 7 2, padded ns 7 3, padded ns 7 4)
+frame-held : (ns : List ℕ) → frameValues (laid ns blank) ≡ frameValues ns
+frame-held ns = rw (in-cells ns 0, in-cells ns 1, in-cells ns 2, in-cells ns 3, in-cells ns 4)
 
 module _ (s : List ℕ) where
   pub lines-first : line (bytes "site") 7 s ≡ otherwise → readLines s ≡ refused 16 1
@@ -94,21 +98,34 @@ module _ (s : List ℕ) where
     unfolding readLines
     lines-second o = simp (begun, line-not (drop (second .at) s) (bytes "frame") 2 5 o)
 
-    module _ {third : Cursor} {n₂ : List ℕ} (middle : LineWent second third (line (bytes "frame") 5 (drop (second .at) s)) n₂) where
-      continued : lineAt 2 (bytes "frame") 5 (drop (second .at) s) ≡ accepted (record { numbers = middle .numbers; rest = drop (third .at) s })
+    module _ {third : Cursor} {n₂ : List ℕ}
+        (middle : LineWent second third (line (bytes "frame") 5 (drop (second .at) s)) n₂) where
+      continued : lineAt 2 (bytes "frame") 5 (drop (second .at) s) ≡ accepted (record {
+        numbers =
+            middle .numbers;
+        rest = drop (third .at) s;
+      })
       continued = line-at s (bytes "frame") 2 5 (middle .went)
 
       pub lines-later : (n p : ℕ) → levelLines 3 (drop (third .at) s) ≡ refused n p → readLines s ≡ refused n p
       unfolding readLines
       lines-later n p o = simp (begun, continued, o)
 
-      pub lines-all : {r : LevelsRead} {n : ℕ} {v : SiteValues} {f : FrameValues} → LevelsTaken (levelLines 3 (drop (third .at) s)) r n
+      pub lines-all : {r : LevelsRead} {n : ℕ} {v : SiteValues} {f : FrameValues}
+          → LevelsTaken (levelLines 3 (drop (third .at) s)) r n
           → v ≡ siteValues n₁ → f ≡ frameValues n₂
           → record { answer = Taken v f n; weights = r .weights; heights = r .heights } ≡ sheetRead (readLines s)
       unfolding readLines sheetRead
       lines-all {r} {n} {v} {f} last ev ef =
           simp (begun, continued, last .is)
-          (rw (last .count, last .weights, last .heights, ev ∙ ap siteValues (first .held-is) ∙ site-held (first .numbers), ef ∙ ap frameValues (middle .held-is) ∙ frame-held (middle .numbers)))
+          (rw (
+            last .count,
+            last .weights,
+            last .heights,
+            ev ∙ ap siteValues (first .held-is)
+                ∙ site-held (first .numbers),
+            ef ∙ ap frameValues (middle .held-is) ∙ frame-held (middle .numbers),
+          ))
 
   -- ---- 17 before everything
   pub sheet-long : 4_096 < length s → readSheet s ≡ refused 17 0

@@ -1,4 +1,4 @@
--- No second outcome meets the contract of `sheet_listing`: every cell that it hands on, and how many are the listing, are determined.
+-- No second outcome meets the contract of `sheet_listing`: every cell of its array is determined, and its length.
 -- So are those of `read_sheet` and of every function inside, whose contracts say 'the result is what the definition gives': by
 -- `determined` of `whole`.
 -- Assumes nothing.

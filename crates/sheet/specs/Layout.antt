@@ -2,8 +2,8 @@
 --   siteNumbers v, frameNumbers v    the numbers of line 1 and of line 2, in order
 --   levelsLaid ws hs                 a level line for each weight and height, lowest first
 --   sheetLaid r                      the sheet of what r holds
---   Laid r                           each number has at most 9 digits, there are as many heights as weights, and the sheet is not over
---                                    4,096 bytes
+--   Laid r                           each number has at most 9 digits, there are as many heights as weights, and the sheet has
+--                                    at most 4,096 bytes
 use mathlib.Core.Path.{_≡_}
 use mathlib.Core.List.{List, [], _∷_, _++_}
 use Prim.Native.Nat.{ℕ, _≤_}

@@ -1,5 +1,6 @@
 -- 'Sheet and listing': what is printed.
 --   roofFirst fs us ms x      the lines of the x lowest levels, roof first: number, force, shear, overturning
+--   allLevels fs us ms        the lines of all levels
 --   account n fs us ms        the base line V, V_M, V*, V_D, T and a line for each level, of figures n, forces fs, shears us and
 --                             overturning moments ms, each lowest level first
 --   refusal n p               'A refusal prints one line: `refused`, number, place'
@@ -7,7 +8,7 @@
 --   jobOfSheet r              the job of what a sheet holds
 --   sheetListing bytes        what is printed for a sheet: 17, then 16, precede everything that a job judges
 --   printed l                 the bytes l as the code hands them on: in the first of 4,610 cells, and how many there are
---   Levelled fs us ms         as many shears and moments as forces, and not over 50
+--   Levelled fs us ms         as many shears and overturning moments as forces, and not over 50
 use mathlib.Core.Path.{_≡_}
 use mathlib.Core.List.{List, [], _∷_, _++_}
 use Prim.Native.Nat.{ℕ, zero, suc, _≤_}
@@ -26,9 +27,12 @@ roofFirst fs us ms zero = []
 roofFirst fs us ms (suc x) =
     laidOut (bytes "level") (suc x ∷ getD fs x 0 ∷ getD us x 0 ∷ getD ms x 0 ∷ []) ++ roofFirst fs us ms x
 
+abbrev pub allLevels : List ℕ → List ℕ → List ℕ → List ℕ
+allLevels fs us ms = roofFirst fs us ms (length fs)
+
 unfoldable pub account : Figures → List ℕ → List ℕ → List ℕ → List ℕ
 account n fs us ms =
-    laidOut (bytes "base") (n .v ∷ n .vm ∷ n .star ∷ n .vd ∷ n .t ∷ []) ++ roofFirst fs us ms (length fs)
+    laidOut (bytes "base") (n .v ∷ n .vm ∷ n .star ∷ n .vd ∷ n .t ∷ []) ++ allLevels fs us ms
 
 unfoldable pub refusal : ℕ → ℕ → List ℕ
 refusal n p = laidOut (bytes "refused") (n ∷ p ∷ [])
@@ -38,7 +42,7 @@ printed l = record { bytes = laid l (zeros 4_610); length = length l }
 
 pub record Levelled (fs us ms : List ℕ) : Type 0 where
   pub shears : length us ≡ length fs
-  pub moments : length ms ≡ length fs
+  pub overturnings : length ms ≡ length fs
   pub few : length fs ≤ 50
 
 unfoldable pub listing : Outcome Results → List ℕ

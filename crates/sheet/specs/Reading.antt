@@ -100,7 +100,8 @@ cellsOf l = laid (take 50 l) (zeros 50)
 unfoldable pub levelsRead : Outcome Levels → LevelsRead
 levelsRead (accepted ls) =
     record { answer = TakenLevels (length (ls .weights)); weights = cellsOf (ls .weights); heights = cellsOf (ls .heights) }
-levelsRead (refused n p) = record { answer = RefusedLevels (record { number = n; place = p }); weights = zeros 50; heights = zeros 50 }
+levelsRead (refused n p) =
+    record { answer = RefusedLevels (record { number = n; place = p }); weights = zeros 50; heights = zeros 50 }
 
 unfoldable pub sheetRead : Outcome SheetRead → SheetCells
 sheetRead (accepted r) =
@@ -109,4 +110,5 @@ sheetRead (accepted r) =
       weights = cellsOf (r .weights);
       heights = cellsOf (r .heights);
     }
-sheetRead (refused n p) = record { answer = Refused (record { number = n; place = p }); weights = zeros 50; heights = zeros 50 }
+sheetRead (refused n p) =
+    record { answer = Refused (record { number = n; place = p }); weights = zeros 50; heights = zeros 50 }

@@ -10,10 +10,10 @@ ghost use Prim.Native.Nat.{_+_, _≤_};
 ghost use lib.ListN.{length};
 ghost use Rattle.job.specs.Job.{jobOf};
 ghost use Rattle.text.specs.Writing.{spliced};
-ghost use Rattle.sheet.specs.Listing.{roofFirst, account, refusal, listing, printed, Levelled};
+ghost use Rattle.sheet.specs.Listing.{allLevels, account, refusal, listing, printed, Levelled};
 
-// The bytes of a listing, and how many there are. A base line has 110 at the most and a level line 90, with 20 digits a number: any
-// figures of 50 levels find room.
+// The bytes of a listing, and how many there are. With 20 digits a number a base line has 110 bytes and a level line 90: there is room
+// for any figures of 50 levels.
 pub struct Listing {
     pub bytes: [u8; 4_610],
     pub length: usize,
@@ -28,9 +28,9 @@ pub fn put_levels(
     overturnings: &[u64],
 ) -> usize
     requires { ⌜ Levelled (now forces) (now shears) (now overturnings) ⌝ }
-    requires { ⌜ at + length (roofFirst (now forces) (now shears) (now overturnings) (length (now forces))) ≤ length (now out) ⌝ }
-    ensures { λ r. ⌜ r ≡ at + length (roofFirst (now (forces .entry)) (now (shears .entry)) (now (overturnings .entry)) (length (now (forces .entry)))) ⌝ }
-    ensures { λ _. ⌜ now (out .exit) ≡ spliced (now (out .entry)) at (roofFirst (now (forces .entry)) (now (shears .entry)) (now (overturnings .entry)) (length (now (forces .entry)))) ⌝ }
+    requires { ⌜ at + length (allLevels (now forces) (now shears) (now overturnings)) ≤ length (now out) ⌝ }
+    ensures { λ r. ⌜ r ≡ at + length (allLevels (now (forces .entry)) (now (shears .entry)) (now (overturnings .entry))) ⌝ }
+    ensures { λ _. ⌜ now (out .exit) ≡ spliced (now (out .entry)) at (allLevels (now (forces .entry)) (now (shears .entry)) (now (overturnings .entry))) ⌝ }
 {
     let mut p = at;
     let mut x = forces.len();

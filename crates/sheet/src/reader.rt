@@ -36,7 +36,7 @@ impl SheetRead {
     }
 }
 
-fn site_values(n: [u64; 7]) -> SiteValues
+fn site_values(n: [u64; 10]) -> SiteValues
     ensures { λ r. ⌜ r ≡ siteValues n ⌝ }
 {
     SiteValues {
@@ -50,7 +50,7 @@ fn site_values(n: [u64; 7]) -> SiteValues
     }
 }
 
-fn frame_values(n: [u64; 7]) -> FrameValues
+fn frame_values(n: [u64; 10]) -> FrameValues
     ensures { λ r. ⌜ r ≡ frameValues n ⌝ }
 {
     FrameValues {

@@ -30,11 +30,12 @@ tenth k n h =
     omega (arith, e)
 
 -- where k + 1 digits are enough, one more changes nothing
-digits-enough : (k n : ℕ) → n < 10 ^ (k + 1) → digitsOf (suc k) n ≡ digitsOf k n
+pub digits-enough : (k n : ℕ) → n < 10 ^ (k + 1) → digitsOf (suc k) n ≡ digitsOf k n
 digits-enough zero n h = digits-small 1 n h ∙ sym (digits-small 0 n h)
 digits-enough (suc k) n h = go (leb 10 n) refl (digits-enough k (n / 10) (tenth k n h))
   where
-    go : (t : Bool) → leb 10 n ≡ t → digitsOf (suc k) (n / 10) ≡ digitsOf k (n / 10) → digitsOf (suc (suc k)) n ≡ digitsOf (suc k) n
+    go : (t : Bool) → leb 10 n ≡ t → digitsOf (suc k) (n / 10) ≡ digitsOf k (n / 10)
+        → digitsOf (suc (suc k)) n ≡ digitsOf (suc k) n
     go true e ih =
         let b = leb-true 10 n e in
         digits-big (suc k) n b ∙ ap (λ (l : List ℕ). l ++ ((48 + n % 10) ∷ [])) ih ∙ sym (digits-big k n b)
@@ -81,5 +82,6 @@ module _ (old : List ℕ) (at n d : ℕ) (e : d ≡ 48 + n % 10) (room : at + le
     pub put-room : at + length (decimal (n / 10)) < length old
     put-room = omega (arith, shorter)
 
-    pub put-more : {held : List ℕ} {p : ℕ} → Wrote old at (decimal (n / 10)) held p → Wrote old at (decimal n) (set held p d) (p + 1)
+    pub put-more : {held : List ℕ} {p : ℕ} → Wrote old at (decimal (n / 10)) held p
+        → Wrote old at (decimal n) (set held p d) (p + 1)
     put-more w = rw (decimal-big n big f, ← e) (wrote-byte w d put-room)

@@ -10,3 +10,5 @@ pub mod Fields
 pub mod Printed
 pub mod Trip
 pub mod Takes
+pub mod Digital
+pub mod Back

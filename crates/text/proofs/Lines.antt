@@ -3,16 +3,15 @@
 -- Assumes nothing.
 use mathlib.Core.Path.{_≡_, refl, sym, ap, ap₂, _∙_}
 use mathlib.Core.List.{List, [], _∷_, _++_, append-assoc, append-nil}
-use Prim.Native.Nat.{ℕ, zero, suc, _+_, _<_}
+use Prim.Native.Nat.{ℕ, suc}
 use native.Mathlib.Nat.{add-zero}
 use lib.ListN.{drop}
 use Rattle.whole.specs.Cells.{laid}
-use Rattle.limits.specs.Outcome.{zeros}
 use Rattle.text.specs.declared.line.LineRead.{LineRead}
 use Rattle.text.specs.declared.reading.Cursor.{Cursor}
 use Rattle.text.specs.declared.reading.WordAnswer.the-variants.{Found}
-use Rattle.text.specs.Line.{lf, field, fields, line, noLine, lineRead}
-use Rattle.text.specs.Reading.{Reading, found, otherwise, Reader, read, later, next, word, after, _>>=_, _>>_}
+use Rattle.text.specs.Line.{lf, field, fields, line, blank, noLine, lineRead}
+use Rattle.text.specs.Reading.{Reading, found, otherwise, read, later, next, word, _>>=_, _>>_}
 use Rattle.text.proofs.Readings.{Moves, line-moves, stays, Went, onward}
 
 unfoldable pub gathered : List ℕ → Reading (List ℕ) → Reading (List ℕ)
@@ -27,7 +26,8 @@ gathered-later before n otherwise = refl
 gathered-one : (before : List ℕ) (v : ℕ) (o : Reading (List ℕ)) (bytes : List ℕ)
     → gathered before (next o (λ ns. read (v ∷ ns)) bytes) ≡ gathered (before ++ (v ∷ [])) o
 unfolding gathered
-gathered-one before v (found ns n) bytes = ap₂ (λ (l : List ℕ) (k : ℕ). found l k) (sym (append-assoc before (v ∷ []) ns)) (add-zero n)
+gathered-one before v (found ns n) bytes =
+    ap₂ (λ (l : List ℕ) (k : ℕ). found l k) (sym (append-assoc before (v ∷ []) ns)) (add-zero n)
 gathered-one before v otherwise bytes = refl
 
 -- the answer where numbers were read before
@@ -43,14 +43,16 @@ module _ (s before : List ℕ) (c : Cursor) (k m : ℕ) (e : k ≡ suc m) where
   fields-stop o = rw (e, o)
 
   pub fields-more : (c′ : Cursor) (v : ℕ) → Went c c′ (field (drop (c .at) s)) v
-      → lineRead c (gathered before (fields k (drop (c .at) s))) ≡ lineRead c′ (gathered (before ++ (v ∷ [])) (fields m (drop (c′ .at) s)))
+      → lineRead c (gathered before (fields k (drop (c .at) s))) ≡ lineRead c′
+      (gathered (before ++ (v ∷ [])) (fields m (drop (c′ .at) s)))
   unfolding fields
   fields-more c′ v w =
       rw e
       (onward s (answerAfter before) (after-moves before) w (λ n. fields m >>= λ ns. read (n ∷ ns))
       ∙ ap (lineRead c′) (gathered-one before v (fields m (drop (c′ .at) s)) (drop (c′ .at) s)))
 
-pub fields-none : (before bytes : List ℕ) (c : Cursor) (k : ℕ) → k ≡ 0 → lineRead c (gathered before (fields k bytes)) ≡ lineRead c (found before 0)
+pub fields-none : (before bytes : List ℕ) (c : Cursor) (k : ℕ) → k ≡ 0
+    → lineRead c (gathered before (fields k bytes)) ≡ lineRead c (found before 0)
 unfolding fields gathered
 fields-none before bytes c k e = rw (e, append-nil before)
 
@@ -83,6 +85,6 @@ module _ (s w : List ℕ) (k : ℕ) (c : Cursor) where
       line-last o = counted ∙ simp o
 
       pub line-whole : (x : Cursor) → Went e x (word lf (drop (e .at) s)) tt
-          → lineRead c (line w k (drop (c .at) s)) ≡ record { answer = Found x; numbers = laid ns (zeros 7) }
+          → lineRead c (line w k (drop (c .at) s)) ≡ record { answer = Found x; numbers = laid ns blank }
       unfolding lineRead
       line-whole x last = counted ∙ onward s lineRead line-moves last (λ _. read ns) ∙ rw (stays x)

@@ -1,21 +1,20 @@
 -- A number by its digits.
 -- Assumes nothing.
 use mathlib.Core.Path.{_≡_, refl, sym, ap, _∙_}
-use mathlib.Core.Bool.{Bool, true, false, _&&_, not}
+use mathlib.Core.Bool.{Bool, true, false}
 use mathlib.Core.List.{List, [], _∷_}
-use Prim.Native.Nat.{ℕ, zero, suc, _+_, _≤_, _<_}
-use native.Mathlib.Nat.{add-zero}
+use Prim.Native.Nat.{ℕ, suc, _≤_, _<_}
+use native.Mathlib.Nat.{add-zero, not-suc-le-zero}
 use native.Mathlib.Omega.{arith}
-use lib.Dec.{leb, ltb, eqb}
+use lib.Dec.{leb}
 use lib.ListN.{length, getD, take, drop}
 use lib.Seq.{take-all, length-take-le, getD-drop}
 use borrow.Author.Tests.{le-leb, lt-leb, leb-true, leb-false}
-use Rattle.whole.specs.Choice.{pick}
 use Rattle.whole.proofs.Choice.{by-test}
 use Rattle.limits.specs.Ranges.{inRange}
 use Rattle.text.specs.declared.number.Digits.{Digits}
 use Rattle.text.specs.Number.{digits, value, counted, leadingZero, wellMade, number}
-use Rattle.text.specs.Reading.{Reading, found, otherwise}
+use Rattle.text.specs.Reading.{found, otherwise}
 
 module _ (l : List ℕ) where
   pub number-none : length (digits l) < 1 → number l ≡ otherwise
@@ -59,13 +58,15 @@ pub digits-short : (l : List ℕ) → length (digits l) ≤ length l
 unfolding digits
 digits-short [] = omega arith
 digits-short (b ∷ l) =
-    by-test (λ (ds : List ℕ). length ds ≤ suc (length l)) (inRange 48 57 b) (b ∷ digits l) [] (λ _. omega (arith, digits-short l)) (λ _. omega arith)
+    by-test (λ (ds : List ℕ). length ds ≤ suc (length l)) (inRange 48 57 b) (b ∷ digits l) []
+    (λ _. omega (arith, digits-short l)) (λ _. omega arith)
 
 pub digits-first : (l : List ℕ) → 1 ≤ length (digits l) → getD (digits l) 0 0 ≡ getD l 0 0
 unfolding digits
 digits-first [] h = refl
 digits-first (b ∷ l) h =
-    by-test (λ (ds : List ℕ). 1 ≤ length ds → getD ds 0 0 ≡ b) (inRange 48 57 b) (b ∷ digits l) [] (λ _ _. refl) (λ _ n. absurd (let z : ⊥ = omega arith in z)) h
+    by-test (λ (ds : List ℕ). 1 ≤ length ds → getD ds 0 0 ≡ b) (inRange 48 57 b) (b ∷ digits l) []
+    (λ _ _. refl) (λ _ n. absurd (not-suc-le-zero n)) h
 
 -- ---- what the code counts, ten digits at the most, and the number at the front of the bytes
 module _ (l : List ℕ) (d : Digits) (e : d ≡ counted (take 10 (digits l))) where

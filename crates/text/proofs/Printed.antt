@@ -1,15 +1,14 @@
 -- The digits of a number, read again: which they are, what they write, how many there are, and that none leads with a needless 0.
 -- Assumes nothing.
-use mathlib.Core.Path.{_≡_, refl, sym, ap, _∙_}
-use mathlib.Core.Bool.{Bool, true, false, _&&_, and-false}
+use mathlib.Core.Path.{_≡_, refl, ap, _∙_}
+use mathlib.Core.Bool.{Bool, true, false, and-false}
 use mathlib.Core.List.{List, [], _∷_, _++_, append-assoc, append-nil}
 use Prim.Native.Nat.{ℕ, zero, suc, _+_, _-_, _*_, _^_, _/_, _%_, _≤_, _<_}
-use native.Mathlib.Nat.{pow-suc, zero-add, le-of-suc-le-suc}
-use native.Mathlib.Numerals.{add-one}
+use native.Mathlib.Nat.{pow-suc}
 use native.Mathlib.Omega.{arith}
 use lib.Dec.{leb, ltb}
 use lib.ListN.{length, getD, length-append}
-use borrow.Author.Tests.{le-leb, le-ltb, ne-eqb, leb-true, leb-false}
+use borrow.Author.Tests.{le-leb, ne-eqb, leb-true, leb-false}
 use Rattle.limits.specs.Ranges.{inRange}
 use Rattle.text.proofs.Decimal.{digits-small, digits-big, tenth}
 use Rattle.text.specs.Number.{digits, value, valueFrom, leadingZero}
@@ -65,7 +64,8 @@ printed-few j k n h f =
     (λ k n s j h. rw (digits-small k n s) (omega arith))
     (λ k n b ih j h. step k n b ih j h) k n f j h
   where
-    step : (k n : ℕ) → 10 ≤ n → ((j : ℕ) → n / 10 < 10 ^ (j + 1) → length (digitsOf k (n / 10)) ≤ j + 1) → (j : ℕ) → n < 10 ^ (j + 1)
+    step : (k n : ℕ) → 10 ≤ n → ((j : ℕ) → n / 10 < 10 ^ (j + 1) → length (digitsOf k (n / 10)) ≤ j + 1) → (j : ℕ)
+        → n < 10 ^ (j + 1)
         → length (digitsOf (suc k) n) ≤ j + 1
     step k n b ih zero h = absurd (let z : ⊥ = omega arith in z)
     step k n b ih (suc j) h = rw (digits-big k n b) (simp length-append (omega (arith, ih j (tenth j n h))))
@@ -84,7 +84,8 @@ printed-many j k n h f =
         positive zero = omega arith
         positive (suc i) = omega (arith, pow-suc 10 i, positive i)
 
-    step : (k n : ℕ) → 10 ≤ n → ((j : ℕ) → 10 ^ j ≤ n / 10 → j < length (digitsOf k (n / 10))) → (j : ℕ) → 10 ^ j ≤ n → j < length (digitsOf (suc k) n)
+    step : (k n : ℕ) → 10 ≤ n → ((j : ℕ) → 10 ^ j ≤ n / 10 → j < length (digitsOf k (n / 10))) → (j : ℕ) → 10 ^ j ≤ n
+        → j < length (digitsOf (suc k) n)
     step k n b ih zero h = rw (digits-big k n b) (simp length-append (omega arith))
     step k n b ih (suc j) h = rw (digits-big k n b) (simp length-append (omega (arith, ih j (omega (arith, pow-suc 10 j)))))
 
@@ -93,7 +94,8 @@ first-some : (k n : ℕ) → n < 10 ^ (k + 1) → 0 < n → (l : List ℕ) → 4
 first-some =
     by-last (λ (k n : ℕ). 0 < n → (l : List ℕ) → 48 < getD (digitsOf k n ++ l) 0 0)
     (λ k n s p l. rw (digits-small k n s) (omega arith))
-    (λ k n b ih p l. rw (digits-big k n b, append-assoc (digitsOf k (n / 10)) ((48 + n % 10) ∷ []) l) (ih (omega arith) ((48 + n % 10) ∷ l)))
+    (λ k n b ih p l. rw (digits-big k n b, append-assoc (digitsOf k (n / 10)) ((48 + n % 10) ∷ []) l)
+    (ih (omega arith) ((48 + n % 10) ∷ l)))
 
 pub printed-lead : (k n : ℕ) → n < 10 ^ (k + 1) → leadingZero (length (digitsOf k n)) (getD (digitsOf k n) 0 0) ≡ false
 printed-lead k n h = go (leb n 0) refl

@@ -1,21 +1,19 @@
 -- Readings one after the other, as the code takes them: each answer with the cursor after it.
 -- Assumes nothing.
 use mathlib.Core.Path.{_≡_, refl, sym, ap, _∙_}
-use mathlib.Core.List.{List, [], _∷_, _++_, append-assoc, append-nil}
-use Prim.Native.Nat.{ℕ, zero, suc, _+_}
+use mathlib.Core.List.{List}
+use Prim.Native.Nat.{ℕ, _+_}
 use native.Mathlib.Nat.{add-assoc, add-zero}
 use native.Mathlib.Omega.{arith}
 use lib.ListN.{drop}
 use lib.Seq.{drop-drop}
 use Rattle.whole.specs.Cells.{laid}
-use Rattle.limits.specs.Outcome.{Done, zeros}
+use Rattle.limits.specs.Outcome.{Done}
 use Rattle.text.specs.declared.line.LineRead.{LineRead}
-use Rattle.text.specs.declared.number.NumberAnswer.{NumberAnswer}
 use Rattle.text.specs.declared.number.NumberAnswer.the-variants.{Found as FoundNumber, Otherwise as NoNumber}
 use Rattle.text.specs.declared.reading.Cursor.{Cursor}
-use Rattle.text.specs.declared.reading.WordAnswer.{WordAnswer}
 use Rattle.text.specs.declared.reading.WordAnswer.the-variants.{Found, Otherwise}
-use Rattle.text.specs.Line.{lineRead}
+use Rattle.text.specs.Line.{blank, lineRead}
 use Rattle.text.specs.Number.{numberAnswer}
 use Rattle.text.specs.Reading.{Reading, found, otherwise, Reader, later, next, after, wordAnswer}
 
@@ -33,13 +31,16 @@ number-moves c n otherwise = refl
 
 pub line-moves : Moves lineRead
 unfolding lineRead
-line-moves c n (found ns m) = ap (λ (d : Cursor). record { answer = Found d; numbers = laid ns (zeros 7) }) (further c n m)
+line-moves c n (found ns m) = ap (λ (d : Cursor). record { answer = Found d; numbers = laid ns blank }) (further c n m)
 line-moves c n otherwise = refl
 
 pub stays : (c : Cursor) → after c 0 ≡ c
 stays c = ap (λ (k : ℕ). record { at = k }) (add-zero (c .at))
 
 -- ---- an answer that finds nothing
+pub nothing : {A X : Type 0} {a : A} {n : ℕ} → _≡_ {A = Reading A} otherwise (found a n) → X
+nothing e = absurd (let z : _≡_ {A = ℕ} 0 1 = cc in let b : ⊥ = omega arith in b)
+
 pub word-missed : (c : Cursor) (o : Reading Done) → wordAnswer c o ≡ Otherwise → o ≡ otherwise
 unfolding wordAnswer
 word-missed c (found a n) e = absurd (let z : _≡_ {A = ℕ} 0 1 = cc in let b : ⊥ = omega arith in b)
@@ -77,10 +78,11 @@ number-went c c′ v otherwise e = absurd (let z : _≡_ {A = ℕ} 0 1 = cc in l
 
 pub record LineWent (c c′ : Cursor) (o : Reading (List ℕ)) (held : List ℕ) : Type 0 where
   pub numbers : List ℕ
-  pub held-is : held ≡ laid numbers (zeros 7)
+  pub held-is : held ≡ laid numbers blank
   pub went : Went c c′ o numbers
 
-pub line-went : (c c′ : Cursor) (o : Reading (List ℕ)) (r : LineRead) → r ≡ lineRead c o → r .answer ≡ Found c′ → LineWent c c′ o (r .numbers)
+pub line-went : (c c′ : Cursor) (o : Reading (List ℕ)) (r : LineRead) → r ≡ lineRead c o → r .answer ≡ Found c′
+    → LineWent c c′ o (r .numbers)
 unfolding lineRead
 line-went c c′ (found ns n) r e m =
     let e′ = sym (ap (λ (x : LineRead). x .answer) e) ∙ m in
@@ -90,7 +92,8 @@ line-went c c′ otherwise r e m =
     absurd (let z : _≡_ {A = ℕ} 0 1 = cc in let b : ⊥ = omega arith in b)
 
 -- what is read after it is read from there
-pub onward : {A B X : Type 0} (s : List ℕ) (answer : Cursor → Reading B → X) → Moves answer → {c c′ : Cursor} {o : Reading A} {a : A}
+pub onward : {A B X : Type 0} (s : List ℕ) (answer : Cursor → Reading B → X) → Moves answer
+    → {c c′ : Cursor} {o : Reading A} {a : A}
     → Went c c′ o a → (f : A → Reader B) → answer c (next o f (drop (c .at) s)) ≡ answer c′ (f a (drop (c′ .at) s))
 onward s answer moves {c} {c′} {o} {a} w f =
     rw (w .is)

@@ -3,7 +3,7 @@
 -- Assumes nothing.
 use mathlib.Core.Path.{_≡_, refl, sym, ap, _∙_}
 use mathlib.Core.List.{List, [], _∷_, _++_, append-assoc}
-use Prim.Native.Nat.{ℕ, suc, _+_, _≤_, _<_}
+use Prim.Native.Nat.{ℕ, _+_, _≤_, _<_}
 use native.Mathlib.Nat.{add-zero, add-assoc}
 use native.Mathlib.Numerals.{add-one}
 use native.Mathlib.Omega.{arith}
@@ -24,10 +24,19 @@ spliced-spliced : (old : List ℕ) (at : ℕ) (a b : List ℕ) → at + length a
     → spliced (spliced old at a) (at + length a) b ≡ spliced old at (a ++ b)
 unfolding spliced
 spliced-spliced old at a b h =
-    let n : length (take at old ++ a) ≡ at + length a = length-append (take at old) a ∙ ap (λ (k : ℕ). k + length a) (length-take-le at old (omega arith)) in
-    let e₁ : take (at + length a) ((take at old ++ a) ++ drop (at + length a) old) ≡ take at old ++ a = take-at (take at old ++ a) (drop (at + length a) old) (at + length a) n in
-    let e₂ : drop (at + length a) ((take at old ++ a) ++ drop (at + length a) old) ≡ drop (at + length a) old = drop-at (take at old ++ a) (drop (at + length a) old) (at + length a) n in
-    rw (← append-assoc (take at old) a (drop (at + length a) old), ← drop-drop (length b) (at + length a) ((take at old ++ a) ++ drop (at + length a) old), e₁, e₂)
+    let n : length (take at old ++ a) ≡ at + length a = length-append (take at old) a
+    ∙ ap (λ (k : ℕ). k + length a) (length-take-le at old (omega arith)) in
+    let e₁ : take (at + length a) ((take at old ++ a) ++ drop (at + length a) old) ≡ take at old ++ a = take-at
+    (take at old ++ a) (drop (at + length a) old) (at + length a) n in
+    let e₂ : drop (at + length a) ((take at old ++ a) ++ drop (at + length a) old) ≡ drop (at + length a) old = drop-at
+    (take at old ++ a) (drop (at + length a) old) (at + length a) n in
+    rw (
+      ← append-assoc (take at old) a (drop (at + length a) old),
+      ← drop-drop (length b) (at + length a)
+          ((take at old ++ a) ++ drop (at + length a) old),
+      e₁,
+      e₂,
+    )
     (simp (drop-drop, length-append, append-assoc, add-assoc))
 
 spliced-one : (old : List ℕ) (at v : ℕ) → at < length old → set old at v ≡ spliced old at (v ∷ [])
@@ -43,7 +52,8 @@ pub wrote-none : (old : List ℕ) (at : ℕ) → Wrote old at [] old at
 wrote-none old at = record { holds = sym (spliced-none old at); end = sym (add-zero at); size = refl }
 
 -- what a call that writes says
-pub wrote : (old : List ℕ) (at : ℕ) (new held : List ℕ) (p : ℕ) → at + length new ≤ length old → held ≡ spliced old at new → p ≡ at + length new
+pub wrote : (old : List ℕ) (at : ℕ) (new held : List ℕ) (p : ℕ) → at + length new ≤ length old → held ≡ spliced old at new
+    → p ≡ at + length new
     → Wrote old at new held p
 wrote old at new held p room e f = record { holds = e; end = f; size = ap length e ∙ spliced-length old at new room }
 
@@ -60,5 +70,6 @@ module _ {old : List ℕ} {at : ℕ} {new held : List ℕ} {p : ℕ} (w : Wrote 
   pub wrote-byte : (v : ℕ) → at + length new < length old → Wrote old at (new ++ (v ∷ [])) (set held p v) (p + 1)
   wrote-byte v room =
       wrote-more
-      (wrote held p (v ∷ []) (set held p v) (p + 1) (omega (arith, w .end, w .size)) (spliced-one held p v (omega (arith, w .end, w .size))) refl)
+      (wrote held p (v ∷ []) (set held p v) (p + 1) (omega (arith, w .end, w .size))
+      (spliced-one held p v (omega (arith, w .end, w .size))) refl)
       (omega arith)

@@ -1,6 +1,6 @@
 -- An array whose first cells are stored one after another, by value: the cells from the i-th on are as they were.
 -- Assumes nothing.
-use mathlib.Core.Path.{_≡_, refl, sym, ap, ap₂, _∙_}
+use mathlib.Core.Path.{_≡_, refl, sym, ap, _∙_}
 use mathlib.Core.Bool.{Bool, true, false}
 use mathlib.Core.List.{List, [], _∷_, _++_, append-assoc, append-nil}
 use Prim.Native.Nat.{ℕ, zero, suc, _+_, _≤_, _<_}
@@ -12,6 +12,7 @@ use lib.Seq.{length-take-le, take-all, take-append-le, take-suc-set, drop-cons, 
 use borrow.Author.Tests.{leb-true, leb-false}
 use Rattle.whole.specs.Cells.{laid}
 use Rattle.limits.specs.Outcome.{zeros}
+use Rattle.text.specs.Line.{blank}
 
 pub record Stored (old : List ℕ) (i : ℕ) (held : List ℕ) : Type 0 where
   pub size : length held ≡ length old
@@ -25,7 +26,9 @@ module _ {old held : List ℕ} {i : ℕ} (st : Stored old i held) (v : ℕ) (h :
   stored-more =
       record {
         size = length-set held i v ∙ st .size;
-        rest = drop-set-lt (i + 1) held i v (omega arith) ∙ sym (drop-drop 1 i held) ∙ ap (λ (l : List ℕ). drop 1 l) (st .rest) ∙ drop-drop 1 i old;
+        rest =
+            drop-set-lt (i + 1) held i v (omega arith) ∙ sym (drop-drop 1 i held) ∙ ap (λ (l : List ℕ). drop 1 l) (st .rest)
+            ∙ drop-drop 1 i old;
       }
 
   pub stored-last : take (i + 1) (set held i v) ≡ take i held ++ (v ∷ [])
@@ -74,7 +77,7 @@ module _ (old ws : List ℕ) (v : ℕ) where
           rw (take-all (length old) (ws ++ (v ∷ [])) (omega (arith, n)), take-all (length old) ws (omega arith)) (kept-inside h)
 
 -- ---- cells past the numbers hold 0, which is what a list says past its end
-pub padded : (ns : List ℕ) (k i : ℕ) → getD (laid ns (zeros k)) i 0 ≡ getD ns i 0
+padded : (ns : List ℕ) (k i : ℕ) → getD (laid ns (zeros k)) i 0 ≡ getD ns i 0
 padded [] k i = past k i
   where
     past : (k i : ℕ) → getD (zeros k) i 0 ≡ 0
@@ -85,3 +88,6 @@ padded (n ∷ ns) zero zero = refl
 padded (n ∷ ns) (suc k) zero = refl
 padded (n ∷ ns) zero (suc i) = rw (append-nil ns)
 padded (n ∷ ns) (suc k) (suc i) = padded ns k i
+
+pub in-cells : (ns : List ℕ) (i : ℕ) → getD (laid ns blank) i 0 ≡ getD ns i 0
+in-cells ns i = padded ns 10 i

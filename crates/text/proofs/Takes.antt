@@ -5,17 +5,15 @@ use mathlib.Core.Bool.{Bool, true, false}
 use mathlib.Core.List.{List}
 use Prim.Native.Nat.{ℕ, _+_, _≤_}
 use native.Mathlib.Omega.{arith}
-use lib.ListN.{length, drop}
+use lib.ListN.{drop}
 use Rattle.whole.specs.Choice.{pick}
 use Rattle.limits.specs.Outcome.{Done}
+use Rattle.text.proofs.Readings.{nothing}
 use Rattle.text.specs.Line.{lf, fields, line}
 use Rattle.text.specs.Reading.{Reading, found, otherwise, Reader, read, later, next, starts, word, _>>=_, _>>_}
 
 abbrev Takes : {A : Type 0} → Reader A → Type 0
 Takes {A} r = (s : List ℕ) (a : A) (n : ℕ) → r s ≡ found a n → 1 ≤ n
-
-nothing : {A X : Type 0} {a : A} {n : ℕ} → _≡_ {A = Reading A} otherwise (found a n) → X
-nothing e = absurd (let z : _≡_ {A = ℕ} 0 1 = cc in let b : ⊥ = omega arith in b)
 
 -- two readings do where the second does
 then-takes : {A B : Type 0} (r : Reader A) (f : A → Reader B) → ((a : A) → Takes (f a)) → Takes (r >>= f)

@@ -1,14 +1,13 @@
 -- What is written is read back: a number of at most 9 digits, and a line of such numbers.
 --   Ended l    the bytes l begin with no digit
 -- Assumes nothing.
-use mathlib.Core.Path.{_≡_, refl, sym, ap, ap₂, _∙_}
-use mathlib.Core.Bool.{Bool, true, false}
+use mathlib.Core.Path.{_≡_, refl, sym, ap, _∙_}
 use mathlib.Core.List.{List, [], _∷_, _++_, append-assoc, append-nil}
-use Prim.Native.Nat.{ℕ, zero, suc, _+_, _^_, _≤_, _<_}
+use Prim.Native.Nat.{ℕ, _+_, _*_, _^_, _≤_, _<_}
 use native.Mathlib.Nat.{add-zero, lt-of-le-of-lt}
 use native.Mathlib.Omega.{arith}
 use lib.Dec.{leb, lit<}
-use lib.ListN.{length, getD, drop, length-append}
+use lib.ListN.{length, length-append}
 use lib.Seq.{drop-at}
 use borrow.Author.Tests.{le-leb}
 use Rattle.whole.specs.Choice.{pick}
@@ -19,8 +18,8 @@ use Rattle.text.proofs.Numbers.{number-many, number-found}
 use Rattle.text.proofs.Printed.{printed-digits, printed-value, printed-some, printed-few, printed-many, printed-lead}
 use Rattle.text.proofs.Words.{starts-join}
 use Rattle.text.specs.Line.{tab, lf, field, fields, line}
-use Rattle.text.specs.Number.{digits, value, leadingZero, number}
-use Rattle.text.specs.Reading.{Reading, found, otherwise, Reader, read, later, next, word, _>>=_, _>>_}
+use Rattle.text.specs.Number.{digits, number}
+use Rattle.text.specs.Reading.{Reading, found, otherwise, Reader, read, word, _>>=_, _>>_}
 use Rattle.text.specs.Writing.{decimal, fieldOf, fieldsOf, laidOut, Short, AllShort}
 
 abbrev pub Ended : List ℕ → Type 0
@@ -60,13 +59,15 @@ word-read w l = simp (starts-join w l)
 
 -- what reads x and leaves y to what reads y reads both
 both-read : {A B : Type 0} (r : Reader A) (f : A → Reader B) (x y l : List ℕ) (a : A) (b : B)
-    → r (x ++ (y ++ l)) ≡ found a (length x) → f a (y ++ l) ≡ found b (length y) → (r >>= f) ((x ++ y) ++ l) ≡ found b (length (x ++ y))
+    → r (x ++ (y ++ l)) ≡ found a (length x) → f a (y ++ l) ≡ found b (length y)
+    → (r >>= f) ((x ++ y) ++ l) ≡ found b (length (x ++ y))
 both-read r f x y l a b p q =
     rw (append-assoc x y l, p, drop-at x (y ++ l) (length x) refl, q) (ap (found b) (sym (length-append x y)))
 
 field-read : (n : ℕ) (l : List ℕ) → Short n → Ended l → field (fieldOf n ++ l) ≡ found n (length (fieldOf n))
 unfolding field fieldOf
-field-read n l s ended = both-read (word tab) (λ _. number) tab (decimal n) l tt n (word-read tab (decimal n ++ l)) (short-read n l s ended)
+field-read n l s ended =
+    both-read (word tab) (λ _. number) tab (decimal n) l tt n (word-read tab (decimal n ++ l)) (short-read n l s ended)
 
 -- no field begins with a digit
 fields-ended : (ns l : List ℕ) → Ended l → Ended (fieldsOf ns ++ l)
@@ -90,3 +91,16 @@ line-read w ns l s =
     (both-read (fields (length ns)) (λ ms. word lf >> read ms) (fieldsOf ns) lf l ns ns
     (fields-read ns (lf ++ l) s refl)
     (rw (word-read lf l)))
+
+-- ---- how long a line of such numbers is: 9 digits and a tab each
+short-length : (n : ℕ) → Short n → length (decimal n) ≤ 9
+unfolding decimal
+short-length n s = printed-few 8 19 n (omega arith) (lt-of-le-of-lt s (lit< tt))
+
+fields-short : (ns : List ℕ) → AllShort ns → length (fieldsOf ns) ≤ 10 * length ns
+unfolding fieldsOf fieldOf
+fields-short [] s = omega arith
+fields-short (n ∷ ns) s = simp length-append (omega (arith, fields-short ns (s .1), short-length n (s .0)))
+
+pub line-short : (w ns : List ℕ) → AllShort ns → length (laidOut w ns) ≤ length w + 10 * length ns + 1
+line-short w ns s = omega (arith, line-length w ns, fields-short ns s)

@@ -3,8 +3,9 @@
 --   field             one tab, and a number
 --   fields k          k of them
 --   line w k          the word w, k numbers, LF: the numbers
+--   blank             the ten cells for a line's numbers before any is read; a line of a sheet has seven at the most
 --   noLine            the code's answer where a line is otherwise
---   lineRead c o      the code's answer to the reading o of the bytes from c on, its numbers in seven cells
+--   lineRead c o      the code's answer to the reading o of the bytes from c on, its numbers in the first cells
 use mathlib.Core.List.{List, [], _∷_}
 use Prim.Native.Nat.{ℕ, zero, suc}
 use Rattle.whole.specs.Cells.{laid}
@@ -41,9 +42,12 @@ line w k = do
   word lf
   read ns
 
+abbrev pub blank : List ℕ
+blank = zeros 10
+
 abbrev pub noLine : LineRead
-noLine = record { answer = Otherwise; numbers = zeros 7 }
+noLine = record { answer = Otherwise; numbers = blank }
 
 unfoldable pub lineRead : Cursor → Reading (List ℕ) → LineRead
-lineRead c (found ns n) = record { answer = Found (after c n); numbers = laid ns (zeros 7) }
+lineRead c (found ns n) = record { answer = Found (after c n); numbers = laid ns blank }
 lineRead c otherwise = noLine

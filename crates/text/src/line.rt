@@ -12,19 +12,16 @@ ghost use Rattle.text.specs.Number.{numberAnswer};
 // The numbers of a line, in the first of its cells, beside the answer: an enum holds no array.
 pub struct LineRead {
     pub answer: WordAnswer,
-    pub numbers: [u64; 7],
+    pub numbers: [u64; 10],
 }
 
 impl LineRead {
-    // The most numbers that a line has.
-    pub const MOST: usize = 7;
-
     fn otherwise() -> LineRead
         ensures { λ r. ⌜ r ≡ noLine ⌝ }
     {
         LineRead {
             answer: WordAnswer::Otherwise,
-            numbers: [0; 7],
+            numbers: [0; 10],
         }
     }
 }
@@ -42,10 +39,10 @@ pub fn field(s: &[u8], c: Cursor) -> NumberAnswer
 
 // So many of them.
 pub fn fields(s: &[u8], c: Cursor, count: usize) -> LineRead
-    requires { ⌜ count ≤ 7 ⌝ }
+    requires { ⌜ count ≤ 10 ⌝ }
     ensures { λ r. ⌜ r ≡ lineRead c (fields count (drop (c .at) (now (s .entry)))) ⌝ }
 {
-    let mut numbers = [0; 7];
+    let mut numbers = [0; 10];
     let mut at = c.at;
     let mut i = 0;
     while i < count {
@@ -65,7 +62,7 @@ pub fn fields(s: &[u8], c: Cursor, count: usize) -> LineRead
 
 // A word, so many numbers, and LF.
 pub fn line(s: &[u8], c: Cursor, w: &[u8], count: usize) -> LineRead
-    requires { ⌜ count ≤ 7 ⌝ }
+    requires { ⌜ count ≤ 10 ⌝ }
     ensures { λ r. ⌜ r ≡ lineRead c (line (now (w .entry)) count (drop (c .at) (now (s .entry)))) ⌝ }
 {
     let first = word(s, c, w);

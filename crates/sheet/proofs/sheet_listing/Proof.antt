@@ -1,9 +1,9 @@
 -- `sheet::sheet_listing` meets its contract. Assumes nothing.
 use borrow.Author.Needs.{needs}
-use mathlib.Core.Path.{_≡_, sym, ap, _∙_}
+use mathlib.Core.Path.{sym, ap, _∙_}
 use native.Mathlib.Omega.{arith}
 use Rattle.limits.specs.Levels.{counted}
-use Rattle.limits.specs.Outcome.{accepted, verdictOutcome}
+use Rattle.limits.specs.Outcome.{verdictOutcome}
 use Rattle.limits.proofs.Stages.{says}
 use Rattle.sheet.proofs.Held.{sheet-refused, count-refused, count-few, weights-room, heights-room, weights-length, heights-length, job-of-sheet}
 use Rattle.sheet.specs.Listing.{printed}

@@ -1,16 +1,14 @@
 -- `sheet::levels::level_lines` meets its contract. The invariant: the levels are those before and what is left of the sheet.
 -- Assumes nothing.
 use borrow.Author.Needs.{needs}
-use mathlib.Core.Path.{_≡_, sym, ap, ap₂, _∙_}
-use mathlib.Core.List.{List}
-use Prim.Native.Nat.{ℕ, _+_, _-_, _<_}
+use mathlib.Core.Path.{sym, ap, _∙_}
+use Prim.Native.Nat.{_-_, _<_}
 use native.Mathlib.Omega.{arith}
-use lib.ListN.{length, getD, set, drop}
+use lib.ListN.{length, drop}
 use Rattle.text.specs.Bytes.{bytes}
 use Rattle.text.specs.Line.{line}
 use Rattle.text.specs.declared.reading.Cursor.{Cursor}
 use Rattle.text.proofs.Readings.{LineWent, line-missed, line-went}
-use Rattle.text.proofs.Stored.{padded}
 use Rattle.text.proofs.Takes.{line-takes}
 use Rattle.sheet.proofs.Gathering.{Gathered, gathered-none, gathered-size, gathered-all, gathered-stop, gathered-more}
 use Rattle.sheet.specs.Reading.{levelsRead}

@@ -1,30 +1,29 @@
 -- `text::line::fields` meets its contract. The invariant: all fields are read as those in the first i cells and what is left of them.
 -- Assumes nothing.
 use borrow.Author.Needs.{needs}
-use mathlib.Core.Path.{_≡_, refl, sym, ap, _∙_}
+use mathlib.Core.Path.{_≡_, sym, _∙_}
 use Prim.Native.Nat.{_+_, _-_, _≤_}
 use native.Mathlib.Nat.{sub-zero}
 use native.Mathlib.Omega.{arith}
-use lib.ListN.{length, take, drop}
-use Rattle.limits.specs.Outcome.{zeros}
+use lib.ListN.{take, drop}
 use Rattle.text.proofs.Lines.{gathered, gathered-none, fields-stop, fields-more, fields-none}
 use Rattle.text.proofs.Readings.{stays, number-missed, number-went}
 use Rattle.text.proofs.Stored.{Stored, stored-none, stored-more, stored-last, stored-all}
 use Rattle.text.specs.declared.reading.Cursor.{Cursor}
-use Rattle.text.specs.Line.{field, fields, lineRead}
+use Rattle.text.specs.Line.{field, fields, blank, lineRead}
 use Rattle.text.proofs.line.fields.Statement.{statement}
 use Rattle.text.proofs.line.fields.Tie as tie
 
 abbrev Inv-loop : tie.InvT-loop
 Inv-loop s count numbers₀ at₀ i₀ numbers at i =
-    (i ≤ count) × Stored (zeros 7) i numbers
+    (i ≤ count) × Stored blank i numbers
     × (lineRead (record { at = at₀ }) (fields count (drop at₀ s)) ≡ lineRead (record { at = at }) (gathered (take i numbers) (fields (count - i) (drop at s))))
 
 abbrev μ-loop : tie.MeasureT-loop
 μ-loop s count numbers₀ at₀ i₀ numbers at i = count - i
 
 loop-holds : tie.Need-loop-holds Inv-loop μ-loop
-loop-holds c = (omega arith, stored-none (zeros 7), rw (sub-zero (c .before .args .count), gathered-none))
+loop-holds c = (omega arith, stored-none blank, rw (sub-zero (c .before .args .count), gathered-none))
 
 field-requires : tie.Need-field-requires Inv-loop μ-loop
 field-requires c κs = search needs

@@ -1,10 +1,9 @@
 -- `text::writing::put_field` meets its contract. Assumes nothing.
 use borrow.Author.Needs.{needs}
 use native.Mathlib.Omega.{arith}
-use lib.ListN.{length}
 use Rattle.text.proofs.Spliced.{Wrote, wrote, wrote-more}
 use Rattle.text.specs.Line.{tab}
-use Rattle.text.specs.Writing.{decimal, fieldOf}
+use Rattle.text.specs.Writing.{fieldOf}
 use Rattle.text.proofs.writing.put_field.Statement.{statement}
 use Rattle.text.proofs.writing.put_field.Tie as tie
 

@@ -8,7 +8,7 @@ use lib.ListN.{length, take}
 use lib.Seq.{take-length}
 use Rattle.text.proofs.Fields.{fields-next, fields-room}
 use Rattle.text.proofs.Spliced.{Wrote, wrote, wrote-none, wrote-more}
-use Rattle.text.specs.Writing.{fieldOf, fieldsOf}
+use Rattle.text.specs.Writing.{fieldsOf}
 use Rattle.text.proofs.writing.put_fields.Statement.{statement}
 use Rattle.text.proofs.writing.put_fields.Tie as tie
 

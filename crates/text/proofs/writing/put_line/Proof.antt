@@ -2,11 +2,10 @@
 use borrow.Author.Needs.{needs}
 use mathlib.Core.List.{_++_}
 use native.Mathlib.Omega.{arith}
-use lib.ListN.{length, length-append}
+use lib.ListN.{length-append}
 use Rattle.text.proofs.Fields.{line-length, line-parts}
 use Rattle.text.proofs.Spliced.{Wrote, wrote, wrote-more}
-use Rattle.text.specs.Line.{lf}
-use Rattle.text.specs.Writing.{fieldsOf, laidOut}
+use Rattle.text.specs.Writing.{fieldsOf}
 use Rattle.text.proofs.writing.put_line.Statement.{statement}
 use Rattle.text.proofs.writing.put_line.Tie as tie
 

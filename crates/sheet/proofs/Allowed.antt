@@ -1,0 +1,122 @@
+-- A sheet of numbers that a job accepts is short enough: 9 digits a number, 4,096 bytes in all.
+-- Assumes nothing.
+use mathlib.Core.Path.{_≡_, refl, sym, subst}
+use mathlib.Core.Bool.{Bool, true, false}
+use mathlib.Core.List.{List, [], _∷_}
+use Prim.Native.Nat.{ℕ, suc, _*_, _≤_, _<_}
+use native.Mathlib.Omega.{arith}
+use lib.Dec.{eqb}
+use lib.ListN.{length, getD, length-append}
+use borrow.Author.Tests.{eqb-true}
+use Rattle.whole.specs.Choice.{pick}
+use Rattle.limits.specs.declared.frame.Frame.{Frame}
+use Rattle.limits.specs.declared.frame.FrameValues.{FrameValues}
+use Rattle.limits.specs.declared.frame.Kind.{Kind}
+use Rattle.limits.specs.declared.judging.Given.{Given}
+use Rattle.limits.specs.declared.site.Class.{Class}
+use Rattle.limits.specs.declared.site.Site.{Site}
+use Rattle.limits.specs.declared.site.SiteValues.{SiteValues}
+use Rattle.limits.specs.Allowed.{AllowedSite, AllowedFrame}
+use Rattle.limits.specs.Frame.{judgedKind, judgedPeriod, frameOf, judgedFrame}
+use Rattle.limits.specs.Judging.{judgedJob}
+use Rattle.limits.specs.Levels.{judgedLevels}
+use Rattle.limits.specs.Outcome.{Outcome, accepted, _>>_}
+use Rattle.limits.specs.Ranges.{within, listed}
+use Rattle.limits.specs.Site.{judgedClass, siteOf, judgedMapped, judgedNearFault, judgedSite}
+use Rattle.limits.proofs.Accepted.{site-allowed, frame-allowed, levels-allowed}
+use Rattle.limits.proofs.Passed.{never, one-value, then-passed, bind-passed}
+use Rattle.text.specs.Bytes.{bytes}
+use Rattle.text.specs.Writing.{AllShort}
+use Rattle.text.proofs.Trip.{line-short}
+use Rattle.sheet.specs.Layout.{siteNumbers, frameNumbers, levelsLaid, sheetLaid, Laid}
+use Rattle.sheet.specs.Reading.{SheetRead}
+
+-- a number that is chosen from a list of numbers up to m
+chosen : {A : Type 0} (m k n : ℕ) (a c : A) (o : Outcome A) → k ≤ m → (o ≡ accepted c → n ≤ m)
+    → pick (eqb n k) (accepted a) o ≡ accepted c → n ≤ m
+chosen m k n a c o h f e = go (eqb n k) refl e
+  where
+    go : (t : Bool) → eqb n k ≡ t → pick t (accepted a) o ≡ accepted c → n ≤ m
+    go true q u = omega (arith, eqb-true n k q)
+    go false q u = f u
+
+class-small : (n : ℕ) (c : Class) → judgedClass n ≡ accepted c → n ≤ 3
+unfolding judgedClass
+class-small n c =
+    chosen 3 1 n _ c _ (omega arith) (chosen 3 2 n _ c _ (omega arith) (chosen 3 3 n _ c _ (omega arith) (λ e. absurd (never e))))
+
+kind-small : (n : ℕ) (k : Kind) → judgedKind n ≡ accepted k → n ≤ 4
+unfolding judgedKind
+kind-small n k =
+    chosen 4 1 n _ k _ (omega arith)
+    (chosen 4 2 n _ k _ (omega arith)
+    (chosen 4 3 n _ k _ (omega arith) (chosen 4 4 n _ k _ (omega arith) (λ e. absurd (never e)))))
+
+site-short : (v : SiteValues) (s : Site) → judgedSite v ≡ accepted s → AllShort (siteNumbers v)
+unfolding judgedSite
+site-short v s e =
+    let mapped = then-passed (judgedMapped v) _ e in
+    let near = then-passed (judgedNearFault v) _ (mapped .1) in
+    let class = bind-passed (judgedClass (v .class)) (λ c. accepted (siteOf v c)) (near .1) in
+    let a = subst AllowedSite (sym (one-value (class .2))) (site-allowed v s e) in
+    let c = class-small (v .class) (class .0) (class .1) in (
+      omega (arith, a .ssd),
+      (
+        omega (arith, a .s1d),
+        (omega (arith, a .ssm), (omega (arith, a .s1m), (omega (arith, a .na), (omega (arith, a .nv), (omega arith, tt))))),
+      ),
+    )
+
+frame-short : (v : FrameValues) (f : Frame) → judgedFrame v ≡ accepted f → AllShort (frameNumbers v)
+unfolding judgedFrame
+frame-short v f e =
+    let r = then-passed (within 100 600 (v .r) 8 0) _ e in
+    let i = then-passed (listed (100 ∷ 125 ∷ 150 ∷ []) (v .i) 9 0) _ (r .1) in
+    let al = then-passed (within 100 200 (v .alpha) 10 0) _ (i .1) in
+    let kind = bind-passed (judgedKind (v .kind)) (λ k. judgedPeriod (v .calculated) >> accepted (frameOf v k)) (al .1) in
+    let period = then-passed (judgedPeriod (v .calculated)) (accepted (frameOf v (kind .0))) (kind .2) in
+    let a = subst AllowedFrame (sym (one-value (period .1))) (frame-allowed v f e) in
+    let k = kind-small (v .kind) (kind .0) (kind .1) in
+    (omega arith, (omega (arith, a .period), (omega (arith, a .r), (omega (arith, a .i), (omega (arith, a .alpha), tt)))))
+
+all-short : (l : List ℕ) → ((x : ℕ) → x < length l → getD l x 0 ≤ 999_999_999) → AllShort l
+all-short [] f = tt
+all-short (a ∷ l) f = (f 0 (omega arith), all-short l (λ x h. f (suc x) (omega arith)))
+
+levels-length : (ws hs : List ℕ) → AllShort ws → AllShort hs → length (levelsLaid ws hs) ≤ 26 * length ws
+unfolding levelsLaid
+levels-length [] hs s t = omega arith
+levels-length (w ∷ ws) [] s t = omega arith
+levels-length (w ∷ ws) (h ∷ hs) s t =
+    simp length-append
+    (omega (arith, levels-length ws hs (s .1) (t .1), line-short (bytes "level") (w ∷ h ∷ []) (s .0, (t .0, tt))))
+
+pub allowed-laid : (r : SheetRead) (room : ℕ) (g : Given)
+    → judgedJob (r .site) (r .frame) (r .weights) (r .heights) room ≡ accepted g → Laid r
+unfolding judgedJob sheetLaid
+allowed-laid r room g e =
+    let levels = then-passed (judgedLevels (r .weights) (r .heights) room) _ e in
+    let site = bind-passed (judgedSite (r .site)) _ (levels .1) in
+    let frame = bind-passed (judgedFrame (r .frame)) (λ y. accepted (record { site = site .0; frame = y })) (site .2) in
+    let l = levels-allowed (r .weights) (r .heights) room (levels .0) .0 in
+    let ws = all-short (r .weights) (λ x h. omega (arith, l .weights x h)) in
+    let hs = all-short (r .heights) (λ x h. omega (arith, l .heights x h)) in
+    let ss = site-short (r .site) (site .0) (site .1) in
+    let fs = frame-short (r .frame) (frame .0) (frame .1) in
+    record {
+      site = ss;
+      frame = fs;
+      weights = ws;
+      heights = hs;
+      same = sym (l .same);
+      fits =
+          simp length-append
+          (omega (
+            arith,
+            l .few,
+            levels-length (r .weights) (r .heights) ws hs,
+            line-short (bytes "site")
+                (siteNumbers (r .site)) ss,
+            line-short (bytes "frame") (frameNumbers (r .frame)) fs,
+          ));
+    }
