@@ -3,10 +3,15 @@
 usage: python3 tests/run_program.py
 """
 
+import array
+import fcntl
 import itertools
 import pathlib
 import subprocess
 import sys
+import termios
+import threading
+import time
 
 from model import sheet
 
@@ -15,18 +20,31 @@ SECONDS = 60
 
 
 def run(pieces):
-    """What the program prints for input that arrives in pieces; it may end before it has read them all."""
+    """What the program prints for input that arrives in pieces, each read before the next comes; it may end before it has read
+    them all, and is ended where it does not end."""
     program = subprocess.Popen([ROOT / 'shear'], stdin=subprocess.PIPE, stdout=subprocess.PIPE)
+    deadline = threading.Timer(SECONDS, program.kill)
+    deadline.start()
     try:
         for piece in pieces:
             program.stdin.write(piece)
             program.stdin.flush()
+            while unread(program.stdin) and program.poll() is None:
+                time.sleep(0.0002)
         program.stdin.close()
     except BrokenPipeError:
         pass
     printed = program.stdout.read()
-    program.wait(timeout=SECONDS)
+    program.wait()
+    deadline.cancel()
     return printed
+
+
+def unread(pipe):
+    """How many bytes of it lie unread."""
+    count = array.array('i', [0])
+    fcntl.ioctl(pipe, termios.FIONREAD, count)
+    return count[0]
 
 
 def bytes_of(data):

@@ -34,8 +34,7 @@ def filled(length):
     while length - len(sheet_bytes) > 40:
         sheet_bytes += b'level\t1\t1\n'
     left = length - len(sheet_bytes)
-    lines = [10] * (left // 10 - 1) + [10 + left % 10 + (10 if left < 20 else 0)] if left >= 20 else [left]
-    for size in lines:
+    for size in [10] * (left // 10 - 1) + [10 + left % 10]:
         digits = size - len(b'level\t\t\n')
         first = min(digits - 1, 9)
         sheet_bytes += b'level\t%s\t%s\n' % (b'1' * first, b'1' * (digits - first))
@@ -62,11 +61,9 @@ def laid_out_otherwise():
     yield 'lone_lf', b'\n'
     yield 'site_only', SITE
     yield 'site_only_no_lf', SITE[:-1]
-    yield 'site_and_frame', SITE + FRAME
     yield 'frame_without_lf', SITE + FRAME[:-1]
     yield 'frame_first', FRAME + SITE + LEVEL
     yield 'site_twice', SITE + SITE + FRAME + LEVEL
-    yield 'no_last_lf', WORKED[:-1]
     yield 'extra_lf', WORKED + b'\n'
     yield 'empty_line_4', SITE + FRAME + LEVEL + b'\n' + LEVEL
     yield 'cr_lf', WORKED.replace(b'\n', b'\r\n')
@@ -90,6 +87,9 @@ def laid_out_otherwise():
                    'nine_digits': b'\t'.join([fields[0], b'999999999', *fields[2:]]) + b'\n',
                    'ten_digits': b'\t'.join([fields[0], b'1000000000', *fields[2:]]) + b'\n',
                    'twenty_digits': b'\t'.join([fields[0], b'18446744073709551616', *fields[2:]]) + b'\n',
+                   'last_two_tabs': b'\t'.join(fields[:-1]) + b'\t\t' + fields[-1] + b'\n',
+                   'last_leading_zero': b'\t'.join(fields[:-1]) + b'\t0' + fields[-1] + b'\n',
+                   'last_ten_digits': b'\t'.join(fields[:-1]) + b'\t1000000000\n',
                    'long_word': b'x' + line, 'short_word': line[1:], 'point': line.replace(b'0', b'.', 1)}
         yield from ((f'{name}_{change}', before + changed + rest) for change, changed in changes.items())
 
@@ -104,6 +104,10 @@ def long_sheets():
     yield 'bad_line_63', SITE + FRAME + levels(60) + b'lever\t1\t1\n'
     yield 'bad_weight_on_line_4', SITE + FRAME + b'level\t5000\t100\nlevel\t0\t200\nlevel\t5000\t300\n'
     yield 'bad_weight_and_bad_line', SITE + FRAME + b'level\t5000\t100\nlevel\t0\t200\nlevel\t5000\t0300\n'
+    yield 'bad_height_on_line_3', SITE + FRAME + b'level\t5000\t0\nlevel\t5000\t200\n'
+    yield 'bad_class', WORKED.replace(b'\t1\n', b'\t4\n', 1)
+    yield 'bad_period', WORKED.replace(b'\t1000\t', b'\t60001\t', 1)
+    yield 'heaviest', sheet.write((80, 45, 100, 55, 150, 200, 3), (4, 1, 100, 150, 100), [20_000] * 50, range(1_951, 2_001))
     yield 'bad_height_on_line_5', SITE + FRAME + b'level\t5000\t100\nlevel\t5000\t200\nlevel\t5000\t200\n'
 
 
@@ -122,6 +126,8 @@ def random_bytes():
     rng = random.Random(SEED)
     for number in range(10):
         yield f'random_{number}', rng.randbytes(rng.choice((1, 10, 100, 1_000, 4_096, 4_097)))
+        yield f'random_after_frame_{number}', SITE + FRAME + rng.randbytes(rng.choice((1, 10, 100)))
+        yield f'own_bytes_after_frame_{number}', SITE + FRAME + bytes(rng.choice(LEVEL) for _ in range(12)) + LEVEL
         yield f'of_its_own_bytes_{number}', bytes(rng.choice(WORKED) for _ in range(rng.choice((10, 100, 1_000))))
 
 

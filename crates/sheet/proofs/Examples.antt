@@ -1,17 +1,18 @@
 -- The definitions, run on document 01's sheet, on some that are otherwise, and on the figures of its listing.
 -- Assumes nothing.
-use mathlib.Core.Path.{_≡_, refl}
+use mathlib.Core.Path.{_≡_, refl, ap, _∙_}
 use mathlib.Core.List.{List, [], _∷_, _++_}
 use Prim.Native.Nat.{ℕ}
-use Rattle.limits.specs.Outcome.{accepted, refused}
+use Rattle.limits.specs.Outcome.{Outcome, accepted, refused, _>>=_}
 use Rattle.limits.specs.Ranges.{inRange}
 use Rattle.text.specs.Bytes.{bytes}
 use Rattle.text.specs.Line.{field, fields, line}
 use Rattle.text.specs.Number.{digits, valueFrom, wellMade, number}
 use Rattle.text.specs.Reading.{starts, word}
 use Rattle.text.specs.Writing.{digitsOf, decimal, fieldOf, fieldsOf, laidOut}
-use Rattle.sheet.specs.Listing.{roofFirst, account, refusal}
-use Rattle.sheet.specs.Reading.{lineAt, linesFrom, readLines, readSheet}
+use Rattle.job.proofs.Worked.{worked}
+use Rattle.sheet.specs.Listing.{roofFirst, account, refusal, listing, jobOfSheet, sheetListing}
+use Rattle.sheet.specs.Reading.{lineAt, linesFrom, SheetRead, readLines, readSheet}
 
 abbrev office : List ℕ
 office =
@@ -42,3 +43,11 @@ office-listed = refl
 pub refusal-listed : refusal 16 80 ≡ bytes "refused\t16\t80\n"
 unfolding refusal laidOut fieldsOf fieldOf decimal digitsOf
 refusal-listed = refl
+
+-- THE SHEET GETS THE LISTING
+pub office-answered : sheetListing office ≡ bytes "base\t909708\t818458\t1071429\t1071429\t1000\n"
+    ++ (bytes "level\t3\t573215\t573215\t57321500\n"
+    ++ (bytes "level\t2\t332143\t905358\t147857300\n" ++ bytes "level\t1\t166071\t1071429\t255000200\n"))
+unfolding sheetListing listing
+office-answered =
+    ap (λ (o : Outcome SheetRead). listing (o >>= jobOfSheet)) office-read ∙ ap listing worked ∙ office-listed

@@ -12,3 +12,4 @@ pub mod Allowed
 pub mod Listable
 pub mod ReadLaid
 pub mod First
+pub mod Cut

@@ -1,6 +1,6 @@
 -- `shear::print` is safe: the bytes of a listing are among those that `sheet_listing` hands on. Assumes nothing.
 use borrow.Author.Needs.{needs}
-use mathlib.Core.Path.{sym}
+use mathlib.Core.Path.{_≡_, sym}
 use lib.Seq.{length-take-le}
 use Rattle.sheet.proofs.Length.{listing-part}
 use Rattle.shear.proofs.print.Statement.{statement}
@@ -13,14 +13,22 @@ array-share-prefix-bytes : tie.Need-array-share-prefix-bytes
 array-share-prefix-bytes c = listing-part _ _ (c .before .sheet-listing .ensures) .0
 
 slice-aggregate-write-all : tie.Need-slice-aggregate-write-all
-slice-aggregate-write-all c =
-    sym (length-take-le _ _ (listing-part _ _ (c .before .before .sheet-listing .ensures) .0))
+slice-aggregate-write-all c = sym (length-take-le _ _ (listing-part _ _ (c .before .before .sheet-listing .ensures) .0))
 
 write-all-requires : tie.Need-write-all-requires
 write-all-requires c κs = search needs
 
+slice-aggregate-say : tie.Need-slice-aggregate-say
+slice-aggregate-say c = search needs
+
+say-requires : tie.Need-say-requires
+say-requires c κs = search needs
+
 returns : tie.Need-returns
 returns c = search needs
+
+returns-2 : tie.Need-returns-2
+returns-2 c = search needs
 
 pub print-spec : {M : Type 1} → statement M
 print-spec =
@@ -30,4 +38,7 @@ print-spec =
     array-share-prefix-bytes
     slice-aggregate-write-all
     write-all-requires
-    returns)
+    slice-aggregate-say
+    say-requires
+    returns
+    returns-2)
