@@ -1,0 +1,31 @@
+-- `linked::rukeshomaji_figures` meets its contract. Assumes nothing.
+use borrow.Author.Needs.{needs}
+use Rattle.linked.proofs.Replies.{figures-reply}
+use Rattle.linked.proofs.rukeshomaji_figures.Statement.{statement}
+use Rattle.linked.proofs.rukeshomaji_figures.Tie as tie
+
+site-values-requires : tie.Need-site-values-requires
+site-values-requires c κs = search needs
+
+frame-values-requires : tie.Need-frame-values-requires
+frame-values-requires c κs = search needs
+
+figures-requires : tie.Need-figures-requires
+figures-requires c κs = search needs
+
+job-reply-requires : tie.Need-job-reply-requires
+job-reply-requires c κs = search needs
+
+returns : tie.Need-returns
+returns c = let a = c .before .before .before .before .before .before .args in
+    figures-reply (a .site) (a .frame) (a .weights .now) (a .heights .now) _ _ (c .before .figures .result) (c .before .before .before .site-values .ensures) (c .before .before .frame-values .ensures) (c .before .figures .ensures) (c .job-reply .ensures)
+
+pub rukeshomaji-figures-spec : {M : Type 1} → statement M
+rukeshomaji-figures-spec =
+    tie.close
+    (tie.spec
+    site-values-requires
+    frame-values-requires
+    figures-requires
+    job-reply-requires
+    returns)
