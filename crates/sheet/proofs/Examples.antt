@@ -44,7 +44,7 @@ pub refusal-listed : refusal 16 80 ≡ bytes "refused\t16\t80\n"
 unfolding refusal laidOut fieldsOf fieldOf decimal digitsOf
 refusal-listed = refl
 
--- THE SHEET GETS THE LISTING
+-- document 01's sheet gets document 01's listing
 pub office-answered : sheetListing office ≡ bytes "base\t909708\t818458\t1071429\t1071429\t1000\n"
     ++ (bytes "level\t3\t573215\t573215\t57321500\n"
     ++ (bytes "level\t2\t332143\t905358\t147857300\n" ++ bytes "level\t1\t166071\t1071429\t255000200\n"))

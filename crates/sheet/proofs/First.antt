@@ -134,7 +134,7 @@ lines-refused s n q e = first (bind-refused (at 1 s) _ e)
         let x = taken-line 1 s (u .0) (u .1) in
         second (u .0) (x .0) (x .1) (x .2) (bind-refused (at 2 (u .0 .rest)) _ (u .2))
 
--- WHAT THE READER REFUSES: 17 at 0 where there are over 4,096 bytes; else 16, at the first line that is otherwise
+-- what the reader refuses: 17 at 0 where there are over 4,096 bytes; else 16, at the first line that is otherwise
 pub read-refused : (s : List ℕ) (n q : ℕ) → readSheet s ≡ refused n q
     → ((n ≡ 17) × (q ≡ 0) × (4_096 < length s)) ⊎ ((length s ≤ 4_096) × At n q s)
 unfolding readSheet
@@ -202,7 +202,8 @@ lines-otherwise (suc zero) before t (next {y = y} none a) nowhere some = simp (s
 lines-otherwise (suc (suc j)) before t ls nowhere (inl few) = absurd (let b : ⊥ = omega arith in b)
 lines-otherwise (suc (suc j)) before t ls nowhere (inr some) = all-stop j before t (suc (suc (suc j))) ls (stops-here j t nowhere some)
 
--- WHERE THE FIRST LINE THAT IS OTHERWISE STANDS, 16 IS GIVEN: so there is one such line at the most, and a sheet that has one is not read
+-- where the first line that is otherwise stands, 16 is given: so there is one such line at the most, and a sheet that has one is
+-- not read
 pub otherwise-refused : (s : List ℕ) (p : ℕ) → length s ≤ 4_096 → FirstOtherwise p s → readSheet s ≡ refused 16 (suc p)
 otherwise-refused s p short f =
     sheet-lines s short ∙ ap readLines (f .parts) ∙ lines-otherwise p (f .before) (f .rest) (f .laid) (f .otherwise) (f .left)

@@ -68,6 +68,6 @@ laid-lines r l =
           (l .same) (l .weights) (l .heights),
     )
 
--- THE SHEET IS READ
+-- a sheet that is laid out is read
 pub laid-read : (r : SheetRead) → Laid r → readSheet (sheetLaid r) ≡ accepted r
 laid-read r l = sheet-lines (sheetLaid r) (l .fits) ∙ laid-lines r l

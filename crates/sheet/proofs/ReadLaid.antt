@@ -85,7 +85,7 @@ lines-laid (suc most) p (b ∷ s) ls e =
     (level-laid (b ∷ s) (l .0) (r .0) (line-laid p (bytes "level") 2 (b ∷ s) (l .0) (l .1))
     (lines-laid most (p + 1) (l .0 .rest) (r .0) (r .1)))
 
--- THE SHEET WAS LAID OUT: no other is read
+-- a sheet that is read was laid out: no other is read
 pub read-laid : (s : List ℕ) (r : SheetRead) → readSheet s ≡ accepted r → (s ≡ sheetLaid r) × Laid r
 unfolding sheetLaid
 read-laid s r e =
