@@ -1,46 +1,57 @@
--- What A and B come to, by one computed test a class: 0.5 g to 1.5 g, and 0.3 g to 1.54 g.
+-- What A and B come to: 0.5 g to 1.5 g, and 0.3 g to 1.54 g. Up to the last column of Table 2 the coefficients are at most 1.2
+-- and 1.8; from it on they are those of the last column.
 -- Assumes nothing.
-use mathlib.Core.Bool.{Bool, _&&_}
 use Prim.Native.Nat.{ℕ, _+_, _*_, _≤_, _<_}
 use native.Mathlib.Nat.{mul-le-mul}
 use native.Mathlib.Omega.{arith}
-use lib.Dec.{T, leb, leb→le}
-use mir.Facts.{and-yes}
-use Rattle.whole.specs.Line.{between}
-use Rattle.whole.specs.Rounding.{down}
-use Rattle.whole.proofs.Range.{allBelow, all-from}
+use lib.Dec.{T}
+use Rattle.whole.proofs.Choice.{by-leb}
+use Rattle.whole.proofs.Table.{valued, lastOf, table-within, beyond-most}
 use Rattle.limits.specs.declared.site.Class.{Class}
 use Rattle.limits.specs.declared.site.Class.the-variants.{Hard, Normal, Soft}
-use Rattle.site.specs.Coefficients.{factored, accelerationA, accelerationB}
+use Rattle.site.specs.Coefficients.{factored, fa, fv, accelerationA, accelerationB}
+use Rattle.site.specs.Table2.{columnsA, columnsV}
+use Rattle.site.proofs.Whole.{a-fits, v-fits}
 
--- f from lo to hi at every S
-bounded : (ℕ → ℕ) → ℕ → ℕ → ℕ → Bool
-bounded f lo hi S = leb lo (f S) && leb (f S) hi
+a-valued : (c : Class) → T (valued 10000 12000 (columnsA c))
+unfolding valued
+a-valued Hard = tt
+a-valued Normal = tt
+a-valued Soft = tt
 
-bounds : (f : ℕ → ℕ) (lo hi from n : ℕ) → T (allBelow (λ i. bounded f lo hi (from + i)) n) → (S : ℕ) → from ≤ S → S < from + n
-    → (lo ≤ f S) × (f S ≤ hi)
-unfolding bounded
-bounds f lo hi from n t S h l =
-    let k = and-yes (leb lo (f S)) (leb (f S) hi) (all-from (bounded f lo hi) from n t S h l) in
-    (leb→le lo (f S) (k .0), leb→le (f S) hi (k .1))
+v-valued : (c : Class) → T (valued 10000 18000 (columnsV c))
+unfolding valued
+v-valued Hard = tt
+v-valued Normal = tt
+v-valued Soft = tt
 
-a-tested : (c : Class) → T (allBelow (λ i. bounded (accelerationA c) 50_000_000 150_000_000 (5000 + i)) 10001)
-unfolding allBelow bounded between down
-a-tested Hard = tt
-a-tested Normal = tt
-a-tested Soft = tt
+fa-beyond : (c : Class) (S : ℕ) → 9000 < S → fa c S ≤ 10000
+unfolding lastOf
+fa-beyond Hard S h = beyond-most _ _ S 10000 (a-fits Hard) h (omega arith)
+fa-beyond Normal S h = beyond-most _ _ S 10000 (a-fits Normal) h (omega arith)
+fa-beyond Soft S h = beyond-most _ _ S 10000 (a-fits Soft) h (omega arith)
 
-b-tested : (c : Class) → T (allBelow (λ i. bounded (accelerationB c) 30_000_000 154_000_000 (3000 + i)) 8001)
-unfolding allBelow bounded between down
-b-tested Hard = tt
-b-tested Normal = tt
-b-tested Soft = tt
+fv-beyond : (c : Class) (S : ℕ) → 5000 < S → fv c S ≤ 14000
+unfolding lastOf
+fv-beyond Hard S h = beyond-most _ _ S 14000 (v-fits Hard) h (omega arith)
+fv-beyond Normal S h = beyond-most _ _ S 14000 (v-fits Normal) h (omega arith)
+fv-beyond Soft S h = beyond-most _ _ S 14000 (v-fits Soft) h (omega arith)
 
 pub a-bounds : (c : Class) (S : ℕ) → 5000 ≤ S → S ≤ 15000 → (50_000_000 ≤ accelerationA c S) × (accelerationA c S ≤ 150_000_000)
-a-bounds c S lo hi = bounds (accelerationA c) 50_000_000 150_000_000 5000 10001 (a-tested c) S lo (omega arith)
+a-bounds c S lo hi =
+    let k = table-within 10000 12000 (columnsA c) S (a-valued c) in
+    (mul-le-mul (k .0) lo,
+    by-leb (λ (n : ℕ). accelerationA c S ≤ 150_000_000) S 9000 0 0
+    (λ near. let n : fa c S * S ≤ 12000 * 9000 = mul-le-mul (k .1) near in omega arith)
+    (λ far. mul-le-mul (fa-beyond c S far) hi))
 
 pub b-bounds : (c : Class) (S : ℕ) → 3000 ≤ S → S ≤ 11000 → (30_000_000 ≤ accelerationB c S) × (accelerationB c S ≤ 154_000_000)
-b-bounds c S lo hi = bounds (accelerationB c) 30_000_000 154_000_000 3000 8001 (b-tested c) S lo (omega arith)
+b-bounds c S lo hi =
+    let k = table-within 10000 18000 (columnsV c) S (v-valued c) in
+    (mul-le-mul (k .0) lo,
+    by-leb (λ (n : ℕ). accelerationB c S ≤ 154_000_000) S 5000 0 0
+    (λ near. let n : fv c S * S ≤ 18000 * 5000 = mul-le-mul (k .1) near in omega arith)
+    (λ far. mul-le-mul (fv-beyond c S far) hi))
 
 -- a mapped value times its factor
 pub s-s-bounds : (m n : ℕ) → 50 ≤ m → m ≤ 100 → 100 ≤ n → n ≤ 150 → (5000 ≤ factored m n) × (factored m n ≤ 15000)
