@@ -1,6 +1,8 @@
 """Compares the compiled core with the model: jobs, bad jobs, soil logs, sheets.
 
-usage: python3 tests/compare.py [JOBS [BAD [LOGS [SHEETS [SEED]]]]]        prints counts per stratum, and the number of differences
+usage: python3 tests/compare.py [JOBS [BAD [LOGS [SHEETS [SEED]]]]]
+
+It prints the count of each stratum, the largest excess over the exact figure of demand 3, and the number of differences.
 """
 
 import multiprocessing
@@ -13,19 +15,22 @@ import damage
 import drawn_logs
 import faults
 from draft import draw
+from excess import SHARP, Largest
 from model import job as jobs, sheet, soil
+from rare import rare_strata
 from sample import all_strata, draw_in
 
 JOBS, BAD, LOGS, SHEETS, SEED = 1_000_000, 120_000, 100_000, 120_000, 1
 A_STRATUM, CHUNK, SHOWN = 500, 2_500, 5
+MEASURED_EACH = 10      # of the jobs drawn from all that is allowed, the exact figure of every tenth is worked out
 OLD = (7, 8, 9)
 
 
 class Tally:
-    """What was compared, by stratum, and what differed."""
+    """What was compared, by stratum, what differed, and the largest excess."""
 
     def __init__(self):
-        self.counts, self.differences = Counter(), []
+        self.counts, self.differences, self.largest = Counter(), [], Largest()
 
     def compare(self, stratum, call, got, expected):
         """Count one comparison."""
@@ -37,11 +42,11 @@ class Tally:
         """Count another's."""
         self.counts.update(other.counts)
         self.differences += other.differences
+        self.largest.add(other.largest)
 
 
-def expected_job(site, frame, weights, heights, lengths):
-    """The model's reply, and what the buffers hold after."""
-    result = jobs.job(site, frame, weights, heights, lengths)
+def answer_of(result, lengths):
+    """The reply that the model's result stands for, and what the buffers hold after."""
     old = [[mark] * length for mark, length in zip(OLD, lengths)]
     if result[0] == 'refused':
         return (*result[1:], 0, 0, 0, 0, 0), old
@@ -50,12 +55,22 @@ def expected_job(site, frame, weights, heights, lengths):
             [written + rest[len(written):] for written, rest in zip(cells, old)])
 
 
-def compare_job(tally, library, stratum, call):
-    """One call, with buffers."""
-    old = [[mark] * length for mark, length in zip(OLD, call[4])]
-    got = core.job(library, *call[:4], old)
-    expected = expected_job(*call)
-    tally.compare(stratum, call, got, expected)
+def expected_job(site, frame, weights, heights, lengths):
+    """The model's answer."""
+    return answer_of(jobs.job(site, frame, weights, heights, lengths), lengths)
+
+
+def got_job(library, site, frame, weights, heights, lengths):
+    """The core's answer."""
+    return core.job(library, site, frame, weights, heights, [[mark] * length for mark, length in zip(OLD, lengths)])
+
+
+def compare_job(tally, library, stratum, call, measured):
+    """One accepted call, with buffers."""
+    result = jobs.job(*call)
+    tally.compare(stratum, call, got_job(library, *call), answer_of(result, call[4]))
+    if measured:
+        tally.largest.measure(result)
 
 
 def lengths(rng, weights):
@@ -63,21 +78,32 @@ def lengths(rng, weights):
     return tuple(len(weights) + rng.choice((0, 0, 1)) for _ in OLD)
 
 
-def run_strata(library, tally, seed, names):
+def with_buffers(rng, draft):
+    """A draft as a call."""
+    return (*draft, lengths(rng, draft[2]))
+
+
+def run_stratum(library, tally, seed, name, count):
     """Jobs drawn for a stratum."""
     rng = random.Random(seed)
-    for stratum in (each for each in all_strata() if each.name in names):
-        for _ in range(A_STRATUM):
-            site, frame, weights, heights = draw_in(rng, stratum)
-            compare_job(tally, library, stratum.name, (site, frame, weights, heights, lengths(rng, weights)))
+    stratum = next(each for each, _ in strata() if each.name == name)
+    for _ in range(count):
+        compare_job(tally, library, name, with_buffers(rng, draw_in(rng, stratum)), True)
+
+
+def run_sharp(library, tally, seed, count):
+    """The jobs that show how sharp the margin is."""
+    rng = random.Random(seed)
+    for draft in SHARP:
+        compare_job(tally, library, 'the jobs of Sharp.antt', with_buffers(rng, draft), True)
 
 
 def run_plain(library, tally, seed, count):
     """Jobs drawn from all that is allowed."""
     rng = random.Random(seed)
-    for _ in range(count):
-        site, frame, weights, heights = draw(rng)
-        compare_job(tally, library, 'drawn from all that is allowed', (site, frame, weights, heights, lengths(rng, weights)))
+    for number in range(count):
+        call = with_buffers(rng, draw(rng))
+        compare_job(tally, library, 'drawn from all that is allowed', call, number % MEASURED_EACH == 0)
 
 
 def run_faults(library, tally, calls):
@@ -85,8 +111,7 @@ def run_faults(library, tally, calls):
     for call in calls:
         expected = expected_job(*call)
         stratum = f'refusal {expected[0][0]:2}' if expected[0][0] else 'changed, and accepted'
-        tally.compare(stratum, call, core.job(library, *call[:4], [[mark] * length for mark, length in zip(OLD, call[4])]),
-                      expected)
+        tally.compare(stratum, call, got_job(library, *call), expected)
         plain = expected_job(*call[:4], (len(call[2]),) * 3)[0]
         tally.compare('the same without buffers', call, core.figures(library, *call[:4]), plain)
 
@@ -137,13 +162,17 @@ def chunks(function, seed, count):
     return [(function, f'{function.__name__} {seed} {start}', min(CHUNK, count - start)) for start in range(0, count, CHUNK)]
 
 
+def strata():
+    """Every stratum with the jobs drawn for it."""
+    return [*((each, A_STRATUM) for each in all_strata()), *rare_strata()]
+
+
 def main(job_count=JOBS, bad=BAD, logs=LOGS, sheets=SHEETS, seed=SEED):
-    """Run all, print all; 1 where anything differs."""
+    """Run all, print all; 1 where anything differs. No fewer jobs are drawn than the strata ask for."""
     core.build()
-    strata = [each.name for each in all_strata()]
-    drawn = min(A_STRATUM * len(strata), job_count)
-    tasks = [(run_strata, f'strata {seed} {name}', (name,)) for name in strata[:drawn // A_STRATUM]]
-    tasks += chunks(run_plain, seed, job_count - drawn // A_STRATUM * A_STRATUM)
+    tasks = [(run_stratum, f'stratum {seed} {each.name}', each.name, count) for each, count in strata()]
+    tasks += [(run_sharp, seed, 0)]
+    tasks += chunks(run_plain, seed, job_count - sum(count for _, count in strata()) - len(SHARP))
     tasks += [(run_systematic, seed, 0), *chunks(run_bad, seed, bad), *chunks(run_logs, seed, logs)]
     tasks += chunks(run_sheets, seed, sheets)
     total = Tally()
@@ -152,6 +181,7 @@ def main(job_count=JOBS, bad=BAD, logs=LOGS, sheets=SHEETS, seed=SEED):
             total.add(tally)
     for name, count in sorted(total.counts.items()):
         print(f'{count:9}  {name}')
+    print(*total.largest.lines(), sep='\n')
     for stratum, call, got, expected in total.differences[:SHOWN]:
         print('DIFFERS', stratum, call, got, expected)
     print(f'seed {seed}: {sum(total.counts.values())} comparisons, {len(total.differences)} differences')

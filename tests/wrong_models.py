@@ -11,7 +11,7 @@ from math import ceil
 from unittest import mock
 
 import core
-from compare import OLD, expected_job, lengths
+from compare import expected_job, got_job, lengths
 from draft import draw
 from model import response, site as sites, storeys
 
@@ -86,7 +86,7 @@ def main(jobs=JOBS, seed=SEED):
     for _ in range(jobs):
         site, frame, weights, heights = draw(rng)
         calls.append((site, frame, weights, heights, lengths(rng, weights)))
-    answers = [core.job(library, *call[:4], [[mark] * length for mark, length in zip(OLD, call[4])]) for call in calls]
+    answers = [got_job(library, *call) for call in calls]
     for name, patches in ERRORS.items():
         with made(patches):
             shown = sum(expected_job(*call) != answer for call, answer in zip(calls, answers))
