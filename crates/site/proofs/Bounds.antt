@@ -39,19 +39,21 @@ fv-beyond Soft S h = beyond-most _ _ S 14000 (v-fits Soft) h (omega arith)
 
 pub a-bounds : (c : Class) (S : ℕ) → 5000 ≤ S → S ≤ 15000 → (50_000_000 ≤ accelerationA c S) × (accelerationA c S ≤ 150_000_000)
 a-bounds c S lo hi =
-    let k = table-within 10000 12000 (columnsA c) S (a-valued c) in
-    (mul-le-mul (k .0) lo,
-    by-leb (λ (n : ℕ). accelerationA c S ≤ 150_000_000) S 9000 0 0
-    (λ near. let n : fa c S * S ≤ 12000 * 9000 = mul-le-mul (k .1) near in omega arith)
-    (λ far. mul-le-mul (fa-beyond c S far) hi))
+    let k = table-within 10000 12000 (columnsA c) S (a-valued c) in (
+      mul-le-mul (k .0) lo,
+      by-leb (λ (n : ℕ). accelerationA c S ≤ 150_000_000) S 9000 0 0
+          (λ near. let n : fa c S * S ≤ 12000 * 9000 = mul-le-mul (k .1) near in omega arith)
+          (λ far. mul-le-mul (fa-beyond c S far) hi),
+    )
 
 pub b-bounds : (c : Class) (S : ℕ) → 3000 ≤ S → S ≤ 11000 → (30_000_000 ≤ accelerationB c S) × (accelerationB c S ≤ 154_000_000)
 b-bounds c S lo hi =
-    let k = table-within 10000 18000 (columnsV c) S (v-valued c) in
-    (mul-le-mul (k .0) lo,
-    by-leb (λ (n : ℕ). accelerationB c S ≤ 154_000_000) S 5000 0 0
-    (λ near. let n : fv c S * S ≤ 18000 * 5000 = mul-le-mul (k .1) near in omega arith)
-    (λ far. mul-le-mul (fv-beyond c S far) hi))
+    let k = table-within 10000 18000 (columnsV c) S (v-valued c) in (
+      mul-le-mul (k .0) lo,
+      by-leb (λ (n : ℕ). accelerationB c S ≤ 154_000_000) S 5000 0 0
+          (λ near. let n : fv c S * S ≤ 18000 * 5000 = mul-le-mul (k .1) near in omega arith)
+          (λ far. mul-le-mul (fv-beyond c S far) hi),
+    )
 
 -- a mapped value times its factor
 pub s-s-bounds : (m n : ℕ) → 50 ≤ m → m ≤ 100 → 100 ≤ n → n ≤ 150 → (5000 ≤ factored m n) × (factored m n ≤ 15000)
