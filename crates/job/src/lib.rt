@@ -47,7 +47,11 @@ pub fn job(
         let GivenAnswer::Refused(r) = g else {
             return JobAnswer::Refused(Refusal::none());
         };
-        return JobAnswer::Refused(r);
+        // By its fields: handed on whole, it makes every answer of a job be copied once more.
+        return JobAnswer::Refused(Refusal {
+            number: r.number,
+            place: r.place,
+        });
     };
     let f = given_figures(given, weights, heights);
     fill_storeys(f.t, f.vd, weights, heights, shears, forces, overturnings);

@@ -3,7 +3,7 @@ use crate::weight_height::weight_height;
 use whole::quotients::up;
 ghost use mathlib.Core.Path.{_≡_};
 ghost use Prim.Native.Nat.{_+_, _-_, _*_, _≤_, _<_};
-ghost use lib.ListN.{length, drop};
+ghost use lib.ListN.{length};
 ghost use Rattle.whole.specs.Cells.{laid};
 ghost use Rattle.whole.specs.Rounding.{up};
 ghost use Rattle.storeys.specs.Reach.{Load, Levels};
@@ -17,25 +17,18 @@ pub fn shared(ft: u64, v: u64, px: u64, p: u64) -> u64
     ft + up((v - ft) * px, p)
 }
 
-// The shear under level x, with F_t and P at hand; P_x is that of the parts from level x on.
-pub fn shear_under(ft: u64, v: u64, p: u64, weights: &[u64], heights: &[u64], x: usize) -> u64
-    requires { ⌜ (ft ≤ v) × (v ≤ 1_400_000_000) × Levels (now weights) (now heights) × (p ≡ weightHeight (now weights) (now heights)) × (0 < p) × (x ≤ length (now weights)) ⌝ }
-    ensures { λ r. ⌜ r ≡ ft + up ((v - ft) * weightHeight (drop x (now (weights .entry))) (drop x (now (heights .entry)))) p ⌝ }
-{
-    let px = weight_height(&weights[x..], &heights[x..]);
-    shared(ft, v, px, p)
-}
-
-// The shear under every level, into the first cells of out.
+// The shear under every level, into the first cells of out: P_x is what is left of P above the levels below x.
 pub fn fill_shears(t: u64, v: u64, weights: &[u64], heights: &[u64], out: &mut [u64])
     requires { ⌜ Load t v × Levels (now weights) (now heights) × (0 < weightHeight (now weights) (now heights)) × (length (now weights) ≤ length (now out)) ⌝ }
     ensures { λ _. ⌜ now (out .exit) ≡ laid (shears t v (now (weights .entry)) (now (heights .entry))) (now (out .entry)) ⌝ }
 {
     let ft = roof_force(t, v);
     let p = weight_height(weights, heights);
+    let mut px = p;
     let mut x = 0;
     while x < weights.len() {
-        out[x] = shear_under(ft, v, p, weights, heights, x);
+        out[x] = shared(ft, v, px, p);
+        px -= weights[x] * heights[x];
         x += 1;
     }
 }

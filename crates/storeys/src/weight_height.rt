@@ -2,7 +2,7 @@ ghost use mathlib.Core.Path.{_≡_};
 ghost use Rattle.storeys.specs.Reach.{Levels};
 ghost use Rattle.storeys.specs.Storeys.{weightHeight};
 
-// P of the levels handed on: of all, or of those from level x to the roof.
+// P: weight times height, added over the levels.
 pub fn weight_height(weights: &[u64], heights: &[u64]) -> u64
     requires { ⌜ Levels (now weights) (now heights) ⌝ }
     ensures { λ r. ⌜ r ≡ weightHeight (now (weights .entry)) (now (heights .entry)) ⌝ }

@@ -3,16 +3,16 @@
 use mathlib.Core.Path.{_≡_, refl, sym, ap, _∙_}
 use mathlib.Core.Bool.{Bool, true, false}
 use mathlib.Core.List.{List, [], _∷_, _++_}
-use Prim.Native.Nat.{ℕ, zero, suc, _+_, _*_, _^_, _/_, _%_, _≤_, _<_}
+use Prim.Native.Nat.{ℕ, zero, suc, _+_, _-_, _*_, _^_, _/_, _%_, _≤_, _<_}
 use native.Mathlib.Nat.{pow-suc}
 use native.Mathlib.Numerals.{add-one}
 use native.Mathlib.Omega.{arith}
 use lib.Dec.{leb, ltb}
-use lib.ListN.{length, set, length-append}
+use lib.ListN.{length, set, length-append, length-set}
 use borrow.Author.Tests.{lt-ltb, le-ltb, leb-true, leb-false}
 use Rattle.whole.specs.Choice.{pick}
-use Rattle.text.proofs.Spliced.{Wrote, wrote-none, wrote-byte}
-use Rattle.text.specs.Writing.{digitsOf, decimal}
+use Rattle.text.proofs.Spliced.{spliced-one, spliced-last}
+use Rattle.text.specs.Writing.{digitsOf, decimal, spliced}
 
 pub digits-small : (k n : ℕ) → n < 10 → digitsOf k n ≡ (48 + n % 10) ∷ []
 unfolding digitsOf
@@ -68,20 +68,42 @@ pub decimal-most : (n : ℕ) → length (decimal n) ≤ 20
 unfolding decimal
 decimal-most n = digits-most 19 n
 
--- ---- a number written digit by digit: the last one after all the others
-module _ (old : List ℕ) (at n d : ℕ) (e : d ≡ 48 + n % 10) (room : at + length (decimal n) ≤ length old) where
-  pub put-one : n < 10 → Wrote old at (decimal n) (set old at d) (at + 1)
-  put-one s =
-      let one = decimal-small n s in
-      rw (one, ← e) (wrote-byte (wrote-none old at) d (omega (arith, ap length one)))
+-- ---- a digit more than the tenth has
+pub length-small : (n : ℕ) → n < 10 → length (decimal n) ≡ 1
+length-small n h = ap length (decimal-small n h)
 
-  module _ (big : 10 ≤ n) (f : n < 2 ^ 64) where
-    shorter : length (decimal n) ≡ length (decimal (n / 10)) + 1
-    shorter = ap length (decimal-big n big f) ∙ length-append (decimal (n / 10)) ((48 + n % 10) ∷ [])
+pub length-big : (n : ℕ) → 10 ≤ n → n < 2 ^ 64 → length (decimal n) ≡ length (decimal (n / 10)) + 1
+length-big n h f = ap length (decimal-big n h f) ∙ length-append (decimal (n / 10)) ((48 + n % 10) ∷ [])
 
-    pub put-room : at + length (decimal (n / 10)) < length old
-    put-room = omega (arith, shorter)
+-- ---- a number written digit by digit, the last one first: a buffer that held old holds `held`, and is as it shall be when the
+-- digits of `rest` are written too, which end before p
+pub record Left (old : List ℕ) (at n : ℕ) (held : List ℕ) (rest p : ℕ) : Type 0 where
+  pub goal : spliced held at (decimal rest) ≡ spliced old at (decimal n)
+  pub end : p ≡ at + length (decimal rest)
+  pub room : p ≤ length held
+  pub size : length held ≡ length old
 
-    pub put-more : {held : List ℕ} {p : ℕ} → Wrote old at (decimal (n / 10)) held p
-        → Wrote old at (decimal n) (set held p d) (p + 1)
-    put-more w = rw (decimal-big n big f, ← e) (wrote-byte w d put-room)
+pub left-all : (old : List ℕ) (at n p : ℕ) → p ≡ at + length (decimal n) → p ≤ length old → Left old at n old n p
+left-all old at n p e h = record { goal = refl; end = e; room = h; size = refl }
+
+module _ {old : List ℕ} {at n : ℕ} {held : List ℕ} {rest p : ℕ} (l : Left old at n held rest p) (d : ℕ) (e : d ≡ 48 + rest % 10) where
+  pub left-less : 10 ≤ rest → rest < 2 ^ 64 → Left old at n (set held (p - 1) d) (rest / 10) (p - 1)
+  left-less big f =
+      let tens = decimal (rest / 10) in
+      let last : p - 1 ≡ at + length tens = omega (arith, l .end, length-big rest big f) in
+      record {
+        goal = rw (last, e)
+            (spliced-last held at tens (48 + rest % 10) (omega (arith, l .end, l .room, length-big rest big f))
+            ∙ ap (spliced held at) (sym (decimal-big rest big f))
+            ∙ l .goal);
+        end = last;
+        room = simp length-set (omega (arith, l .room));
+        size = length-set held (p - 1) d ∙ l .size;
+      }
+
+  pub left-one : rest < 10 → set held at d ≡ spliced old at (decimal n)
+  left-one s =
+      spliced-one held at d (omega (arith, l .end, l .room, length-small rest s))
+      ∙ ap (λ (v : ℕ). spliced held at (v ∷ [])) e
+      ∙ ap (spliced held at) (sym (decimal-small rest s))
+      ∙ l .goal

@@ -1,14 +1,14 @@
 -- A buffer that is written from a place on.
 --   Wrote old at new held p    a buffer that held old holds `held`, with new written from `at` on; p is the place after it
 -- Assumes nothing.
-use mathlib.Core.Path.{_≡_, refl, sym, ap, _∙_}
+use mathlib.Core.Path.{_≡_, refl, sym, ap, ap₂, _∙_}
 use mathlib.Core.List.{List, [], _∷_, _++_, append-assoc}
-use Prim.Native.Nat.{ℕ, _+_, _≤_, _<_}
+use Prim.Native.Nat.{ℕ, suc, _+_, _≤_, _<_}
 use native.Mathlib.Nat.{add-zero, add-assoc}
 use native.Mathlib.Numerals.{add-one}
 use native.Mathlib.Omega.{arith}
-use lib.ListN.{length, set, take, drop, length-append, length-drop, take-append-drop}
-use lib.Seq.{length-take-le, take-at, drop-at, drop-drop, set-split}
+use lib.ListN.{length, set, take, drop, length-append, length-drop, length-set, take-append-drop}
+use lib.Seq.{length-take-le, take-at, drop-at, drop-cons, drop-drop, set-split, getD-set-same, take-set-le, drop-set-lt}
 use Rattle.text.specs.Writing.{spliced}
 
 spliced-length : (old : List ℕ) (at : ℕ) (new : List ℕ) → at + length new ≤ length old → length (spliced old at new) ≡ length old
@@ -39,9 +39,23 @@ spliced-spliced old at a b h =
     )
     (simp (drop-drop, length-append, append-assoc, add-assoc))
 
-spliced-one : (old : List ℕ) (at v : ℕ) → at < length old → set old at v ≡ spliced old at (v ∷ [])
+pub spliced-one : (old : List ℕ) (at v : ℕ) → at < length old → set old at v ≡ spliced old at (v ∷ [])
 unfolding spliced
 spliced-one old at v h = rw (add-one at) (set-split old at v h)
+
+-- the last byte of a run may come before the others
+pub spliced-last : (old : List ℕ) (at : ℕ) (a : List ℕ) (v : ℕ) → at + length a < length old
+    → spliced (set old (at + length a) v) at a ≡ spliced old at (a ++ (v ∷ []))
+unfolding spliced
+spliced-last old at a v h =
+    let p = at + length a in
+    let room : p < length (set old p v) = omega (arith, length-set old p v) in
+    let tail : drop p (set old p v) ≡ v ∷ drop (suc p) old = drop-cons (set old p v) p 0 room
+    ∙ ap₂ (λ (x : ℕ) (l : List ℕ). x ∷ l) (getD-set-same old p v 0 h) (drop-set-lt (suc p) old p v (omega arith)) in
+    let next : suc p ≡ at + length (a ++ (v ∷ [])) = omega (arith, length-append a (v ∷ [])) in
+    ap₂ (λ (l m : List ℕ). l ++ (a ++ m)) (take-set-le at old p v (omega arith)) tail
+    ∙ ap (λ (k : ℕ). take at old ++ (a ++ (v ∷ drop k old))) next
+    ∙ ap (λ (l : List ℕ). take at old ++ l) (sym (append-assoc a (v ∷ []) (drop (at + length (a ++ (v ∷ []))) old)))
 
 pub record Wrote (old : List ℕ) (at : ℕ) (new held : List ℕ) (p : ℕ) : Type 0 where
   pub holds : held ≡ spliced old at new

@@ -9,20 +9,34 @@ fn digit(n: u64) -> u8
     (48 + n % 10) as u8
 }
 
-// Writes n in decimal from `at` on, and returns the place after it.
+fn digit_count(n: u64) -> usize
+    ensures { λ r. ⌜ r ≡ length (decimal n) ⌝ }
+{
+    let mut count = 1;
+    let mut rest = n;
+    while 10 <= rest {
+        count += 1;
+        rest /= 10;
+    }
+    count
+}
+
+// Writes n in decimal from `at` on, its last digit first, and returns the place after it.
 pub fn put_decimal(out: &mut [u8], at: usize, n: u64) -> usize
     requires { ⌜ at + length (decimal n) ≤ length (now out) ⌝ }
     ensures { λ r. ⌜ r ≡ at + length (decimal n) ⌝ }
     ensures { λ _. ⌜ now (out .exit) ≡ spliced (now (out .entry)) at (decimal n) ⌝ }
 {
-    let d = digit(n);
-    if n < 10 {
-        out[at] = d;
-        return at + 1;
+    let end = at + digit_count(n);
+    let mut p = end;
+    let mut rest = n;
+    while 10 <= rest {
+        p -= 1;
+        out[p] = digit(rest);
+        rest /= 10;
     }
-    let last = put_decimal(out, at, n / 10);
-    out[last] = d;
-    last + 1
+    out[at] = digit(rest);
+    end
 }
 
 // Writes a word from `at` on, and returns the place after it.
