@@ -5,7 +5,6 @@ usage: python3 tests/log_cases.py        rewrites crates/logs/src/cases.rt and c
 
 import itertools
 import pathlib
-import textwrap
 
 from model import soil
 
@@ -118,9 +117,9 @@ def lists(log, changes):
     return [[numbers[first + i] for i in range(length)] for first, length in counted]
 
 
-def outcome(log, changes):
-    """What the model says of it."""
-    answer = soil.log(*lists(log, changes))
+def outcome(thicknesses, kinds, values):
+    """What the model says of a log."""
+    answer = soil.log(thicknesses, kinds, values)
     return CLASS[answer.cls] if isinstance(answer, soil.Log) else 'refused {} at {}'.format(*answer[1:])
 
 
@@ -129,16 +128,25 @@ def velocity(kind, N):
     return soil.velocity(kind, N) if N in soil.VALUE[kind] else 'refused 15 at 1'
 
 
+def all_cases():
+    """Every log: a plain one and its changes."""
+    return [*class_cases(), *count_cases(), *thickness_cases(), *layer_cases(), *pair_cases()]
+
+
+def blow_counts():
+    """Every N of both kinds, and one beyond."""
+    return [(kind, N) for kind in (soil.COHESIVE, soil.COHESIONLESS) for N in range(52)]
+
+
 def main():
     """Write both files."""
-    cases = [*class_cases(), *count_cases(), *thickness_cases(), *layer_cases(), *pair_cases()]
+    cases = all_cases()
     lines = ['{} of {} cm at {} dm/s; '.format(*log) + ''.join(said(*change) for change in changes)
-             + outcome(log, changes) for log, changes in cases]
-    lines += [f'kind {kind}, N {N}: {velocity(kind, N)}'
-              for kind in (soil.COHESIVE, soil.COHESIONLESS) for N in range(52)]
+             + outcome(*lists(log, changes)) for log, changes in cases]
+    lines += [f'kind {kind}, N {N}: {velocity(kind, N)}' for kind, N in blow_counts()]
     (HERE / 'stdout').write_text(''.join(line + '\n' for line in lines))
     flat = [n for log, changes in cases for n in (*log, *itertools.chain(*(changes + 3 * [(NONE, 0)])[:3]))]
-    table = textwrap.fill(', '.join(map(str, flat)) + ',', 96, initial_indent='    ', subsequent_indent='    ')
+    table = '\n'.join(f'    {number},' for number in flat)
     (HERE / 'src' / 'cases.rt').write_text(
         '// The cases, as tests/log_cases.py writes them: nine numbers a row, a plain log and up to three changes.\n'
         f'pub const CASES: [u64; {len(flat)}] = [\n{table}\n];\n')

@@ -91,9 +91,14 @@ def outcome(changes):
     return 'taken' if refusal is None else 'refused {} at {}'.format(*refusal)
 
 
+def all_cases():
+    """Every list of changes to the good job."""
+    return [*number_cases(), *level_cases(), *pair_cases()]
+
+
 def main():
     """Write both files."""
-    cases = [*number_cases(), *level_cases(), *pair_cases()]
+    cases = all_cases()
     (HERE / 'stdout').write_text(''.join(
         ''.join(said(*change) for change in changes) + outcome(changes) + '\n' for changes in cases))
     flat = [n for changes in cases for change in (changes + 4 * [(NONE, 0)])[:4] for n in change]

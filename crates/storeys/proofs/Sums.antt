@@ -6,8 +6,9 @@ use Prim.Native.Nat.{ℕ, zero, suc, _+_, _*_, _≤_, _<_}
 use native.Mathlib.Nat.{le-refl, mul-pos, mul-le-mul}
 use native.Mathlib.Numerals.{add-one}
 use native.Mathlib.Omega.{arith}
-use lib.ListN.{length, getD, drop}
+use lib.ListN.{length, getD, drop, length-drop}
 use lib.Seq.{drop-cons, drop-length, drop-drop}
+use Rattle.storeys.specs.Reach.{Levels}
 use Rattle.storeys.specs.Storeys.{weightHeight}
 
 -- ---- the definition, level by level
@@ -61,3 +62,8 @@ sum-most (a ∷ ws) (c ∷ hs) w h b =
     let r = sum-most ws hs w h (λ x p. b (suc x) (omega arith)) in
     let m = mul-le-mul (l .0) (l .1) in
     omega arith
+
+-- ---- the levels from x on are levels too
+pub levels-from : (ws hs : List ℕ) (x : ℕ) → Levels ws hs → Levels (drop x ws) (drop x hs)
+levels-from ws hs x l =
+    record { same = simp length-drop (omega (arith, l .same)); most = omega (arith, part-sum ws hs x, l .most) }

@@ -1,4 +1,5 @@
 use crate::roof_force::roof_force;
+use crate::weight_height::above_lowest;
 use crate::weight_height::weight_height;
 use whole::quotients::up;
 ghost use mathlib.Core.Path.{_≡_};
@@ -17,7 +18,7 @@ pub fn shared(ft: u64, v: u64, px: u64, p: u64) -> u64
     ft + up((v - ft) * px, p)
 }
 
-// The shear under every level, into the first cells of out: P_x is what is left of P above the levels below x.
+// The shear under every level, into the first cells of out: P_x is that of the parts from level x on, which P_(x+1) is made of.
 pub fn fill_shears(t: u64, v: u64, weights: &[u64], heights: &[u64], out: &mut [u64])
     requires { ⌜ Load t v × Levels (now weights) (now heights) × (0 < weightHeight (now weights) (now heights)) × (length (now weights) ≤ length (now out)) ⌝ }
     ensures { λ _. ⌜ now (out .exit) ≡ laid (shears t v (now (weights .entry)) (now (heights .entry))) (now (out .entry)) ⌝ }
@@ -28,7 +29,7 @@ pub fn fill_shears(t: u64, v: u64, weights: &[u64], heights: &[u64], out: &mut [
     let mut x = 0;
     while x < weights.len() {
         out[x] = shared(ft, v, px, p);
-        px -= weights[x] * heights[x];
+        px = above_lowest(px, &weights[x..], &heights[x..]);
         x += 1;
     }
 }

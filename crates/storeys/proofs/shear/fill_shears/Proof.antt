@@ -2,13 +2,14 @@
 -- what stands from level x on. Assumes nothing.
 use borrow.Author.Needs.{needs}
 use mathlib.Core.Path.{_≡_, ap, ap₂, _∙_}
-use Prim.Native.Nat.{ℕ, _+_, _-_, _*_, _≤_}
+use Prim.Native.Nat.{ℕ, _+_, _-_, _*_, _≤_, _<_}
 use native.Mathlib.Omega.{arith}
-use lib.ListN.{length, drop}
+use lib.ListN.{length, drop, length-drop}
+use lib.Seq.{drop-drop}
 use Rattle.storeys.proofs.Roof.{roof-most}
-use Rattle.storeys.proofs.Sums.{part-sum, sum-level}
+use Rattle.storeys.proofs.Sums.{part-sum, levels-from}
 use Rattle.storeys.specs.Storeys.{weightHeight, shearUnder}
-use Rattle.whole.proofs.Cells.{Filling, filling-none, filling-more, filling-all}
+use Rattle.whole.proofs.Cells.{part-tail, Filling, filling-none, filling-more, filling-all}
 use Rattle.whole.specs.Rounding.{up}
 use Rattle.storeys.proofs.shear.fill_shears.Statement.{statement}
 use Rattle.storeys.proofs.shear.fill_shears.Tie as tie
@@ -51,32 +52,38 @@ mul-out c = search needs
 slice-write-out : tie.Need-slice-write-out Inv-loop μ-loop
 slice-write-out c = search needs
 
-mul-px : tie.Need-mul-px Inv-loop μ-loop
-mul-px c = search needs
+mul-above-lowest : tie.Need-mul-above-lowest Inv-loop μ-loop
+mul-above-lowest c = search needs
 
-shared-slice-read-px : tie.Need-shared-slice-read-px Inv-loop μ-loop
-shared-slice-read-px c = search needs
+sub-above-lowest : tie.Need-sub-above-lowest Inv-loop μ-loop
+sub-above-lowest c = search needs
 
-mul-px-2 : tie.Need-mul-px-2 Inv-loop μ-loop
-mul-px-2 c = search needs
+part-above-lowest-start : tie.Need-part-above-lowest-start Inv-loop μ-loop
+part-above-lowest-start c = search needs
 
-shared-slice-read-px-2 : tie.Need-shared-slice-read-px-2 Inv-loop μ-loop
-shared-slice-read-px-2 c = search needs
+part-above-lowest-end : tie.Need-part-above-lowest-end Inv-loop μ-loop
+part-above-lowest-end c = search needs
 
-mul-px-3 : tie.Need-mul-px-3 Inv-loop μ-loop
-mul-px-3 c =
+mul-above-lowest-2 : tie.Need-mul-above-lowest-2 Inv-loop μ-loop
+mul-above-lowest-2 c = search needs
+
+sub-above-lowest-2 : tie.Need-sub-above-lowest-2 Inv-loop μ-loop
+sub-above-lowest-2 c = search needs
+
+part-above-lowest-start-2 : tie.Need-part-above-lowest-start-2 Inv-loop μ-loop
+part-above-lowest-start-2 c = search needs
+
+part-above-lowest-end-2 : tie.Need-part-above-lowest-end-2 Inv-loop μ-loop
+part-above-lowest-end-2 c = search needs
+
+above-lowest-requires : tie.Need-above-lowest-requires Inv-loop μ-loop
+above-lowest-requires c κs =
     let b = c .before .before .before .before .before .before .before .before .before .before in
+    let ws = b .args .weights .now in
+    let hs = b .args .heights .now in
     let l = c .before .before .before .before .loop in
-    let part = part-sum (b .args .weights .now) (b .args .heights .now) (l .x) in
-    let s = sum-level (b .args .weights .now) (b .args .heights .now) (l .x) (omega arith) (omega arith) in
-    omega (arith, part, s, b .pre .1 .most)
-
-sub-px : tie.Need-sub-px Inv-loop μ-loop
-sub-px c =
-    let b = c .before .before .before .before .before .before .before .before .before .before in
-    let l = c .before .before .before .before .loop in
-    let s = sum-level (b .args .weights .now) (b .args .heights .now) (l .x) (omega arith) (omega arith) in
-    omega (arith, s)
+    let some : 0 < length (drop (l .x) ws) = simp length-drop (omega arith) in
+    simp part-tail (levels-from ws hs (l .x) (b .pre .1), some, l .inv .1)
 
 add-x : tie.Need-add-x Inv-loop μ-loop
 add-x c = search needs
@@ -86,15 +93,16 @@ loop-less c = search needs
 
 loop-again : tie.Need-loop-again Inv-loop μ-loop
 loop-again c =
-    let a = c .before .before .before .before .before .before .before .before .before .before .args in
-    let l = c .before .before .before .before .loop in
-    let ft = c .before .before .before .before .before .before .roof-force in
-    let whole = c .before .before .before .before .before .weight-height in
-    let shared = c .before .before .shared in
-    let s = sum-level (a .weights .now) (a .heights .now) (l .x) (omega arith) (omega arith) in
+    let a = c .before .before .before .before .before .before .before .before .before .before .before .args in
+    let l = c .before .before .before .before .before .loop in
+    let ft = c .before .before .before .before .before .before .before .roof-force in
+    let whole = c .before .before .before .before .before .before .weight-height in
+    let shared = c .before .before .before .shared in
+    let next = simp part-tail at (c .above-lowest .ensures) in
+    let one-more = ap₂ weightHeight (drop-drop 1 (l .x) (a .weights .now)) (drop-drop 1 (l .x) (a .heights .now)) in
     let part = ap (λ (q : ℕ). ft .result + up ((a .v - ft .result) * q) (whole .result)) (l .inv .1) in
     let same = ap₂ (λ (f q : ℕ). f + up ((a .v - f) * weightHeight (drop (l .x) (a .weights .now)) (drop (l .x) (a .heights .now))) q) (ft .ensures) (whole .ensures) in
-    (omega arith, omega (arith, s), filling-more (shared .result) (l .inv .2) (omega arith) (shared .ensures ∙ part ∙ same))
+    (omega arith, next ∙ one-more, filling-more (shared .result) (l .inv .2) (omega arith) (shared .ensures ∙ part ∙ same))
 
 same-length : tie.Need-same-length Inv-loop μ-loop
 same-length c = search needs
@@ -116,12 +124,15 @@ fill-shears-spec =
     shared-requires
     mul-out
     slice-write-out
-    mul-px
-    shared-slice-read-px
-    mul-px-2
-    shared-slice-read-px-2
-    mul-px-3
-    sub-px
+    mul-above-lowest
+    sub-above-lowest
+    part-above-lowest-start
+    part-above-lowest-end
+    mul-above-lowest-2
+    sub-above-lowest-2
+    part-above-lowest-start-2
+    part-above-lowest-end-2
+    above-lowest-requires
     add-x
     loop-less
     loop-again
