@@ -2,6 +2,7 @@
 
 The numerals of the chain are tried on the jobs of crates/vectors, those of the soil log on the logs of crates/logs, those of the
 ranges and refusals on the changed jobs of crates/refusals: the files that stand there, which the unchanged model must meet first.
+A numeral of an assertion is left alone, and so are the functions of LEFT: they are no rule of the chain.
 
 usage: python3 tests/changed_numerals.py
 """
@@ -14,6 +15,7 @@ import io
 import pathlib
 import random
 import re
+import signal
 import sys
 
 import log_cases
@@ -23,12 +25,23 @@ from model import exact, limits, response, shears, site, soil, storeys
 from model.job import job
 from sample import accepted_jobs
 
+LEFT = {
+    'low_fraction': 'roots of so many digits, for the margin', 'high_fraction': 'roots of so many digits, for the margin',
+    'squares': 'roots of so many digits, for the margin', 'bounds': 'the margin', 'check': 'the margin',
+    'cube_root': 'where a search begins and how it goes; that it ends at the root is asserted',
+}
+MOST_SECONDS = 20       # a changed model may not end
 CRATES = pathlib.Path(__file__).resolve().parent.parent / 'crates'
 
 
 def numerals(tree):
-    """The whole numbers of a module, in its order."""
-    return [node for node in ast.walk(tree) if isinstance(node, ast.Constant) and type(node.value) is int]
+    """The whole numbers of a module that are rules, in its order."""
+    if isinstance(tree, ast.Assert) or getattr(tree, 'name', None) in LEFT:
+        return
+    if isinstance(tree, ast.Constant) and type(tree.value) is int:
+        yield tree
+    for node in ast.iter_child_nodes(tree):
+        yield from numerals(node)
 
 
 def changed(module):
@@ -37,7 +50,7 @@ def changed(module):
     tree, lines = ast.parse(source), source.splitlines()
     for number, node in enumerate(numerals(tree)):
         other = copy.deepcopy(tree)
-        numerals(other)[number].value += 1
+        list(numerals(other))[number].value += 1
         try:
             exec(compile(other, module.__file__, 'exec'), module.__dict__)      # pylint: disable=exec-used
             yield f'{module.__name__}:{node.lineno}:{node.col_offset + 1}', lines[node.lineno - 1].strip()
@@ -76,14 +89,23 @@ def log_or_velocity(*case):
     return log_cases.outcome(*case) if len(case) == 3 else str(log_cases.velocity(*case))
 
 
+def late(*_):
+    """The changed model took too long."""
+    raise TimeoutError
+
+
 def sees(probe, cases, known):
-    """The first case that comes out otherwise, or at which the model stops; None where there is none."""
+    """The first case that comes out otherwise, or at which the model stops or does not end; None where there is none."""
+    signal.signal(signal.SIGALRM, late)
     for case, answer in zip(cases, known):
+        signal.alarm(MOST_SECONDS)
         try:
             if probe(*case) != answer:
                 return case
         except Exception:       # a changed model may stop anywhere: that too is seen
             return case
+        finally:
+            signal.alarm(0)
     return None
 
 
