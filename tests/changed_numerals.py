@@ -1,8 +1,9 @@
 """Each numeral of the model, changed by one, one at a time: is it seen by what the gate holds the definitions and the code to?
 
 The numerals of the chain are tried on the jobs of crates/vectors, those of the soil log on the logs of crates/logs, those of the
-ranges and refusals on the changed jobs of crates/refusals: the files that stand there, which the unchanged model must meet first.
-A numeral of an assertion is left alone, and so are the functions of LEFT: they are no rule of the chain.
+ranges and refusals on the changed jobs of crates/refusals and the jobs of crates/vectors: the files that stand there, which the unchanged model must meet first.
+What they do not see is tried on the figures of tests/check_model.py. A numeral of an assertion is left alone, and so are the
+names of LEFT, each with its reason.
 
 usage: python3 tests/changed_numerals.py
 """
@@ -18,17 +19,25 @@ import re
 import signal
 import sys
 
+import check_model
 import log_cases
 import refusal_cases
 import vectors
+from checks import errors, figures
 from model import exact, limits, response, shears, site, soil, storeys
 from model.job import job
 from sample import accepted_jobs
 
 LEFT = {
-    'low_fraction': 'roots of so many digits, for the margin', 'high_fraction': 'roots of so many digits, for the margin',
-    'squares': 'roots of so many digits, for the margin', 'bounds': 'the margin', 'check': 'the margin',
+    **dict.fromkeys(('DIGITS', 'low_fraction', 'high_fraction', 'squares', 'bounds', 'check'), 'the margin, not the chain'),
     'cube_root': 'where a search begins and how it goes; that it ends at the root is asserted',
+}
+# (module, line, numeral): why the changed text means the same
+SAME = {
+    ('model.site', 'S_S_COLUMNS', 5000): 'the coefficients of the first two columns are equal in every class',
+    ('model.site', 'S_S_COLUMNS', 9000): 'those of the last two are equal in every class',
+    ('model.response', 'k', 1): 'no root^2 of an R lies less than one above a square',
+    ('model.limits', 'for', 4): 'there are four lists',
 }
 MOST_SECONDS = 20       # a changed model may not end
 CRATES = pathlib.Path(__file__).resolve().parent.parent / 'crates'
@@ -36,7 +45,8 @@ CRATES = pathlib.Path(__file__).resolve().parent.parent / 'crates'
 
 def numerals(tree):
     """The whole numbers of a module that are rules, in its order."""
-    if isinstance(tree, ast.Assert) or getattr(tree, 'name', None) in LEFT:
+    names = [getattr(tree, 'name', None), *(getattr(target, 'id', None) for target in getattr(tree, 'targets', ()))]
+    if isinstance(tree, ast.Assert) or not LEFT.keys().isdisjoint(names):
         return
     if isinstance(tree, ast.Constant) and type(tree.value) is int:
         yield tree
@@ -45,7 +55,7 @@ def numerals(tree):
 
 
 def changed(module):
-    """Yield (place, text) with the module changed at that place; it is as it was afterwards."""
+    """Yield (place, text, key of SAME) with the module changed at that place; it is as it was afterwards."""
     source = inspect.getsource(module)
     tree, lines = ast.parse(source), source.splitlines()
     for number, node in enumerate(numerals(tree)):
@@ -53,7 +63,8 @@ def changed(module):
         list(numerals(other))[number].value += 1
         try:
             exec(compile(other, module.__file__, 'exec'), module.__dict__)      # pylint: disable=exec-used
-            yield f'{module.__name__}:{node.lineno}:{node.col_offset + 1}', lines[node.lineno - 1].strip()
+            text = lines[node.lineno - 1].strip()
+            yield f'{module.__name__}:{node.lineno}:{node.col_offset + 1}', text, (module.__name__, text.split()[0], node.value)
         finally:
             exec(compile(tree, module.__file__, 'exec'), module.__dict__)       # pylint: disable=exec-used
 
@@ -82,6 +93,11 @@ def vector(line, frame, weights, heights, s, roots):
 def answers(stored):
     """What a program's stored lines say after the last ': ' or '; ', case by case."""
     return [re.split('[:;] ', line)[-1] for line in stored.read_text().splitlines()]
+
+
+def judged(*case):
+    """What the program `refusals` says of a changed job, or a job's stages, which are there where it is accepted."""
+    return refusal_cases.outcome(*case) if len(case) == 1 else vector(*case)
 
 
 def log_or_velocity(*case):
@@ -116,25 +132,36 @@ def suites():
     logs = [*(log_cases.lists(*case) for case in log_cases.all_cases()), *log_cases.blow_counts()]
     yield (soil,), log_or_velocity, logs, answers(CRATES / 'logs' / 'stdout')
     jobs = [(changes,) for changes in refusal_cases.all_cases()]
-    yield (limits,), refusal_cases.outcome, jobs, answers(CRATES / 'refusals' / 'stdout')
+    yield (limits,), judged, [*jobs, *rows], answers(CRATES / 'refusals' / 'stdout') + [vector(*row) for row in rows]
+
+
+def by_figures():
+    """Do the figures that the model is checked against see it?"""
+    return any(got != wanted for module in (figures, errors) for _, got, wanted in check_model.answers(module))
 
 
 def main():
-    """Print what is not seen, and the counts."""
-    tried = unseen = 0
+    """Print what the stored cases do not see, and the counts."""
+    tried = by_cases = by_others = same = 0
     for modules, probe, cases, known in suites():
         assert len(cases) == len(known) and sees(probe, cases, known) is None, 'the stored cases are of another model'
         for module in modules:
             count = 0
-            for place, text in changed(module):
+            for place, text, key in changed(module):
                 count += 1
-                if sees(probe, cases, known) is None:
-                    unseen += 1
-                    print(f'{place}: not seen: {text}', flush=True)
+                if sees(probe, cases, known) is not None:
+                    by_cases += 1
+                elif by_figures():
+                    by_others += 1
+                    print(f'{place}: seen by the figures of check_model only: {text}', flush=True)
+                else:
+                    same += key in SAME
+                    print(f'{place}: not seen: {text}: {SAME.get(key, "no reason known")}', flush=True)
+            assert sees(probe, cases, known) is None and not by_figures(), 'the model is not as it was'
             tried += count
             print(f'{module.__name__}: {count} numerals', flush=True)
-    print(f'{tried - unseen} of {tried} seen')
-    return 1 if unseen else 0
+    print(f'{tried} numerals: {by_cases} seen by the stored cases, {by_others} by the figures of check_model only, {same} mean the same')
+    return 0 if tried == by_cases + by_others + same else 1
 
 
 if __name__ == '__main__':

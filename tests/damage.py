@@ -23,9 +23,17 @@ def damaged(rng, data):
     return data[:place] + data[min(place, other):max(place, other)] + data[place:]
 
 
+def long(rng, data):
+    """Level lines put behind until the sheet has 4,094 to 4,099 bytes; the last may be cut."""
+    length = sheet.MOST_BYTES + rng.randint(-2, 3)
+    return (data + b'level\t20000\t2000\n' * 300)[:length]
+
+
 def drawn(rng):
-    """A sheet of a drawn job, sound or with one to three damages."""
+    """A sheet of a drawn job, sound or with one to three damages; one in fifty as long as a sheet may be, or a little longer."""
     data = sheet.write(*draw(rng))
+    if rng.random() < 0.02:
+        data = long(rng, data)
     for _ in range(rng.choice((0, 1, 1, 1, 1, 2, 3))):
         data = damaged(rng, data)
     return data

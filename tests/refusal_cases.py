@@ -19,9 +19,10 @@ GOOD = {**dict(enumerate((80, 45, 100, 55, 100, 100, 1, 2, 1000, 480, 100, 150, 
 
 def both_sides(allowed):
     """Each end of each run of allowed numbers, and the number beyond it."""
+    among = set(allowed)
     values = {value + step for value in allowed for step in (-1, 0, 1)}
     near = {value: {value - 1, value, value + 1} for value in values}
-    ends = {value for value in values if not near[value] <= set(allowed) and not near[value].isdisjoint(allowed)}
+    ends = {value for value in values if not near[value] <= among and not near[value].isdisjoint(among)}
     return sorted(value for value in ends if value >= 0) + [MOST]
 
 

@@ -13,9 +13,9 @@ RATIO = {300001: 300001, 800000: 560000, 800001: 560001}
 PERIOD = {(2, 300): 897, (3, 300): 897, (4, 1): 8, (1, 2000): 4520}
 VELOCITY = {(2, 25): 2924, (3, 50): 2947}
 TABLE_2 = {
-    (site.F_a, 1): (100, 100, 100, 100, 100), (site.F_v, 1): (100, 100, 100, 100, 100),
-    (site.F_a, 2): (110, 110, 100, 100, 100), (site.F_v, 2): (150, 140, 130, 120, 110),
-    (site.F_a, 3): (120, 120, 110, 100, 100), (site.F_v, 3): (180, 170, 160, 150, 140),
+    ('F_a', 1): (100, 100, 100, 100, 100), ('F_v', 1): (100, 100, 100, 100, 100),
+    ('F_a', 2): (110, 110, 100, 100, 100), ('F_v', 2): (150, 140, 130, 120, 110),
+    ('F_a', 3): (120, 120, 110, 100, 100), ('F_v', 3): (180, 170, 160, 150, 140),
 }
 ON_THE_WAY = {
     'W': 15000, 't': 897, 'T': 1000, 'q': 127359, 'm': 127359, 'q_M': 114584, 'm_M': 114584, 'p': 450000,
@@ -46,10 +46,10 @@ def stated():
         yield f'period, kind {kind}, {h} dm', lambda k=kind, h=h: response.approximate_period(k, h), wanted
     for (kind, N), wanted in VELOCITY.items():
         yield f'velocity, kind {kind}, N {N}', lambda k=kind, N=N: soil.velocity(k, N), wanted
-    for (F, cls), row in TABLE_2.items():
-        S = (1, *range(5000, 9001, 1000), 15000) if F is site.F_a else (1, *range(3000, 5001, 500), 11000)
+    for (name, cls), row in TABLE_2.items():
+        S = (1, *range(5000, 9001, 1000), 15000) if name == 'F_a' else (1, *range(3000, 5001, 500), 11000)
         wanted = [100 * cell for cell in (row[0], *row, row[-1])]
-        yield f'{F.__name__}, class {cls}', lambda F=F, c=cls, S=S: [F(c, each) for each in S], wanted
+        yield f'{name}, class {cls}', lambda F=getattr(site, name), c=cls, S=S: [F(c, each) for each in S], wanted
     yield 'normal F_a at 6500', lambda: site.F_a(2, 6500), 10500
     yield 'soft F_v at 3200', lambda: site.F_v(3, 3200), 17600
 
