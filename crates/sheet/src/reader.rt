@@ -6,7 +6,7 @@ use limits::sheet::Sheet;
 use limits::site::SiteValues;
 use text::line::line;
 use text::reading::Cursor;
-use text::reading::WordAnswer;
+use text::reading::ReadAnswer;
 ghost use mathlib.Core.Path.{_≡_};
 ghost use Rattle.limits.specs.Outcome.{refused};
 ghost use Rattle.sheet.specs.Reading.{siteValues, frameValues, readLines, readSheet, sheetRead};
@@ -68,12 +68,12 @@ pub fn read_lines(s: &[u8]) -> SheetRead
 {
     let first = line(s, Cursor { at: 0 }, b"site", Sheet::SITE_NUMBERS);
     let a = first.answer;
-    let WordAnswer::Found(second) = a else {
+    let ReadAnswer::Found(second) = a else {
         return SheetRead::stopped(Refusal::LINE, Sheet::SITE_LINE);
     };
     let middle = line(s, second, b"frame", Sheet::FRAME_NUMBERS);
     let b = middle.answer;
-    let WordAnswer::Found(third) = b else {
+    let ReadAnswer::Found(third) = b else {
         return SheetRead::stopped(Refusal::LINE, Sheet::FRAME_LINE);
     };
     let last = level_lines(s, third);
