@@ -18,7 +18,7 @@ use Rattle.job.specs.Job.{jobOf}
 use Rattle.job.proofs.Stages.{job-refused}
 use Rattle.text.proofs.Stored.{kept-length}
 use Rattle.sheet.specs.declared.reader.SheetAnswer.the-variants.{Taken, Refused}
-use Rattle.sheet.specs.declared.reader.SheetRead.{SheetRead as SheetCells}
+use Rattle.sheet.specs.declared.reader.SheetCells.{SheetCells}
 use Rattle.sheet.specs.Listing.{refusal, listing, jobOfSheet, sheetListing}
 use Rattle.sheet.specs.Reading.{SheetRead, readSheet, cellsOf, sheetRead}
 use Rattle.sheet.proofs.Parts.{read-same}
