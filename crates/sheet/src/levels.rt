@@ -1,3 +1,4 @@
+// The level lines of a sheet: all lines from line 3 on, of which the first 50 are kept.
 use limits::refusal::Refusal;
 use limits::sheet::Sheet;
 use text::line::line;

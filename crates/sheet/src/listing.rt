@@ -1,3 +1,4 @@
+// What is printed, as bytes: the listing of the results of a job, or the one line of a refusal.
 use base_shear::Figures;
 use job::JobAnswer;
 use job::job;

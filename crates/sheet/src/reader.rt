@@ -1,3 +1,4 @@
+// How a sheet is read: line 1, line 2 and the level lines, or 17, then 16.
 use crate::levels::LevelsAnswer;
 use crate::levels::level_lines;
 use limits::frame::FrameValues;
