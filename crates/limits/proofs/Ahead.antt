@@ -1,5 +1,5 @@
 -- Which refusal comes first, and what that is of judgments taken one after the other.
---   Ahead n q m p    m at p comes no later than n at q: a lower number, or the same at no higher layer; place 0 comes last
+--   Ahead n q m p    m at p comes no later than n at q: a lower number, or the same at no higher place; place 0 comes last
 --   Stops n q o      the outcome o is a refusal that comes no later than n at q
 --   Yields n q o     the outcome o is no refusal, or one that comes no later than n at q
 --   UpTo m o         the outcome o is no refusal, or one of a number up to m

@@ -9,5 +9,10 @@ pub mod Told
 pub mod Ahead
 pub mod Refusing
 pub mod Places
+pub mod NotAllowed
+pub mod EachLevel
+pub mod LevelsStage
+pub mod SiteStage
+pub mod FrameStage
 pub mod Foremost
 pub mod Room

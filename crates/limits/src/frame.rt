@@ -1,3 +1,4 @@
+// The frame line of a job: kind, calculated period, R, I and alpha-y, with their limits and their judgments, 8 to 12.
 use crate::ranges::listed;
 use crate::ranges::within;
 use crate::refusal::Refusal;

@@ -1,3 +1,4 @@
+// All that is judged of a job, and what is handed on where it is accepted.
 use crate::frame::Frame;
 use crate::frame::FrameAnswer;
 use crate::frame::FrameValues;

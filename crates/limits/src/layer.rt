@@ -1,4 +1,4 @@
-// A layer of a soil log: thickness in cm, kind, value.
+// A layer of a soil log: thickness in cm, kind, value, and their limits.
 pub struct Layer {
     pub thickness: u64,
     pub kind: u64,

@@ -1,3 +1,4 @@
+// A level of a job: the limits of its weight and its height, and how one level is judged.
 use crate::ranges::within;
 use crate::refusal::Refusal;
 use crate::refusal::Verdict;

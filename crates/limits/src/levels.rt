@@ -1,3 +1,4 @@
+// The levels of a job, judged together: 1 to 4.
 use crate::level::Level;
 use crate::ranges::within;
 use crate::refusal::Refusal;

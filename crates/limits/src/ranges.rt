@@ -1,3 +1,4 @@
+// Whether a number is allowed: from a least to a most, or one of listed values.
 use crate::refusal::Refusal;
 use crate::refusal::Verdict;
 ghost use mathlib.Core.Path.{_≡_};

@@ -1,3 +1,4 @@
+// What comes back when data is bad: a refusal, the numbers it may have, and the answer of a judgment.
 ghost use mathlib.Core.Path.{_≡_};
 
 // A refusal: document 01's number, and its place.

@@ -1,4 +1,4 @@
-// A sheet: its length in bytes.
+// A sheet: its length in bytes, and the limits of its bytes, its numbers and its lines.
 pub struct Sheet {
     pub length: u64,
 }

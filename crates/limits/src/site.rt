@@ -1,3 +1,4 @@
+// The site line of a job: mapped values, near-fault factors and class, with their limits and their judgments, 5 to 7.
 use crate::ranges::listed;
 use crate::ranges::within;
 use crate::refusal::Refusal;

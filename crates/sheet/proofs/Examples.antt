@@ -11,7 +11,7 @@ use Rattle.text.specs.Number.{digits, valueFrom, wellMade, number}
 use Rattle.text.specs.Reading.{starts, word}
 use Rattle.text.specs.Writing.{digitsOf, decimal, fieldOf, fieldsOf, laidOut}
 use Rattle.job.proofs.Worked.{worked}
-use Rattle.sheet.specs.Listing.{roofFirst, account, refusal, listing, jobOfSheet, sheetListing}
+use Rattle.sheet.specs.Listing.{roofFirst, resultsListing, refusal, listing, jobOfSheet, sheetListing}
 use Rattle.sheet.specs.Reading.{lineAt, linesFrom, SheetRead, readLines, readSheet}
 
 abbrev office : List ℕ
@@ -33,11 +33,11 @@ pub otherwise-read : (readSheet [] ≡ refused 16 1) × (readSheet (bytes "site\
 unfolding readSheet readLines lineAt linesFrom line fields field word starts number digits wellMade inRange valueFrom
 otherwise-read = (refl, refl, refl)
 
-pub office-listed : account (record { v = 909_708; vm = 818_458; star = 1_071_429; vd = 1_071_429; t = 1_000 })
+pub office-listed : resultsListing (record { v = 909_708; vm = 818_458; star = 1_071_429; vd = 1_071_429; t = 1_000 })
     (166_071 ∷ 332_143 ∷ 573_215 ∷ []) (1_071_429 ∷ 905_358 ∷ 573_215 ∷ []) (255_000_200 ∷ 147_857_300 ∷ 57_321_500 ∷ [])
     ≡ bytes "base\t909708\t818458\t1071429\t1071429\t1000\n" ++ (bytes "level\t3\t573215\t573215\t57321500\n"
     ++ (bytes "level\t2\t332143\t905358\t147857300\n" ++ bytes "level\t1\t166071\t1071429\t255000200\n"))
-unfolding account roofFirst laidOut fieldsOf fieldOf decimal digitsOf
+unfolding resultsListing roofFirst laidOut fieldsOf fieldOf decimal digitsOf
 office-listed = refl
 
 pub refusal-listed : refusal 16 80 ≡ bytes "refused\t16\t80\n"

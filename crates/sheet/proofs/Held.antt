@@ -12,32 +12,37 @@ use Rattle.limits.specs.declared.refusal.Refusal.{Refusal}
 use Rattle.limits.specs.declared.site.SiteValues.{SiteValues}
 use Rattle.limits.specs.Judging.{judgedJob}
 use Rattle.limits.specs.Levels.{counted, judgedLevels}
-use Rattle.limits.specs.Outcome.{Outcome, accepted, refused, zeros, _>>=_}
-use Rattle.limits.proofs.Passed.{within-passed}
+use Rattle.limits.specs.Outcome.{Outcome, accepted, refused, zeros, Done, _>>=_}
+use Rattle.limits.proofs.Passed.{never, within-passed}
 use Rattle.job.specs.Job.{jobOf}
 use Rattle.job.proofs.Stages.{job-refused}
 use Rattle.text.proofs.Stored.{kept-length}
+use Rattle.sheet.specs.declared.reader.SheetAnswer.{SheetAnswer}
 use Rattle.sheet.specs.declared.reader.SheetAnswer.the-variants.{Taken, Refused}
-use Rattle.sheet.specs.declared.reader.SheetRead.{SheetRead as SheetCells}
+use Rattle.sheet.specs.declared.reader.SheetCells.{SheetCells}
 use Rattle.sheet.specs.Listing.{refusal, listing, jobOfSheet, sheetListing}
 use Rattle.sheet.specs.Reading.{SheetRead, readSheet, cellsOf, sheetRead}
 use Rattle.sheet.proofs.Parts.{read-same}
+use Rattle.sheet.proofs.Refused.{answer-refused}
 
 -- the first cells, as many as there are levels, are the list
 cut : (l : List ℕ) (n : ℕ) → length l ≡ n → n ≤ 50 → take n (cellsOf l) ≡ l
 cut l n e h = rw (take-all 50 l (omega arith)) (laid-part l (zeros 50) n e)
 
 -- ---- an answer, once it is known
+-- what an answer says, its values left out
+abbrev said : SheetAnswer → Outcome Done
+said (Taken v f n) = accepted tt
+said (Refused f) = refused (f .number) (f .place)
+
+said-is : (o : Outcome SheetRead) → said (sheetRead o .answer) ≡ (o >>= λ _. accepted tt)
+unfolding sheetRead
+said-is (accepted r) = refl
+said-is (refused n p) = refl
+
 said-refused : (o : Outcome SheetRead) (c : SheetCells) (f : Refusal) → c ≡ sheetRead o → c .answer ≡ Refused f
     → o ≡ refused (f .number) (f .place)
-unfolding sheetRead
-said-refused (accepted r) c f e m =
-    let e′ = sym (ap (λ (x : SheetCells). x .answer) e) ∙ m in
-    absurd (let z : _≡_ {A = ℕ} 0 1 = cc in let b : ⊥ = omega arith in b)
-said-refused (refused n p) c f e m =
-    let e′ = sym (ap (λ (x : SheetCells). x .answer) e) ∙ m in
-    let same : record { number = n; place = p } ≡ f = cc in
-    ap (λ (g : Refusal). refused (g .number) (g .place)) same
+said-refused o c f e m = answer-refused sheetRead (λ (x : SheetCells). said (x .answer)) said-is o c e (ap said m)
 
 pub record SheetTaken (o : Outcome SheetRead) (c : SheetCells) (v : SiteValues) (f : FrameValues) (n : ℕ) : Type 0 where
   pub read : SheetRead
@@ -63,9 +68,7 @@ said-taken (accepted r) c v f n e m =
       weights = ap (λ (x : SheetCells). x .weights) e;
       heights = ap (λ (x : SheetCells). x .heights) e;
     }
-said-taken (refused k p) c v f n e m =
-    let e′ = sym (ap (λ (x : SheetCells). x .answer) e) ∙ m in
-    absurd (let z : _≡_ {A = ℕ} 0 1 = cc in let b : ⊥ = omega arith in b)
+said-taken (refused k p) c v f n e m = absurd (never (ap said (sym (ap (λ (x : SheetCells). x .answer) e) ∙ m)))
 
 -- ---- the listing, by what the code holds
 first-judged : (r : SheetRead) (n p : ℕ) → counted (length (r .weights)) ≡ refused n p → jobOfSheet r ≡ refused n p

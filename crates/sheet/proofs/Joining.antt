@@ -18,7 +18,7 @@ use Rattle.job.specs.Job.{resultsAt, jobOf, Buffers, Answers}
 use Rattle.job.proofs.Answered.{taken-accepted, refused-judged}
 use Rattle.job.proofs.Independent.{forces-cells, shears-cells, overturnings-cells, taken-written}
 use Rattle.job.proofs.Stages.{job-refused, job-accepted}
-use Rattle.sheet.specs.Listing.{account, refusal, listing, Levelled}
+use Rattle.sheet.specs.Listing.{resultsListing, refusal, listing, Levelled}
 
 abbrev pub lent : Buffers
 lent = record { forces = zeros 50; shears = zeros 50; overturnings = zeros 50 }
@@ -54,7 +54,7 @@ module _ (s : SiteValues) (f : FrameValues) (ws hs : List ℕ) (few : length ws 
           few = omega (arith, forces-cut);
         }
 
-    pub taken-listing : account n (take (length ws) (b′ .forces)) (take (length ws) (b′ .shears))
+    pub taken-listing : resultsListing n (take (length ws) (b′ .forces)) (take (length ws) (b′ .shears))
         (take (length ws) (b′ .overturnings))
         ≡ listing (jobOf s f ws hs (length ws))
     unfolding listing

@@ -14,22 +14,22 @@ use Rattle.base_shear.specs.declared.Figures.{Figures}
 use Rattle.job.specs.Job.{resultsAt}
 use Rattle.job.proofs.Independent.{forces-cells, shears-cells, overturnings-cells}
 use Rattle.job.proofs.Stages.{job-refused, job-accepted}
-use Rattle.sheet.proofs.Listings.{baseLine, account-room, refusal-room}
+use Rattle.sheet.proofs.Listings.{baseLine, results-listing-room, refusal-room}
 use Rattle.sheet.specs.declared.listing.Listing.{Listing}
-use Rattle.sheet.specs.Listing.{roofFirst, account, listing, jobOfSheet, sheetListing, printed, Levelled}
+use Rattle.sheet.specs.Listing.{roofFirst, resultsListing, listing, jobOfSheet, sheetListing, printed, Levelled}
 use Rattle.sheet.specs.Reading.{SheetRead, readSheet}
 
-account-short : (n : Figures) (fs us ms : List ℕ) → Levelled fs us ms → length (account n fs us ms) ≤ 4_610
-unfolding account
-account-short n fs us ms l =
-    omega (arith, length-append (baseLine fs us ms n) (roofFirst fs us ms (length fs)), account-room fs us ms n l)
+results-listing-short : (n : Figures) (fs us ms : List ℕ) → Levelled fs us ms → length (resultsListing n fs us ms) ≤ 4_610
+unfolding resultsListing
+results-listing-short n fs us ms l =
+    omega (arith, length-append (baseLine fs us ms n) (roofFirst fs us ms (length fs)), results-listing-room fs us ms n l)
 
 results-short : (n : Figures) (ws hs : List ℕ) → length ws ≤ 50 → length (listing (accepted (resultsAt n ws hs))) ≤ 4_610
 unfolding listing
 results-short n ws hs few =
     let r = resultsAt n ws hs in
     let same = forces-cells n ws hs in
-    account-short n (r .forces) (r .shears) (r .overturnings)
+    results-listing-short n (r .forces) (r .shears) (r .overturnings)
     (record {
       shears =
           shears-cells n ws hs ∙ sym same;

@@ -1,5 +1,6 @@
 pub mod Examples
 pub mod Gathering
+pub mod Refused
 pub mod Stages
 pub mod Listings
 pub mod Joining
@@ -11,5 +12,7 @@ pub mod Unique
 pub mod Allowed
 pub mod Listable
 pub mod ReadLaid
-pub mod First
+pub mod OneLine
+pub mod RefusedOtherwise
+pub mod OtherwiseRefused
 pub mod Cut

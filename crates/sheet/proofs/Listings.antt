@@ -75,8 +75,8 @@ module _ (fs us ms : List ℕ) where
   abbrev pub baseLine : Figures → List ℕ
   baseLine n = laidOut (bytes "base") (n .v ∷ n .vm ∷ n .star ∷ n .vd ∷ n .t ∷ [])
 
-  pub account-room : (n : Figures) → Levelled fs us ms → length (baseLine n) + length (roofFirst fs us ms (length fs)) ≤ 4_610
-  account-room n l =
+  pub results-listing-room : (n : Figures) → Levelled fs us ms → length (baseLine n) + length (roofFirst fs us ms (length fs)) ≤ 4_610
+  results-listing-room n l =
       omega (arith, line-most (bytes "base") (n .v ∷ n .vm ∷ n .star ∷ n .vd ∷ n .t ∷ []), roof-most (length fs), l .few)
 
 pub refusal-room : (n p : ℕ) → length (refusal n p) ≤ 4_610

@@ -3,7 +3,6 @@
 use mathlib.Core.Path.{_≡_, refl, sym, ap, _∙_}
 use mathlib.Core.List.{List}
 use Prim.Native.Nat.{ℕ, _≤_, _<_}
-use native.Mathlib.Omega.{arith}
 use lib.ListN.{length, drop}
 use lib.Seq.{drop-drop}
 use borrow.Author.Tests.{le-leb, lt-leb}
@@ -11,18 +10,21 @@ use Rattle.whole.specs.Cells.{laid}
 use Rattle.limits.specs.declared.frame.FrameValues.{FrameValues}
 use Rattle.limits.specs.declared.refusal.Refusal.{Refusal}
 use Rattle.limits.specs.declared.site.SiteValues.{SiteValues}
-use Rattle.limits.specs.Outcome.{Outcome, accepted, refused}
+use Rattle.limits.specs.Outcome.{Outcome, accepted, refused, Done, _>>=_}
+use Rattle.limits.proofs.Passed.{never}
 use Rattle.text.specs.declared.reading.Cursor.{Cursor}
 use Rattle.text.specs.Bytes.{bytes}
 use Rattle.text.specs.Line.{line, blank}
 use Rattle.text.specs.Reading.{otherwise}
 use Rattle.text.proofs.Readings.{Went, LineWent}
 use Rattle.text.proofs.Stored.{in-cells}
+use Rattle.sheet.specs.declared.levels.LevelsAnswer.{LevelsAnswer}
 use Rattle.sheet.specs.declared.levels.LevelsAnswer.the-variants.{Taken as TakenLevels, Refused as RefusedLevels}
 use Rattle.sheet.specs.declared.levels.LevelsRead.{LevelsRead}
 use Rattle.sheet.specs.declared.reader.SheetAnswer.the-variants.{Taken}
 use Rattle.sheet.specs.Reading.{lineAt, siteValues, frameValues, Levels, levelLines}
 use Rattle.sheet.specs.Reading.{readLines, readSheet, cellsOf, levelsRead, sheetRead}
+use Rattle.sheet.proofs.Refused.{answer-refused}
 
 -- ---- a line at a cursor
 line-at : (s w : List ℕ) (p k : ℕ) {c c′ : Cursor} {ns : List ℕ} → Went c c′ (line w k (drop (c .at) s)) ns
@@ -40,16 +42,19 @@ unfolding lineAt
 line-not s w p k o = simp o
 
 -- ---- what the code holds of the level lines
+-- what an answer says, its value left out
+abbrev said : LevelsAnswer → Outcome Done
+said (TakenLevels n) = accepted tt
+said (RefusedLevels f) = refused (f .number) (f .place)
+
+said-is : (o : Outcome Levels) → said (levelsRead o .answer) ≡ (o >>= λ _. accepted tt)
+unfolding levelsRead
+said-is (accepted ls) = refl
+said-is (refused n p) = refl
+
 pub levels-refused : (o : Outcome Levels) (r : LevelsRead) (f : Refusal) → r ≡ levelsRead o → r .answer ≡ RefusedLevels f
     → o ≡ refused (f .number) (f .place)
-unfolding levelsRead
-levels-refused (accepted ls) r f e m =
-    let e′ = sym (ap (λ (x : LevelsRead). x .answer) e) ∙ m in
-    absurd (let z : _≡_ {A = ℕ} 0 1 = cc in let b : ⊥ = omega arith in b)
-levels-refused (refused n p) r f e m =
-    let e′ = sym (ap (λ (x : LevelsRead). x .answer) e) ∙ m in
-    let same : record { number = n; place = p } ≡ f = cc in
-    ap (λ (g : Refusal). refused (g .number) (g .place)) same
+levels-refused o r f e m = answer-refused levelsRead (λ (x : LevelsRead). said (x .answer)) said-is o r e (ap said m)
 
 pub record LevelsTaken (o : Outcome Levels) (r : LevelsRead) (n : ℕ) : Type 0 where
   pub levels : Levels
@@ -70,9 +75,7 @@ levels-taken (accepted ls) r n e m =
       weights = ap (λ (x : LevelsRead). x .weights) e;
       heights = ap (λ (x : LevelsRead). x .heights) e;
     }
-levels-taken (refused k p) r n e m =
-    let e′ = sym (ap (λ (x : LevelsRead). x .answer) e) ∙ m in
-    absurd (let z : _≡_ {A = ℕ} 0 1 = cc in let b : ⊥ = omega arith in b)
+levels-taken (refused k p) r n e m = absurd (never (ap said (sym (ap (λ (x : LevelsRead). x .answer) e) ∙ m)))
 
 -- ---- line by line
 abbrev start : Cursor

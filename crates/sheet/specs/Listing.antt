@@ -1,14 +1,14 @@
 -- 'Sheet and listing': what is printed.
---   roofFirst fs us ms x      the lines of the x lowest levels, roof first: number, force, shear, overturning
---   allLevels fs us ms        the lines of all levels
---   account n fs us ms        the base line V, V_M, V*, V_D, T and a line for each level, of figures n, forces fs, shears us and
---                             overturning moments ms, each lowest level first
---   refusal n p               'A refusal prints one line: `refused`, number, place'
---   listing o                 what is printed for a job's outcome
---   jobOfSheet r              the job of what a sheet holds
---   sheetListing bytes        what is printed for a sheet: 17, then 16, precede everything that a job judges
---   printed l                 the bytes l as the code hands them on: in the first of 4,610 cells, and how many there are
---   Levelled fs us ms         as many shears and overturning moments as forces, and not over 50
+--   roofFirst fs us ms x          the lines of the x lowest levels, roof first: number, force, shear, overturning
+--   allLevels fs us ms            the lines of all levels
+--   resultsListing n fs us ms     the base line V, V_M, V*, V_D, T and a line for each level, of figures n, forces fs, shears us
+--                                 and overturning moments ms, each lowest level first
+--   refusal n p                   'A refusal prints one line: `refused`, number, place'
+--   listing o                     what is printed for a job's outcome
+--   jobOfSheet r                  the job of what a sheet holds
+--   sheetListing bytes            what is printed for a sheet: 17, then 16, precede everything that a job judges
+--   printed l                     the bytes l as the code hands them on: in the first of 4,610 cells, and how many there are
+--   Levelled fs us ms             as many shears and overturning moments as forces, and not over 50
 use mathlib.Core.Path.{_≡_}
 use mathlib.Core.List.{List, [], _∷_, _++_}
 use Prim.Native.Nat.{ℕ, zero, suc, _≤_}
@@ -30,8 +30,8 @@ roofFirst fs us ms (suc x) =
 abbrev pub allLevels : List ℕ → List ℕ → List ℕ → List ℕ
 allLevels fs us ms = roofFirst fs us ms (length fs)
 
-unfoldable pub account : Figures → List ℕ → List ℕ → List ℕ → List ℕ
-account n fs us ms =
+unfoldable pub resultsListing : Figures → List ℕ → List ℕ → List ℕ → List ℕ
+resultsListing n fs us ms =
     laidOut (bytes "base") (n .v ∷ n .vm ∷ n .star ∷ n .vd ∷ n .t ∷ []) ++ allLevels fs us ms
 
 unfoldable pub refusal : ℕ → ℕ → List ℕ
@@ -46,7 +46,7 @@ pub record Levelled (fs us ms : List ℕ) : Type 0 where
   pub few : length fs ≤ 50
 
 unfoldable pub listing : Outcome Results → List ℕ
-listing (accepted r) = account (r .figures) (r .forces) (r .shears) (r .overturnings)
+listing (accepted r) = resultsListing (r .figures) (r .forces) (r .shears) (r .overturnings)
 listing (refused n p) = refusal n p
 
 abbrev pub jobOfSheet : SheetRead → Outcome Results

@@ -23,7 +23,7 @@ use Rattle.text.specs.Reading.{Reading, found, otherwise}
 use Rattle.sheet.specs.declared.levels.LevelsAnswer.the-variants.{Taken as TakenLevels, Refused as RefusedLevels}
 use Rattle.sheet.specs.declared.levels.LevelsRead.{LevelsRead}
 use Rattle.sheet.specs.declared.reader.SheetAnswer.the-variants.{Taken, Refused}
-use Rattle.sheet.specs.declared.reader.SheetRead.{SheetRead as SheetCells}
+use Rattle.sheet.specs.declared.reader.SheetCells.{SheetCells}
 
 pub record Line : Type 0 where
   pub numbers : List ℕ

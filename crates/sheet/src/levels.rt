@@ -1,8 +1,9 @@
+// The level lines of a sheet: all lines from line 3 on, of which the first 50 are kept.
 use limits::refusal::Refusal;
 use limits::sheet::Sheet;
 use text::line::line;
 use text::reading::Cursor;
-use text::reading::WordAnswer;
+use text::reading::ReadAnswer;
 ghost use mathlib.Core.Path.{_≡_};
 ghost use lib.ListN.{set, drop};
 ghost use Rattle.limits.specs.Outcome.{refused};
@@ -57,7 +58,7 @@ pub fn level_lines(s: &[u8], c: Cursor) -> LevelsRead
     while at < s.len() {
         let l = line(s, Cursor { at }, b"level", Sheet::LEVEL_NUMBERS);
         let a = l.answer;
-        let WordAnswer::Found(next) = a else {
+        let ReadAnswer::Found(next) = a else {
             return LevelsRead::otherwise(Sheet::LEVEL_LINE + n as u64);
         };
         let numbers = l.numbers;

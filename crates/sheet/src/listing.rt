@@ -1,3 +1,4 @@
+// What is printed, as bytes: the listing of the results of a job, or the one line of a refusal.
 use base_shear::Figures;
 use job::JobAnswer;
 use job::job;
@@ -10,7 +11,7 @@ ghost use Prim.Native.Nat.{_+_, _≤_};
 ghost use lib.ListN.{length};
 ghost use Rattle.job.specs.Job.{jobOf};
 ghost use Rattle.text.specs.Writing.{spliced};
-ghost use Rattle.sheet.specs.Listing.{allLevels, account, refusal, listing, printed, Levelled};
+ghost use Rattle.sheet.specs.Listing.{allLevels, resultsListing, refusal, listing, printed, Levelled};
 
 // The bytes of a listing, and how many there are. With 20 digits a number a base line has 110 bytes and a level line 90: there is room
 // for any figures of 50 levels.
@@ -44,9 +45,9 @@ pub fn put_levels(
 }
 
 // The listing of a job that was taken.
-pub fn account_of(f: Figures, forces: &[u64], shears: &[u64], overturnings: &[u64]) -> Listing
+pub fn results_listing(f: Figures, forces: &[u64], shears: &[u64], overturnings: &[u64]) -> Listing
     requires { ⌜ Levelled (now forces) (now shears) (now overturnings) ⌝ }
-    ensures { λ r. ⌜ r ≡ printed (account f (now (forces .entry)) (now (shears .entry)) (now (overturnings .entry))) ⌝ }
+    ensures { λ r. ⌜ r ≡ printed (resultsListing f (now (forces .entry)) (now (shears .entry)) (now (overturnings .entry))) ⌝ }
 {
     let mut bytes = [0; 4_610];
     let base = [f.v, f.vm, f.star, f.vd, f.t];
@@ -94,5 +95,5 @@ pub fn job_listing(
         return refusal_of(r);
     };
     let n = weights.len();
-    account_of(figures, &forces[..n], &shears[..n], &overturnings[..n])
+    results_listing(figures, &forces[..n], &shears[..n], &overturnings[..n])
 }

@@ -1,3 +1,4 @@
+// How a sheet is read: line 1, line 2 and the level lines, or 17, then 16.
 use crate::levels::LevelsAnswer;
 use crate::levels::level_lines;
 use limits::frame::FrameValues;
@@ -6,7 +7,7 @@ use limits::sheet::Sheet;
 use limits::site::SiteValues;
 use text::line::line;
 use text::reading::Cursor;
-use text::reading::WordAnswer;
+use text::reading::ReadAnswer;
 ghost use mathlib.Core.Path.{_≡_};
 ghost use Rattle.limits.specs.Outcome.{refused};
 ghost use Rattle.sheet.specs.Reading.{siteValues, frameValues, readLines, readSheet, sheetRead};
@@ -18,17 +19,17 @@ pub enum SheetAnswer {
 }
 
 // The answer, and the weights and heights of the first 50 levels beside it.
-pub struct SheetRead {
+pub struct SheetCells {
     pub answer: SheetAnswer,
     pub weights: [u64; 50],
     pub heights: [u64; 50],
 }
 
-impl SheetRead {
-    fn stopped(number: u64, place: u64) -> SheetRead
+impl SheetCells {
+    fn stopped(number: u64, place: u64) -> SheetCells
         ensures { λ r. ⌜ r ≡ sheetRead (refused number place) ⌝ }
     {
-        SheetRead {
+        SheetCells {
             answer: SheetAnswer::Refused(Refusal { number, place }),
             weights: [0; 50],
             heights: [0; 50],
@@ -63,32 +64,32 @@ fn frame_values(n: [u64; 10]) -> FrameValues
 }
 
 // Line 1, line 2, and all later lines, each from where the one before it ended.
-pub fn read_lines(s: &[u8]) -> SheetRead
+pub fn read_lines(s: &[u8]) -> SheetCells
     ensures { λ r. ⌜ r ≡ sheetRead (readLines (now (s .entry))) ⌝ }
 {
     let first = line(s, Cursor { at: 0 }, b"site", Sheet::SITE_NUMBERS);
     let a = first.answer;
-    let WordAnswer::Found(second) = a else {
-        return SheetRead::stopped(Refusal::LINE, Sheet::SITE_LINE);
+    let ReadAnswer::Found(second) = a else {
+        return SheetCells::stopped(Refusal::LINE, Sheet::SITE_LINE);
     };
     let middle = line(s, second, b"frame", Sheet::FRAME_NUMBERS);
     let b = middle.answer;
-    let WordAnswer::Found(third) = b else {
-        return SheetRead::stopped(Refusal::LINE, Sheet::FRAME_LINE);
+    let ReadAnswer::Found(third) = b else {
+        return SheetCells::stopped(Refusal::LINE, Sheet::FRAME_LINE);
     };
     let last = level_lines(s, third);
     let l = last.answer;
     let LevelsAnswer::Taken(count) = l else {
         let LevelsAnswer::Refused(r) = l else {
-            return SheetRead::stopped(0, 0);
+            return SheetCells::stopped(0, 0);
         };
-        return SheetRead::stopped(r.number, r.place);
+        return SheetCells::stopped(r.number, r.place);
     };
     let of_site = first.numbers;
     let of_frame = middle.numbers;
     let weights = last.weights;
     let heights = last.heights;
-    SheetRead {
+    SheetCells {
         answer: SheetAnswer::Taken(site_values(of_site), frame_values(of_frame), count),
         weights,
         heights,
@@ -96,11 +97,11 @@ pub fn read_lines(s: &[u8]) -> SheetRead
 }
 
 // A sheet of any bytes: 17 precedes everything.
-pub fn read_sheet(s: &[u8]) -> SheetRead
+pub fn read_sheet(s: &[u8]) -> SheetCells
     ensures { λ r. ⌜ r ≡ sheetRead (readSheet (now (s .entry))) ⌝ }
 {
     if Sheet::BYTES_MOST < s.len() as u64 {
-        return SheetRead::stopped(Refusal::SHEET, Refusal::NOWHERE);
+        return SheetCells::stopped(Refusal::SHEET, Refusal::NOWHERE);
     }
     read_lines(s)
 }

@@ -9,7 +9,7 @@ use lib.ListN.{drop}
 use Rattle.whole.specs.Cells.{laid}
 use Rattle.text.specs.declared.line.LineRead.{LineRead}
 use Rattle.text.specs.declared.reading.Cursor.{Cursor}
-use Rattle.text.specs.declared.reading.WordAnswer.the-variants.{Found}
+use Rattle.text.specs.declared.reading.ReadAnswer.the-variants.{Found}
 use Rattle.text.specs.Line.{lf, field, fields, line, blank, noLine, lineRead}
 use Rattle.text.specs.Reading.{Reading, found, otherwise, read, later, next, word, _>>=_, _>>_}
 use Rattle.text.proofs.Readings.{Moves, line-moves, stays, Went, onward}

@@ -12,7 +12,7 @@ use Rattle.limits.specs.Outcome.{Done}
 use Rattle.text.specs.declared.line.LineRead.{LineRead}
 use Rattle.text.specs.declared.number.NumberAnswer.the-variants.{Found as FoundNumber, Otherwise as NoNumber}
 use Rattle.text.specs.declared.reading.Cursor.{Cursor}
-use Rattle.text.specs.declared.reading.WordAnswer.the-variants.{Found, Otherwise}
+use Rattle.text.specs.declared.reading.ReadAnswer.the-variants.{Found, Otherwise}
 use Rattle.text.specs.Line.{blank, lineRead}
 use Rattle.text.specs.Number.{numberAnswer}
 use Rattle.text.specs.Reading.{Reading, found, otherwise, Reader, later, next, after, wordAnswer}

@@ -12,7 +12,7 @@ use Rattle.whole.specs.Cells.{laid}
 use Rattle.limits.specs.Outcome.{zeros}
 use Rattle.text.specs.declared.line.LineRead.{LineRead}
 use Rattle.text.specs.declared.reading.Cursor.{Cursor}
-use Rattle.text.specs.declared.reading.WordAnswer.the-variants.{Found, Otherwise}
+use Rattle.text.specs.declared.reading.ReadAnswer.the-variants.{Found, Otherwise}
 use Rattle.text.specs.Bytes.{bytes}
 use Rattle.text.specs.Number.{number}
 use Rattle.text.specs.Reading.{Reading, found, otherwise, Reader, read, word, after, _>>=_, _>>_}

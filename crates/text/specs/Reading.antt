@@ -14,8 +14,8 @@ use mathlib.Core.Bool.{Bool, true, false, _&&_}
 use Rattle.whole.specs.Choice.{pick}
 use Rattle.limits.specs.Outcome.{Done}
 use Rattle.text.specs.declared.reading.Cursor.{Cursor}
-use Rattle.text.specs.declared.reading.WordAnswer.{WordAnswer}
-use Rattle.text.specs.declared.reading.WordAnswer.the-variants.{Found, Otherwise}
+use Rattle.text.specs.declared.reading.ReadAnswer.{ReadAnswer}
+use Rattle.text.specs.declared.reading.ReadAnswer.the-variants.{Found, Otherwise}
 
 pub data Reading (A : Type 0) : Type 0 where
   found : A → ℕ → Reading A
@@ -54,6 +54,6 @@ word w bytes = pick (starts w bytes) (found tt (length w)) otherwise
 abbrev pub after : Cursor → ℕ → Cursor
 after c n = record { at = c .at + n }
 
-unfoldable pub wordAnswer : Cursor → Reading Done → WordAnswer
+unfoldable pub wordAnswer : Cursor → Reading Done → ReadAnswer
 wordAnswer c (found _ n) = Found (after c n)
 wordAnswer c otherwise = Otherwise

@@ -1,5 +1,5 @@
 -- What is written.
---   decimal n           n in decimal: '1 to 9 digits and no leading zero', up to 20 digits, which hold every number of 64 bits
+--   decimal n           n in decimal, with no leading zero: up to 20 digits, which hold every number of 64 bits
 --   fieldOf n           a field: one tab, and n;  fieldsOf ns    a field for each
 --   laidOut w ns        a line: the word w, the numbers ns, LF
 --   Short n             n has at most 9 digits, which a number of a sheet may have;  AllShort ns    each of ns has

@@ -1,7 +1,7 @@
 use crate::number::NumberAnswer;
 use crate::number::number;
 use crate::reading::Cursor;
-use crate::reading::WordAnswer;
+use crate::reading::ReadAnswer;
 use crate::reading::word;
 ghost use mathlib.Core.Path.{_≡_};
 ghost use Prim.Native.Nat.{_≤_};
@@ -11,7 +11,7 @@ ghost use Rattle.text.specs.Number.{numberAnswer};
 
 // The numbers of a line, in the first of its cells, beside the answer: an enum holds no array.
 pub struct LineRead {
-    pub answer: WordAnswer,
+    pub answer: ReadAnswer,
     pub numbers: [u64; 10],
 }
 
@@ -20,7 +20,7 @@ impl LineRead {
         ensures { λ r. ⌜ r ≡ noLine ⌝ }
     {
         LineRead {
-            answer: WordAnswer::Otherwise,
+            answer: ReadAnswer::Otherwise,
             numbers: [0; 10],
         }
     }
@@ -31,7 +31,7 @@ pub fn field(s: &[u8], c: Cursor) -> NumberAnswer
     ensures { λ a. ⌜ a ≡ numberAnswer c (field (drop (c .at) (now (s .entry)))) ⌝ }
 {
     let t = word(s, c, b"\t");
-    let WordAnswer::Found(next) = t else {
+    let ReadAnswer::Found(next) = t else {
         return NumberAnswer::Otherwise;
     };
     number(s, next)
@@ -55,7 +55,7 @@ pub fn fields(s: &[u8], c: Cursor, count: usize) -> LineRead
         i += 1;
     }
     LineRead {
-        answer: WordAnswer::Found(Cursor { at }),
+        answer: ReadAnswer::Found(Cursor { at }),
         numbers,
     }
 }
@@ -66,16 +66,16 @@ pub fn line(s: &[u8], c: Cursor, w: &[u8], count: usize) -> LineRead
     ensures { λ r. ⌜ r ≡ lineRead c (line (now (w .entry)) count (drop (c .at) (now (s .entry)))) ⌝ }
 {
     let first = word(s, c, w);
-    let WordAnswer::Found(begin) = first else {
+    let ReadAnswer::Found(begin) = first else {
         return LineRead::otherwise();
     };
     let f = fields(s, begin, count);
     let middle = f.answer;
-    let WordAnswer::Found(end) = middle else {
+    let ReadAnswer::Found(end) = middle else {
         return LineRead::otherwise();
     };
     let last = word(s, end, b"\n");
-    let WordAnswer::Found(_) = last else {
+    let ReadAnswer::Found(_) = last else {
         return LineRead::otherwise();
     };
     let numbers = f.numbers;

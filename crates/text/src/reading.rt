@@ -7,26 +7,26 @@ pub struct Cursor {
     pub at: usize,
 }
 
-// A word stands at a cursor, and the bytes after it begin at the next; or it does not.
-pub enum WordAnswer {
+// What is read, a word or a line, stands at a cursor, and the bytes after it begin at the next; or it does not.
+pub enum ReadAnswer {
     Found(Cursor),
     Otherwise,
 }
 
-pub fn word(s: &[u8], c: Cursor, w: &[u8]) -> WordAnswer
+pub fn word(s: &[u8], c: Cursor, w: &[u8]) -> ReadAnswer
     ensures { λ a. ⌜ a ≡ wordAnswer c (word (now (w .entry)) (drop (c .at) (now (s .entry)))) ⌝ }
 {
     let mut at = c.at;
     let mut i = 0;
     while i < w.len() {
         if s.len() <= at {
-            return WordAnswer::Otherwise;
+            return ReadAnswer::Otherwise;
         }
         if w[i] != s[at] {
-            return WordAnswer::Otherwise;
+            return ReadAnswer::Otherwise;
         }
         at += 1;
         i += 1;
     }
-    WordAnswer::Found(Cursor { at })
+    ReadAnswer::Found(Cursor { at })
 }

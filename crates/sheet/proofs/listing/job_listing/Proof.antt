@@ -69,26 +69,26 @@ taken c =
 array-share-prefix-forces : tie.Need-array-share-prefix-forces
 array-share-prefix-forces c = search needs
 
-slice-aggregate-account-of : tie.Need-slice-aggregate-account-of
-slice-aggregate-account-of c = sym (forces-cut (c .before .before .before .before .before .before .before .before .before .before .before .before .before .args .site) (c .before .before .before .before .before .before .before .before .before .before .before .before .before .args .frame) (c .before .before .before .before .before .before .before .before .before .before .before .before .before .args .weights .now) (c .before .before .before .before .before .before .before .before .before .before .before .before .before .args .heights .now) (c .before .before .before .before .before .before .before .before .before .before .before .before .before .pre) _ _ (taken (c .before .before)))
+slice-aggregate-results-listing : tie.Need-slice-aggregate-results-listing
+slice-aggregate-results-listing c = sym (forces-cut (c .before .before .before .before .before .before .before .before .before .before .before .before .before .args .site) (c .before .before .before .before .before .before .before .before .before .before .before .before .before .args .frame) (c .before .before .before .before .before .before .before .before .before .before .before .before .before .args .weights .now) (c .before .before .before .before .before .before .before .before .before .before .before .before .before .args .heights .now) (c .before .before .before .before .before .before .before .before .before .before .before .before .before .pre) _ _ (taken (c .before .before)))
 
 array-share-prefix-shears : tie.Need-array-share-prefix-shears
 array-share-prefix-shears c = search needs
 
-slice-aggregate-account-of-2 : tie.Need-slice-aggregate-account-of-2
-slice-aggregate-account-of-2 c = sym (shears-cut (c .before .before .before .before .before .before .before .before .before .before .before .before .before .before .args .site) (c .before .before .before .before .before .before .before .before .before .before .before .before .before .before .args .frame) (c .before .before .before .before .before .before .before .before .before .before .before .before .before .before .args .weights .now) (c .before .before .before .before .before .before .before .before .before .before .before .before .before .before .args .heights .now) (c .before .before .before .before .before .before .before .before .before .before .before .before .before .before .pre) _ _ (taken (c .before .before .before)))
+slice-aggregate-results-listing-2 : tie.Need-slice-aggregate-results-listing-2
+slice-aggregate-results-listing-2 c = sym (shears-cut (c .before .before .before .before .before .before .before .before .before .before .before .before .before .before .args .site) (c .before .before .before .before .before .before .before .before .before .before .before .before .before .before .args .frame) (c .before .before .before .before .before .before .before .before .before .before .before .before .before .before .args .weights .now) (c .before .before .before .before .before .before .before .before .before .before .before .before .before .before .args .heights .now) (c .before .before .before .before .before .before .before .before .before .before .before .before .before .before .pre) _ _ (taken (c .before .before .before)))
 
 array-share-prefix-overturnings : tie.Need-array-share-prefix-overturnings
 array-share-prefix-overturnings c = search needs
 
-slice-aggregate-account-of-3 : tie.Need-slice-aggregate-account-of-3
-slice-aggregate-account-of-3 c = sym (overturnings-cut (c .before .before .before .before .before .before .before .before .before .before .before .before .before .before .before .args .site) (c .before .before .before .before .before .before .before .before .before .before .before .before .before .before .before .args .frame) (c .before .before .before .before .before .before .before .before .before .before .before .before .before .before .before .args .weights .now) (c .before .before .before .before .before .before .before .before .before .before .before .before .before .before .before .args .heights .now) (c .before .before .before .before .before .before .before .before .before .before .before .before .before .before .before .pre) _ _ (taken (c .before .before .before .before)))
+slice-aggregate-results-listing-3 : tie.Need-slice-aggregate-results-listing-3
+slice-aggregate-results-listing-3 c = sym (overturnings-cut (c .before .before .before .before .before .before .before .before .before .before .before .before .before .before .before .args .site) (c .before .before .before .before .before .before .before .before .before .before .before .before .before .before .before .args .frame) (c .before .before .before .before .before .before .before .before .before .before .before .before .before .before .before .args .weights .now) (c .before .before .before .before .before .before .before .before .before .before .before .before .before .before .before .args .heights .now) (c .before .before .before .before .before .before .before .before .before .before .before .before .before .before .before .pre) _ _ (taken (c .before .before .before .before)))
 
-account-of-requires : tie.Need-account-of-requires
-account-of-requires c κs = cut-levelled (c .before .before .before .before .before .before .before .before .before .before .before .before .before .before .before .args .site) (c .before .before .before .before .before .before .before .before .before .before .before .before .before .before .before .args .frame) (c .before .before .before .before .before .before .before .before .before .before .before .before .before .before .before .args .weights .now) (c .before .before .before .before .before .before .before .before .before .before .before .before .before .before .before .args .heights .now) (c .before .before .before .before .before .before .before .before .before .before .before .before .before .before .before .pre) _ _ (taken (c .before .before .before .before))
+results-listing-requires : tie.Need-results-listing-requires
+results-listing-requires c κs = cut-levelled (c .before .before .before .before .before .before .before .before .before .before .before .before .before .before .before .args .site) (c .before .before .before .before .before .before .before .before .before .before .before .before .before .before .before .args .frame) (c .before .before .before .before .before .before .before .before .before .before .before .before .before .before .before .args .weights .now) (c .before .before .before .before .before .before .before .before .before .before .before .before .before .before .before .args .heights .now) (c .before .before .before .before .before .before .before .before .before .before .before .before .before .before .before .pre) _ _ (taken (c .before .before .before .before))
 
 returns-3 : tie.Need-returns-3
-returns-3 c = c .account-of .ensures ∙ ap printed (taken-listing (c .before .before .before .before .before .before .before .before .before .before .before .before .before .before .before .before .args .site) (c .before .before .before .before .before .before .before .before .before .before .before .before .before .before .before .before .args .frame) (c .before .before .before .before .before .before .before .before .before .before .before .before .before .before .before .before .args .weights .now) (c .before .before .before .before .before .before .before .before .before .before .before .before .before .before .before .before .args .heights .now) (c .before .before .before .before .before .before .before .before .before .before .before .before .before .before .before .before .pre) _ _ (taken (c .before .before .before .before .before)))
+returns-3 c = c .results-listing .ensures ∙ ap printed (taken-listing (c .before .before .before .before .before .before .before .before .before .before .before .before .before .before .before .before .args .site) (c .before .before .before .before .before .before .before .before .before .before .before .before .before .before .before .before .args .frame) (c .before .before .before .before .before .before .before .before .before .before .before .before .before .before .before .before .args .weights .now) (c .before .before .before .before .before .before .before .before .before .before .before .before .before .before .before .before .args .heights .now) (c .before .before .before .before .before .before .before .before .before .before .before .before .before .before .before .before .pre) _ _ (taken (c .before .before .before .before .before)))
 
 pub job-listing-spec : {M : Type 1} → statement M
 job-listing-spec =
@@ -108,10 +108,10 @@ job-listing-spec =
     refusal-of-requires-2
     returns-2
     array-share-prefix-forces
-    slice-aggregate-account-of
+    slice-aggregate-results-listing
     array-share-prefix-shears
-    slice-aggregate-account-of-2
+    slice-aggregate-results-listing-2
     array-share-prefix-overturnings
-    slice-aggregate-account-of-3
-    account-of-requires
+    slice-aggregate-results-listing-3
+    results-listing-requires
     returns-3)

@@ -3,7 +3,7 @@ use borrow.Author.Needs.{needs}
 use mathlib.Core.Path.{sym, ap₂, _∙_}
 use mathlib.Core.List.{List}
 use Prim.Native.Nat.{ℕ}
-use Rattle.text.specs.declared.reading.WordAnswer.{WordAnswer}
+use Rattle.text.specs.declared.reading.ReadAnswer.{ReadAnswer}
 use Rattle.text.proofs.Lines.{line-first, line-middle, line-last, line-whole}
 use Rattle.text.proofs.Readings.{word-missed, line-missed, word-went, line-went}
 use Rattle.text.proofs.line.line.Statement.{statement}
@@ -75,7 +75,7 @@ returns-4 c =
     let middle = line-went (c .before .before .before .before .before .before .before .before .before .before .first .given .0 .0) _ _ _ (c .before .before .before .before .before .before .before .before .fields .ensures) (c .before .before .before .before .before .before .middle .given .1) in
     let ends = c .before .enum-told3 .given .1 in
     let last = word-went (c .before .before .before .before .before .before .middle .given .0 .0) _ _ (sym (c .before .before .before .word2 .ensures) ∙ ends) in
-    ap₂ (λ (x : WordAnswer) (l : List ℕ). record { answer = x; numbers = l }) ends (middle .held-is)
+    ap₂ (λ (x : ReadAnswer) (l : List ℕ). record { answer = x; numbers = l }) ends (middle .held-is)
     ∙ sym (line-whole (a .s .now) (a .w .now) (a .count) (a .c) _ first _ _ (middle .went) _ last)
 
 pub line-spec : {M : Type 1} → statement M

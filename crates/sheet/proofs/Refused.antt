@@ -1,0 +1,27 @@
+-- What is refused, of judgments taken one after the other: one of them refuses, with the same number at the same place. And of an
+-- answer of the code that refuses: it is of an outcome that does.
+-- Assumes nothing.
+use mathlib.Core.Path.{_≡_, refl, sym, ap, _∙_}
+use mathlib.Core.Logic.{_⊎_, inl, inr}
+use Prim.Native.Nat.{ℕ}
+use Rattle.limits.specs.Outcome.{Outcome, accepted, refused, number, place, Done, _>>=_}
+use Rattle.limits.proofs.Passed.{never}
+
+pub one-refusal : {A : Type 0} {n p m q : ℕ} → _≡_ {A = Outcome A} (refused n p) (refused m q) → (n ≡ m) × (p ≡ q)
+one-refusal e = (ap number e, ap place e)
+
+pub bind-refused : {A B : Type 0} {n q : ℕ} (o : Outcome A) (f : A → Outcome B) → (o >>= f) ≡ refused n q
+    → (o ≡ refused n q) ⊎ ((a : A) × (o ≡ accepted a) × (f a ≡ refused n q))
+bind-refused (accepted a) f e = inr (a, refl, e)
+bind-refused (refused m p) f e = let r = one-refusal e in inl (rw (r .0, r .1))
+
+-- what only makes something of a value refuses as that which gives the value
+pub only : {A B : Type 0} {n q : ℕ} (o : Outcome A) (f : A → B) → (o >>= λ a. accepted (f a)) ≡ refused n q → o ≡ refused n q
+only (accepted a) f e = absurd (never (sym e))
+only (refused m p) f e = let r = one-refusal e in rw (r .0, r .1)
+
+-- what is held of an outcome says a refusal only where the outcome is that refusal
+module _ {A H : Type 0} (held : Outcome A → H) (said : H → Outcome Done)
+    (is : (o : Outcome A) → said (held o) ≡ (o >>= λ _. accepted tt)) where
+  pub answer-refused : (o : Outcome A) (h : H) {n p : ℕ} → h ≡ held o → said h ≡ refused n p → o ≡ refused n p
+  answer-refused o h e m = only o (λ _. tt) (sym (is o) ∙ ap said (sym e) ∙ m)
