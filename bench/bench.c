@@ -54,7 +54,7 @@ static double log_round(Log *log, const u64 *d, const u64 *kinds, u64 *values)
     double start = now();
     for (long i = 0; i < calls; i++) {
         values[0] = 2 + i % 20;
-        kept += log(d, 40, kinds, 40, values, 40).class;
+        kept += log(d, 40, kinds, 40, values, 40).class_number;
     }
     return (now() - start) / calls;
 }

@@ -46,13 +46,13 @@ JobReply double_job(Site s, Frame f, const u64 *w, size_t n, const u64 *h, size_
     for (size_t x = 0; x < n; x++) W += 1000.0 * w[x], P += (double)w[x] * h[x];
     double t = c[f.kind - 1] * pow(h[n - 1] / 10.0, 0.75);
     if (f.calculated) t = fmin(f.calculated / 1000.0, 1.4 * t);
-    const double *fa = FA[s.class - 1], *fv = FV[s.class - 1];
+    const double *fa = FA[s.class_number - 1], *fv = FV[s.class_number - 1];
     double ss = s.ssd * s.na / 1e4, s1 = s.s1d * s.nv / 1e4, ms = s.ssm * s.na / 1e4, m1 = s.s1m * s.nv / 1e4;
     double ps = s.ssd / 100.0, p1 = s.s1d / 100.0, r = f.r / 100.0, design = 1 + (r - 1) / 1.5;
     double a = between(COLUMNS_A, fa, ss) * ss, b = between(COLUMNS_V, fv, s1) * s1;
     double am = between(COLUMNS_A, fa, ms) * ms, bm = between(COLUMNS_V, fv, m1) * m1;
     double ap = between(COLUMNS_A, fa, ps) * ps, bp = between(COLUMNS_V, fv, p1) * p1;
-    double share = f.i / 1.4 / f.alpha * W, fs = factor(ap, bp, t, design);
+    double share = f.i / 1.4 / f.alpha_y * W, fs = factor(ap, bp, t, design);
     double v = share * modified(spectrum(a, b, t) / factor(a, b, t, design));
     double vm = share * modified(spectrum(am, bm, t) / factor(am, bm, t, r));
     double star = share / 3 * fs * modified(spectrum(ap, bp, t) / fs), vd = fmax(fmax(v, vm), star);

@@ -95,7 +95,7 @@ JobReply integer_job(Site s, Frame f, const u64 *w, size_t n, const u64 *h, size
     u64 W = 0, P = 0;
     for (size_t x = 0; x < n; x++) W += w[x], P += w[x] * h[x];
     u64 T = period(f, h[n - 1]);
-    const u64 *fa = FA[s.class - 1], *fv = FV[s.class - 1];
+    const u64 *fa = FA[s.class_number - 1], *fv = FV[s.class_number - 1];
     u64 ss = s.ssd * s.na, s1 = s.s1d * s.nv, ms = s.ssm * s.na, m1 = s.s1m * s.nv, ps = 100 * s.ssd, p1 = 100 * s.s1d;
     u64 a = between(COLUMNS_A, fa, ss) * ss, b = between(COLUMNS_V, fv, s1) * s1;
     u64 am = between(COLUMNS_A, fa, ms) * ms, bm = between(COLUMNS_V, fv, m1) * m1;
@@ -104,8 +104,8 @@ JobReply integer_job(Site s, Frame f, const u64 *w, size_t n, const u64 *h, size
     u64 q = up(spectrum(a, b, T) * 1000000, lower_factor(a, b, T, design, f.r - 25, 75));
     u64 qm = up(spectrum(am, bm, T) * 1000000, lower_factor(am, bm, T, mce, f.r - 50, 50));
     u64 p = blended(spectrum(ap, bp, T), upper_factor(ap, bp, T, design, f.r - 25, 75));
-    u64 v = up(f.i * modified(q) * W, 1400 * f.alpha), vm = up(f.i * modified(qm) * W, 1400 * f.alpha);
-    u64 star = up(f.i * p * W, 4200 * f.alpha), vd = v > vm ? v : vm;
+    u64 v = up(f.i * modified(q) * W, 1400 * f.alpha_y), vm = up(f.i * modified(qm) * W, 1400 * f.alpha_y);
+    u64 star = up(f.i * p * W, 4200 * f.alpha_y), vd = v > vm ? v : vm;
     if (star > vd) vd = star;
     u64 ft = up(7 * T * vd, 100000), px = 0, above = 0;
     for (size_t x = n; x-- > 0;) {

@@ -29,10 +29,10 @@ u64 judged(Site s, Frame f, const u64 *w, size_t n, const u64 *h, size_t m, size
     if (!among(s1m, 4, s.s1m)) return refusal(5, 4);
     if (s.na < 100 || s.na > 150) return refusal(6, 1);
     if (s.nv < 100 || s.nv > 200) return refusal(6, 2);
-    if (s.class < 1 || s.class > 3) return refusal(7, 0);
+    if (s.class_number < 1 || s.class_number > 3) return refusal(7, 0);
     if (f.r < 100 || f.r > 600) return refusal(8, 0);
     if (!among(i_values, 3, f.i)) return refusal(9, 0);
-    if (f.alpha < 100 || f.alpha > 200) return refusal(10, 0);
+    if (f.alpha_y < 100 || f.alpha_y > 200) return refusal(10, 0);
     if (f.kind < 1 || f.kind > 4) return refusal(11, 0);
     if (f.calculated > 60000) return refusal(12, 0);
     return 0;

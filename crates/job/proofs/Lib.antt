@@ -4,6 +4,7 @@ pub mod Unique
 pub mod Answered
 pub mod Refusing
 pub mod Independent
+pub mod Calls
 pub mod Storeys
 pub mod Demand3
 pub mod Worked

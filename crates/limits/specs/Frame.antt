@@ -1,6 +1,7 @@
 -- Numbers 8 to 12: the frame.
 --   judgedKind n     11: kind not 1 steel frame, 2 RC or SRC frame, 3 eccentric brace, 4 other
 --   judgedPeriod c    12: a calculated period that is neither 0, for none, nor 1 to 60,000 ms
+--   frameOf v k       the judged frame of values v and kind k
 --   judgedFrame v     8: R not 1.00 to 6.00; 9: I not 1.00, 1.25, 1.50; 10: alpha-y not 1.00 to 2.00; 11; 12
 --   kindOutcome a, frameOutcome a    what the code's answer a says
 use mathlib.Core.List.{[], _∷_}

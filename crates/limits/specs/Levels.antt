@@ -1,7 +1,8 @@
 -- Numbers 1 to 4: the levels of a job.
 --   counted n          1: no level, or over 50, at 0; judged on the weight list
---   paired n m         2: m heights for n weights, at 0
+--   paired n m         2: a list of m beside one of n, at 0: heights beside weights; in a soil log kinds and values beside thicknesses
 --   roomy n cells      2: a result buffer of fewer cells than levels, at 0
+--   judgedWeight w p, judgedHeight b h p    3 and 4 of one level, at p
 --   weighed p ws       3: the first weight that is not 1 to 20,000 kN; the first of the list stands at place p
 --   raised b p hs      4: the first height that is not 1 to 2,000 dm or not above the one below it, b below the first
 --   judgedLevels ws hs room    1, 2, 3, 4 in turn; room is the length of the shortest result buffer

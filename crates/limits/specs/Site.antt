@@ -2,6 +2,7 @@
 --   judgedClass n        7: class not 1 hard, 2 normal, 3 soft
 --   judgedMapped v       5: a mapped value that is not listed, places 1 to 4 in sheet order
 --   judgedNearFault v    6: N_A not 1.00 to 1.50, place 1; N_V not 1.00 to 2.00, place 2
+--   siteOf v c           the judged site of values v and class c
 --   judgedSite v         5, 6, 7 in turn
 --   classOutcome a, siteOutcome a    what the code's answer a says
 use mathlib.Core.List.{List, [], _∷_}

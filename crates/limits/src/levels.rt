@@ -21,7 +21,7 @@ pub fn counted(levels: usize) -> Verdict
     )
 }
 
-// 2: as many heights as weights.
+// 2: two lists of one length.
 pub fn paired(levels: usize, heights: usize) -> Verdict
     ensures { λ v. ⌜ verdictOutcome v ≡ paired levels heights ⌝ }
 {

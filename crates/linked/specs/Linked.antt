@@ -1,7 +1,7 @@
 -- What the entries reply to a program in C: 'On success number and place are 0', 'figures 0' where data is refused.
 --   siteValues l, frameValues l    the numbers of a line, as the core takes them
 --   jobReply o                     number, place, V, V_M, V*, V_D and T of an outcome
---   classNumber c, classReply o    1 hard, 2 normal, 3 soft; number, place and class of an outcome
+--   classReply o                   number, place and class of an outcome, the class by its number
 --   JobReplies l m ws hs b r b′    r is the reply, and b′ what the buffers hold that held b
 --   figuresReply, logReply, sheetReply    the replies of the five figures alone, of a soil log and of a sheet
 use mathlib.Core.Path.{_≡_}
@@ -10,11 +10,10 @@ use Prim.Native.Nat.{ℕ}
 use lib.ListN.{length}
 use Rattle.limits.specs.declared.frame.FrameValues.{FrameValues}
 use Rattle.limits.specs.declared.site.Class.{Class}
-use Rattle.limits.specs.declared.site.Class.the-variants.{Hard, Normal, Soft}
 use Rattle.limits.specs.declared.site.SiteValues.{SiteValues}
 use Rattle.limits.specs.Outcome.{Outcome, accepted, refused}
 use Rattle.base_shear.specs.declared.Figures.{Figures}
-use Rattle.soil.specs.Class.{table3}
+use Rattle.soil.specs.Class.{table3, classNumber}
 use Rattle.soil.specs.Log.{siteClass}
 use Rattle.job.specs.Job.{jobOf, figuresOnly, Buffers, shortest, written}
 use Rattle.sheet.specs.Listing.{sheetListing, printed}
@@ -34,11 +33,6 @@ abbrev pub jobReply : Outcome Figures → JobReply
 jobReply (accepted n) =
     record { number = 0; place = 0; v = n .v; vm = n .vm; star = n .star; vd = n .vd; t = n .t }
 jobReply (refused n p) = record { number = n; place = p; v = 0; vm = 0; star = 0; vd = 0; t = 0 }
-
-abbrev pub classNumber : Class → ℕ
-classNumber Hard = 1
-classNumber Normal = 2
-classNumber Soft = 3
 
 abbrev pub classReply : Outcome Class → ClassReply
 classReply (accepted c) = record { number = 0; place = 0; class = classNumber c }

@@ -8,7 +8,8 @@ use sheet::sheet_listing;
 ghost use mathlib.Core.Path.{_≡_};
 ghost use Rattle.limits.specs.Site.{classOutcome};
 ghost use Rattle.job.specs.Job.{answerOutcome};
-ghost use Rattle.linked.specs.Linked.{siteValues, frameValues, jobReply, classNumber, classReply, JobReplies, figuresReply, logReply, sheetReply};
+ghost use Rattle.soil.specs.Class.{classNumber};
+ghost use Rattle.linked.specs.Linked.{siteValues, frameValues, jobReply, classReply, JobReplies, figuresReply, logReply, sheetReply};
 
 // A sheet's site line: S_S and S_1 of the design level, S_S and S_1 of the MCE level, in 0.01 g; N_A and N_V in 0.01; class.
 #[repr(C)]

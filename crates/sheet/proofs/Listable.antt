@@ -1,29 +1,38 @@
--- A sheet laid out as the document says gets what the job gives of its numbers: a listing where no refusal applies to them.
+-- What is printed for a sheet that is read is the listing of what the job gives of its numbers; one that is laid out as the document says
+-- is read, and gets a listing where no refusal applies to its numbers.
 -- Assumes nothing.
 use mathlib.Core.Path.{_≡_, ap, _∙_}
+use mathlib.Core.List.{List}
 use Prim.Native.Nat.{ℕ}
 use lib.ListN.{length}
 use Rattle.limits.specs.declared.judging.Given.{Given}
 use Rattle.limits.specs.Applies.{Applies}
 use Rattle.limits.specs.Judging.{judgedJob}
-use Rattle.limits.specs.Outcome.{Outcome, accepted, _>>=_}
+use Rattle.limits.specs.Outcome.{Outcome, accepted, refused, _>>=_}
 use Rattle.limits.proofs.Refusing.{accepted-unless-refused}
 use Rattle.job.specs.Job.{resultsOf}
 use Rattle.job.proofs.Stages.{job-accepted}
 use Rattle.sheet.proofs.Allowed.{allowed-laid}
 use Rattle.sheet.proofs.LaidRead.{laid-read}
 use Rattle.sheet.specs.Layout.{sheetLaid, Laid}
-use Rattle.sheet.specs.Listing.{listing, jobOfSheet, sheetListing}
-use Rattle.sheet.specs.Reading.{SheetRead}
+use Rattle.sheet.specs.Listing.{refusal, listing, jobOfSheet, sheetListing}
+use Rattle.sheet.specs.Reading.{SheetRead, readSheet}
+
+pub read-listed : (s : List ℕ) (r : SheetRead) → readSheet s ≡ accepted r → sheetListing s ≡ listing (jobOfSheet r)
+unfolding sheetListing
+read-listed s r e = ap (λ (o : Outcome SheetRead). listing (o >>= jobOfSheet)) e
+
+pub unread-listed : (s : List ℕ) (n p : ℕ) → readSheet s ≡ refused n p → sheetListing s ≡ refusal n p
+unfolding sheetListing listing
+unread-listed s n p e = ap (λ (o : Outcome SheetRead). listing (o >>= jobOfSheet)) e
 
 module _ (r : SheetRead) where
   -- refusal n applies to the numbers, at place p
   abbrev pub Wrong : ℕ → ℕ → Type 0
   Wrong = Applies (r .site) (r .frame) (r .weights) (r .heights) (length (r .weights))
 
-  pub laid-job : Laid r → sheetListing (sheetLaid r) ≡ listing (jobOfSheet r)
-  unfolding sheetListing
-  laid-job l = ap (λ (o : Outcome SheetRead). listing (o >>= jobOfSheet)) (laid-read r l)
+  laid-job : Laid r → sheetListing (sheetLaid r) ≡ listing (jobOfSheet r)
+  laid-job l = read-listed (sheetLaid r) r (laid-read r l)
 
   pub laid-listed : ((n p : ℕ) → Wrong n p → ⊥)
       → (g : Given) × (judgedJob (r .site) (r .frame) (r .weights) (r .heights) (length (r .weights)) ≡ accepted g)

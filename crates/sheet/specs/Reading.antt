@@ -1,5 +1,6 @@
 -- 'Sheet and listing': how a sheet is read.
 --   Line                   a line's numbers, and the bytes after it
+--   judgedLine p r bytes   the line that was read as r at the front of the bytes, or 16 at p
 --   lineAt p w k bytes     line p, at the front of the bytes, the word w and k numbers; 16 at p where it is otherwise
 --   siteValues ns          S_S D, S_1 D, S_S M, S_1 M, N_A, N_V, class
 --   frameValues ns         kind, calculated period, R, I, alpha-y
@@ -7,6 +8,7 @@
 --   levelLines p bytes     the lines from line p on to the end, all of them level lines: weight, height
 --   SheetRead, readLines bytes    what the lines of a sheet hold, or 16 at the first that is otherwise
 --   readSheet bytes               17 at 0 where there are over 4,096 bytes; else the same
+--   cellsOf l                     the first 50 of a list in 50 cells, zeros in the rest
 --   levelsRead o, sheetRead o     the code's answer to the outcome o, its weights and heights in 50 cells each
 -- A sheet without level lines is read: 1 is refused by the job. A line that lacks its LF, or that is not there, is otherwise.
 use mathlib.Core.List.{List, [], _∷_}

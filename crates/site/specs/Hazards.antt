@@ -1,8 +1,8 @@
 -- The three hazards of a site and an R, with the constants of the shears.
---   Mapped ss s1 na nv  mapped values and near-fault factors of either level, as allowed
---   levelOf c ss s1 na nv k q      A and B from mapped values and near-fault factors, with a capacity k and its square q
---   designLevel c ss s1 na nv R    with the design capacity of R
---   mceLevel c ss s1 na nv R       with R itself
+--   Mapped ss s1 na nv  mapped values between the least and the largest of both levels, and near-fault factors as allowed
+--   hazardOf c ss s1 na nv k q      A and B from mapped values and near-fault factors, with a capacity k and its square q
+--   designHazard c ss s1 na nv R    with the design capacity of R
+--   mceHazard c ss s1 na nv R       with R itself
 --   lines               (8), (18): 0.3, 0.8; 0.52, 0.144; 0.7
 --   hazardsOf site R    V's, V_M's, and V*'s with both near-fault factors taken as 100; the divisors 1.4 of (7), (17) and 4.2 of
 --                       (19), in tenths
@@ -22,8 +22,8 @@ pub record Mapped (ss s1 na nv : ℕ) : Type 0 where
   pub n-a : (100 ≤ na) × (na ≤ 150)
   pub n-v : (100 ≤ nv) × (nv ≤ 200)
 
-abbrev pub levelOf : Class → ℕ → ℕ → ℕ → ℕ → Fraction → Fraction → Hazard
-levelOf c ss s1 na nv capacity square =
+abbrev pub hazardOf : Class → ℕ → ℕ → ℕ → ℕ → Fraction → Fraction → Hazard
+hazardOf c ss s1 na nv capacity square =
     record {
       a = accelerationA c (factored ss na);
       b = accelerationB c (factored s1 nv);
@@ -31,11 +31,11 @@ levelOf c ss s1 na nv capacity square =
       square = square;
     }
 
-abbrev pub designLevel : Class → ℕ → ℕ → ℕ → ℕ → ℕ → Hazard
-designLevel c ss s1 na nv R = levelOf c ss s1 na nv (designCapacity R) (designSquare R)
+abbrev pub designHazard : Class → ℕ → ℕ → ℕ → ℕ → ℕ → Hazard
+designHazard c ss s1 na nv R = hazardOf c ss s1 na nv (designCapacity R) (designSquare R)
 
-abbrev pub mceLevel : Class → ℕ → ℕ → ℕ → ℕ → ℕ → Hazard
-mceLevel c ss s1 na nv R = levelOf c ss s1 na nv (mceCapacity R) (mceSquare R)
+abbrev pub mceHazard : Class → ℕ → ℕ → ℕ → ℕ → ℕ → Hazard
+mceHazard c ss s1 na nv R = hazardOf c ss s1 na nv (mceCapacity R) (mceSquare R)
 
 abbrev pub lines : Lines
 lines = record { first = 300; second = 800; slope = 520; add = 144; last = 700 }
@@ -43,9 +43,9 @@ lines = record { first = 300; second = 800; slope = 520; add = 144; last = 700 }
 abbrev pub hazardsOf : Site → ℕ → Hazards
 hazardsOf site R =
     record {
-      design = designLevel (site .class) (site .ssd) (site .s1d) (site .na) (site .nv) R;
-      mce = mceLevel (site .class) (site .ssm) (site .s1m) (site .na) (site .nv) R;
-      star = designLevel (site .class) (site .ssd) (site .s1d) 100 100 R;
+      design = designHazard (site .class) (site .ssd) (site .s1d) (site .na) (site .nv) R;
+      mce = mceHazard (site .class) (site .ssm) (site .s1m) (site .na) (site .nv) R;
+      star = designHazard (site .class) (site .ssd) (site .s1d) 100 100 R;
       lines = lines;
       divisor = 14;
       stardivisor = 42;

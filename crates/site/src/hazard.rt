@@ -19,7 +19,7 @@ pub struct Lines {
     pub last: u64,
 }
 
-// The hazards of V, V_M and V*, the lines, and the overstrength in tenths: 1.4 of V and V_M, 4.2 of V*.
+// The hazards of V, V_M and V*, the lines, and the divisors in tenths: 1.4 of V and V_M, 4.2 of V*.
 pub struct Hazards {
     pub design: Hazard,
     pub mce: Hazard,

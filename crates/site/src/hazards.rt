@@ -14,7 +14,7 @@ use whole::Fraction;
 ghost use mathlib.Core.Path.{_≡_};
 ghost use Prim.Native.Nat.{_≤_};
 ghost use Rattle.limits.specs.Allowed.{AllowedSite};
-ghost use Rattle.site.specs.Hazards.{Mapped, levelOf, hazardsOf};
+ghost use Rattle.site.specs.Hazards.{Mapped, hazardOf, hazardsOf};
 
 // The near-fault factor of a site that has none, in 0.01.
 const NO_FACTOR: u64 = 100;
@@ -28,13 +28,13 @@ pub const LINES: Lines = Lines {
     last: 700,
 };
 
-// The overstrength of (7) and (17), and that of (19), in tenths.
+// The divisors of (7) and (17), 1.4, and of (19), 4.2, in tenths.
 const DIVISOR: u64 = 14;
 
 const STAR_DIVISOR: u64 = 42;
 
 // A and B from mapped values and near-fault factors, with a capacity and its square.
-pub fn level(
+pub fn hazard(
     class: Class,
     ss: u64,
     s1: u64,
@@ -44,7 +44,7 @@ pub fn level(
     square: Fraction,
 ) -> Hazard
     requires { ⌜ Mapped ss s1 na nv ⌝ }
-    ensures { λ h. ⌜ h ≡ levelOf class ss s1 na nv capacity square ⌝ }
+    ensures { λ h. ⌜ h ≡ hazardOf class ss s1 na nv capacity square ⌝ }
 {
     let a = acceleration_a(class, ss * na);
     let b = acceleration_b(class, s1 * nv);
@@ -65,7 +65,7 @@ pub fn hazards_of(site: Site, r: u64) -> Hazards
     let allowable = design_capacity(r);
     let square = design_square(r);
     Hazards {
-        design: level(
+        design: hazard(
             class,
             site.ssd,
             site.s1d,
@@ -74,7 +74,7 @@ pub fn hazards_of(site: Site, r: u64) -> Hazards
             allowable,
             square,
         ),
-        mce: level(
+        mce: hazard(
             class,
             site.ssm,
             site.s1m,
@@ -83,7 +83,7 @@ pub fn hazards_of(site: Site, r: u64) -> Hazards
             mce_capacity(r),
             mce_square(r),
         ),
-        star: level(
+        star: hazard(
             class,
             site.ssd,
             site.s1d,

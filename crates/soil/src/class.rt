@@ -1,3 +1,4 @@
+// Table 3: the site class of the times U and L.
 use crate::times::Times;
 use limits::site::Class;
 ghost use mathlib.Core.Path.{_≡_};

@@ -1,3 +1,4 @@
+// The soil log: judged in the order of its refusals, then timed and classed.
 use crate::class::ClassLimits;
 use crate::class::class_of;
 use crate::times::TimesAnswer;

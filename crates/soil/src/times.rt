@@ -1,3 +1,4 @@
+// The time of each layer in ns, rounded up and down, and the sums U and L.
 use crate::velocity::VelocityAnswer;
 use crate::velocity::velocity;
 use limits::refusal::Refusal;

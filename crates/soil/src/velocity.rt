@@ -1,3 +1,4 @@
+// The velocity of a layer by its kind: measured, or by its blow count (3.a), (3.b).
 use limits::layer::Layer;
 use limits::ranges::within;
 use limits::refusal::Refusal;

@@ -1,3 +1,4 @@
+// (23) without its factor: overturning about the bottom of each storey, in N·dm.
 ghost use mathlib.Core.Path.{_≡_};
 ghost use Prim.Native.Nat.{_≤_};
 ghost use lib.ListN.{length};

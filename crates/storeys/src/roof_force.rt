@@ -1,3 +1,4 @@
+// F_t, the part of the base shear at the roof.
 use whole::quotients::up;
 ghost use mathlib.Core.Path.{_≡_};
 ghost use Rattle.storeys.specs.Reach.{Load};

@@ -1,3 +1,4 @@
+// (21): the shear under each level.
 use crate::roof_force::roof_force;
 use crate::weight_height::above_lowest;
 use crate::weight_height::weight_height;

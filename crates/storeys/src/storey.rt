@@ -1,3 +1,4 @@
+// The three columns of a listing, storey by storey.
 use crate::level_force::fill_forces;
 use crate::overturning::fill_overturnings;
 use crate::shear::fill_shears;

@@ -1,3 +1,4 @@
+// P and P_x: weight times height, added.
 ghost use mathlib.Core.Path.{_≡_};
 ghost use Prim.Native.Nat.{_<_};
 ghost use lib.ListN.{length, drop};

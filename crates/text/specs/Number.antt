@@ -1,7 +1,8 @@
 -- A number: '1 to 9 digits and no leading zero (0 itself allowed)'.
 --   digits bytes        the digits at the front, as they stand
---   value ds            the number that digits write, first digit first
+--   value ds            the number that digits write, first digit first; valueFrom v ds    the same after digits that write v
 --   leadingZero n b     n digits of which the first is b have a leading zero: 0 itself has none
+--   wellMade ds         1 to 9 digits, and no leading zero
 --   number              a number, read
 --   numberAnswer c o    the code's answer to the reading o of the bytes from c on
 --   counted ds          how many digits there are and what they write, as the code holds it

@@ -1,3 +1,4 @@
+// A number of 1 to 9 digits with no leading zero.
 use crate::reading::Cursor;
 use limits::sheet::Sheet;
 ghost use mathlib.Core.Path.{_≡_};

@@ -1,3 +1,4 @@
+// A place in the bytes of a sheet, and a word read there.
 ghost use mathlib.Core.Path.{_≡_};
 ghost use lib.ListN.{drop};
 ghost use Rattle.text.specs.Reading.{word, wordAnswer};

@@ -1,3 +1,4 @@
+// Words, numbers, fields and lines written into a buffer of bytes.
 ghost use mathlib.Core.Path.{_≡_};
 ghost use Prim.Native.Nat.{_≤_, _+_, _%_};
 ghost use lib.ListN.{length};

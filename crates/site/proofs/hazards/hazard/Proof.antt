@@ -1,11 +1,11 @@
--- `site::hazards::level` meets its contract. Assumes nothing.
+-- `site::hazards::hazard` meets its contract. Assumes nothing.
 use mathlib.Core.Path.{ap₂}
 use Prim.Native.Nat.{ℕ}
 use native.Mathlib.Omega.{arith}
 use Rattle.site.proofs.Bounds.{s-s-bounds, s-1-bounds}
 use Rattle.site.specs.declared.hazard.Hazard.{Hazard}
-use Rattle.site.proofs.hazards.level.Statement.{statement}
-use Rattle.site.proofs.hazards.level.Tie as tie
+use Rattle.site.proofs.hazards.hazard.Statement.{statement}
+use Rattle.site.proofs.hazards.hazard.Tie as tie
 
 mul-acceleration-a : tie.Need-mul-acceleration-a
 mul-acceleration-a c =
@@ -36,8 +36,8 @@ returns c =
     let a = c .before .before .args in
     ap₂ (λ (x y : ℕ). record { a = x; b = y; capacity = a .capacity; square = a .square }) (c .before .acceleration-a .ensures) (c .acceleration-b .ensures)
 
-pub level-spec : {M : Type 1} → statement M
-level-spec =
+pub hazard-spec : {M : Type 1} → statement M
+hazard-spec =
     tie.close
     (tie.spec
     mul-acceleration-a

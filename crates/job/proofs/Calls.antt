@@ -1,0 +1,47 @@
+-- What is proved of a call with buffers holds of every outcome of `jobOf`, and of the figures without buffers: there is such a call.
+--   answerOf o    the answer that says the outcome o
+--   blank ws      buffers of one cell a level
+-- Assumes nothing.
+use mathlib.Core.Path.{_≡_, refl, sym, ap, subst, _∙_}
+use mathlib.Core.List.{List}
+use Prim.Native.Nat.{ℕ, min}
+use native.Mathlib.Omega.{arith}
+use lib.ListN.{length}
+use Rattle.whole.specs.Cells.{cells}
+use Rattle.whole.proofs.Cells.{cells-length}
+use Rattle.limits.specs.declared.frame.FrameValues.{FrameValues}
+use Rattle.limits.specs.declared.site.SiteValues.{SiteValues}
+use Rattle.limits.specs.Outcome.{Outcome, accepted, refused}
+use Rattle.base_shear.specs.declared.Figures.{Figures}
+use Rattle.job.specs.declared.JobAnswer.{JobAnswer}
+use Rattle.job.specs.declared.JobAnswer.the-variants.{Taken, Refused}
+use Rattle.job.specs.Job.{jobOf, figuresOnly, answerOutcome, Buffers, shortest, written, Figured, Answers}
+
+abbrev pub answerOf : Outcome Figures → JobAnswer
+answerOf (accepted n) = Taken n
+answerOf (refused n p) = Refused (record { number = n; place = p })
+
+pub says-outcome : (o : Outcome Figures) → answerOutcome (answerOf o) ≡ o
+says-outcome (accepted n) = refl
+says-outcome (refused n p) = refl
+
+abbrev pub blank : List ℕ → Buffers
+blank ws =
+    record { forces = cells (λ _. 0) (length ws); shears = cells (λ _. 0) (length ws); overturnings = cells (λ _. 0) (length ws) }
+
+blank-room : (ws : List ℕ) → shortest (blank ws) ≡ length ws
+blank-room ws =
+    ap (λ (n : ℕ). min (min n n) n) (cells-length (λ (x : ℕ). 0) (length ws)) ∙ omega arith
+
+module _ (s : SiteValues) (f : FrameValues) (ws hs : List ℕ) where
+  pub outcome-answers : (b : Buffers)
+      → Answers s f ws hs b (answerOf (figuresOnly (jobOf s f ws hs (shortest b)))) (written (jobOf s f ws hs (shortest b)) b)
+  outcome-answers b = (says-outcome _, refl)
+
+  pub figured-answers : (a : JobAnswer) → Figured s f ws hs a
+      → Answers s f ws hs (blank ws) a (written (jobOf s f ws hs (length ws)) (blank ws))
+  figured-answers a p =
+      let room = sym (blank-room ws) in (
+        p ∙ ap (λ (n : ℕ). figuresOnly (jobOf s f ws hs n)) room,
+        ap (λ (n : ℕ). written (jobOf s f ws hs n) (blank ws)) room,
+      )
