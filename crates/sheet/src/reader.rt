@@ -81,7 +81,8 @@ pub fn read_lines(s: &[u8]) -> SheetCells
     let l = last.answer;
     let LevelsAnswer::Taken(count) = l else {
         let LevelsAnswer::Refused(r) = l else {
-            return SheetCells::stopped(0, 0);
+            let none = Refusal::none();
+            return SheetCells::stopped(none.number, none.place);
         };
         return SheetCells::stopped(r.number, r.place);
     };

@@ -65,6 +65,9 @@ enum-known-l-3 c = search needs
 enum-told-3 : tie.Need-enum-told-3
 enum-told-3 c = search needs
 
+none-requires : tie.Need-none-requires
+none-requires c κs = search needs
+
 stopped-requires-3 : tie.Need-stopped-requires-3
 stopped-requires-3 c κs = search needs
 
@@ -117,6 +120,7 @@ read-lines-spec =
     enum-known-l-2
     enum-known-l-3
     enum-told-3
+    none-requires
     stopped-requires-3
     returns-3
     stopped-requires-4
