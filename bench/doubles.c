@@ -45,7 +45,9 @@ JobReply double_job(Site s, Frame f, const u64 *w, size_t n, const u64 *h, size_
     double W = 0, P = 0;
     for (size_t x = 0; x < n; x++) W += 1000.0 * w[x], P += (double)w[x] * h[x];
     double t = c[f.kind - 1] * pow(h[n - 1] / 10.0, 0.75);
-    if (f.calculated) t = fmin(f.calculated / 1000.0, 1.4 * t);
+    t = floor(1000 * t);
+    if (f.calculated) t = fmin(f.calculated, floor(1.4 * t));
+    t /= 1000;
     const double *fa = FA[s.class_number - 1], *fv = FV[s.class_number - 1];
     double ss = s.ssd * s.na / 1e4, s1 = s.s1d * s.nv / 1e4, ms = s.ssm * s.na / 1e4, m1 = s.s1m * s.nv / 1e4;
     double ps = s.ssd / 100.0, p1 = s.s1d / 100.0, r = f.r / 100.0, design = 1 + (r - 1) / 1.5;
@@ -56,18 +58,19 @@ JobReply double_job(Site s, Frame f, const u64 *w, size_t n, const u64 *h, size_
     double v = share * modified(spectrum(a, b, t) / factor(a, b, t, design));
     double vm = share * modified(spectrum(am, bm, t) / factor(am, bm, t, r));
     double star = share / 3 * fs * modified(spectrum(ap, bp, t) / fs), vd = fmax(fmax(v, vm), star);
-    double ft = 0.07 * t * vd, px = 0, above = 0;
+    double ft = 0.07 * t * vd, px = 0, above = 0, force[50], height[50];
     for (size_t x = n; x-- > 0;) {
         px += (double)w[x] * h[x];
-        double under = ft + (vd - ft) * px / P;
-        shears[x] = ceil(under);
-        forces[x] = under - above;
+        height[x] = h[x];
+        double under = ceil(ft + (vd - ft) * px / P);
+        force[x] = under - above;
+        shears[x] = under, forces[x] = force[x];
         above = under;
     }
     for (size_t x = 0; x < n; x++) {
-        double bottom = x ? h[x - 1] : 0, moment = 0;
-        for (size_t k = x; k < n; k++) moment += forces[k] * (h[k] - bottom);
+        double bottom = x ? height[x - 1] : 0, moment = 0;
+        for (size_t k = x; k < n; k++) moment += force[k] * (height[k] - bottom);
         moments[x] = moment;
     }
-    return (JobReply){0, 0, ceil(v), ceil(vm), ceil(star), ceil(vd), t * 1000};
+    return (JobReply){0, 0, ceil(v), ceil(vm), ceil(star), ceil(vd), round(1000 * t)};
 }

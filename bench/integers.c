@@ -86,8 +86,27 @@ static u64 blended(u64 sa, u64 f)
     return up(7 * sa, 10);
 }
 
-JobReply integer_job(Site s, Frame f, const u64 *w, size_t n, const u64 *h, size_t m, u64 *forces, size_t nf, u64 *shears, size_t ns,
-                     u64 *moments, size_t nm)
+/* overturning of each storey summed anew, as document 01 says it and the core does */
+static inline void summed(const u64 *forces, const u64 *shears, const u64 *h, size_t n, u64 *moments)
+{
+    (void)shears;
+    for (size_t x = 0; x < n; x++) {
+        u64 bottom = x ? h[x - 1] : 0, moment = 0;
+        for (size_t k = x; k < n; k++) moment += forces[k] * (h[k] - bottom);
+        moments[x] = moment;
+    }
+}
+
+/* the same figures in one pass: each storey adds its shear times its height */
+static inline void carried(const u64 *forces, const u64 *shears, const u64 *h, size_t n, u64 *moments)
+{
+    (void)forces;
+    u64 moment = 0;
+    for (size_t x = n; x-- > 0;) moments[x] = moment += shears[x] * (h[x] - (x ? h[x - 1] : 0));
+}
+
+static inline JobReply job_by(void overturn(const u64 *, const u64 *, const u64 *, size_t, u64 *), Site s, Frame f, const u64 *w, size_t n,
+                              const u64 *h, size_t m, u64 *forces, size_t nf, u64 *shears, size_t ns, u64 *moments, size_t nm)
 {
     size_t room = nf < ns ? nf : ns;
     u64 refused = judged(s, f, w, n, h, m, room < nm ? room : nm);
@@ -114,12 +133,20 @@ JobReply integer_job(Site s, Frame f, const u64 *w, size_t n, const u64 *h, size
         forces[x] = shears[x] - above;
         above = shears[x];
     }
-    for (size_t x = 0; x < n; x++) {
-        u64 bottom = x ? h[x - 1] : 0, moment = 0;
-        for (size_t k = x; k < n; k++) moment += forces[k] * (h[k] - bottom);
-        moments[x] = moment;
-    }
+    overturn(forces, shears, h, n, moments);
     return (JobReply){0, 0, v, vm, star, vd, T};
+}
+
+JobReply integer_job(Site s, Frame f, const u64 *w, size_t n, const u64 *h, size_t m, u64 *forces, size_t nf, u64 *shears, size_t ns,
+                     u64 *moments, size_t nm)
+{
+    return job_by(summed, s, f, w, n, h, m, forces, nf, shears, ns, moments, nm);
+}
+
+JobReply carried_job(Site s, Frame f, const u64 *w, size_t n, const u64 *h, size_t m, u64 *forces, size_t nf, u64 *shears, size_t ns,
+                     u64 *moments, size_t nm)
+{
+    return job_by(carried, s, f, w, n, h, m, forces, nf, shears, ns, moments, nm);
 }
 
 static u64 velocity(u64 kind, u64 value)

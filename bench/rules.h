@@ -9,6 +9,7 @@ typedef RukeshomajiClass ClassReply;
 typedef RukeshomajiListing SheetReply;
 
 JobReply integer_job(Site, Frame, const u64 *, size_t, const u64 *, size_t, u64 *, size_t, u64 *, size_t, u64 *, size_t);
+JobReply carried_job(Site, Frame, const u64 *, size_t, const u64 *, size_t, u64 *, size_t, u64 *, size_t, u64 *, size_t);
 JobReply double_job(Site, Frame, const u64 *, size_t, const u64 *, size_t, u64 *, size_t, u64 *, size_t, u64 *, size_t);
 ClassReply integer_site_class(const u64 *, size_t, const u64 *, size_t, const u64 *, size_t);
 SheetReply integer_sheet(const uint8_t *, size_t);

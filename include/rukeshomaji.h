@@ -1,13 +1,19 @@
-/* The entries of the core for a program in C: link target/staticlib/liblinked.a, which `rt staticlib linked` writes.
+/* The entries of the core for a program in C or C++, x86-64 (System V): link target/staticlib/liblinked.a, which `rt staticlib linked`
+ * writes.
  *
  * Every input is taken, and nothing is kept between calls. Number and place are 0 on success; where data is refused they are those of
- * the first refusal that applies, every figure is 0, and no buffer is touched. A list is a pointer and its length. The buffers that are
- * written must not overlap each other or the lists.
+ * the first refusal that applies (1 to 17 of document 01's table), every figure is 0, and no buffer is touched. A list is a pointer and
+ * its length, and may be NULL with 0. The buffers that are written must not overlap each other or the lists. No entry uses the heap;
+ * README says how much stack each one takes.
  */
 #ifndef RUKESHOMAJI_H
 #define RUKESHOMAJI_H
 #include <stddef.h>
 #include <stdint.h>
+
+#ifdef __cplusplus
+extern "C" {
+#endif
 
 /* S_S and S_1 of the design level, S_S and S_1 of the MCE level, in 0.01 g; N_A and N_V in 0.01; class 1 hard, 2 normal, 3 soft */
 typedef struct {
@@ -28,7 +34,7 @@ typedef struct {
     uint64_t number, place, class_number;
 } RukeshomajiClass;
 
-/* the bytes that are printed, and how many of them there are */
+/* the bytes that are printed, and how many of them there are; no NUL ends them, and a refusal begins with the word `refused` */
 typedef struct {
     uint8_t bytes[4610];
     size_t length;
@@ -50,5 +56,9 @@ RukeshomajiClass rukeshomaji_site_class(const uint64_t *thicknesses, size_t thic
 
 /* the listing of a sheet, or the line of its refusal */
 RukeshomajiListing rukeshomaji_sheet(const uint8_t *sheet, size_t byte_count);
+
+#ifdef __cplusplus
+}
+#endif
 
 #endif

@@ -5,15 +5,16 @@ usage: python3 tests/compare.py [JOBS [BAD [LOGS [SHEETS [SEED]]]]]
 It prints the count of each stratum, the largest excess over the exact figure of demand 3, and the number of differences.
 """
 
-import multiprocessing
 import random
 import sys
 from collections import Counter
+from concurrent import futures
 
 import core
 import damage
 import drawn_logs
 import faults
+import log_cases
 from draft import draw
 from excess import SHARP, Largest
 from model import job as jobs, sheet, soil
@@ -22,37 +23,45 @@ from sample import all_strata, draw_in
 
 JOBS, BAD, LOGS, SHEETS, SEED = 1_000_000, 120_000, 100_000, 120_000, 1
 A_STRATUM, CHUNK, SHOWN = 500, 2_500, 5
+WITHOUT = 'the same without buffers'
 MEASURED_EACH = 10      # of the jobs drawn from all that is allowed, the exact figure of every tenth is worked out
-OLD = (7, 8, 9)
+OLD = (7_000_000, 8_000_000, 9_000_000)       # what the buffers held: all cells differ
 
 
 class Tally:
     """What was compared, by stratum, what differed, and the largest excess."""
 
     def __init__(self):
-        self.counts, self.differences, self.largest = Counter(), [], Largest()
+        self.counts, self.compared, self.differences, self.largest = Counter(), 0, [], Largest()
 
     def compare(self, stratum, call, got, expected):
         """Count one comparison."""
         self.counts[stratum] += 1
+        self.compared += 1
         if got != expected:
             self.differences.append((stratum, call, got, expected))
 
     def add(self, other):
         """Count another's."""
         self.counts.update(other.counts)
+        self.compared += other.compared
         self.differences += other.differences
         self.largest.add(other.largest)
 
 
+def held(lengths):
+    """What three buffers of these lengths hold before a call."""
+    return [list(range(mark, mark + length)) for mark, length in zip(OLD, lengths)]
+
+
 def answer_of(result, lengths):
-    """The reply that the model's result stands for, and what the buffers hold after."""
-    old = [[mark] * length for mark, length in zip(OLD, lengths)]
+    """The reply that the model's result stands for, what the buffers hold after, and that the lists are as they were."""
+    old = held(lengths)
     if result[0] == 'refused':
-        return (*result[1:], 0, 0, 0, 0, 0), old
+        return (*result[1:], 0, 0, 0, 0, 0), old, True
     cells = (result.forces, result.shears, result.moments)
     return ((0, 0, result.V, result.V_M, result.V_star, result.V_D, result.T),
-            [written + rest[len(written):] for written, rest in zip(cells, old)])
+            [written + rest[len(written):] for written, rest in zip(cells, old)], True)
 
 
 def expected_job(site, frame, weights, heights, lengths):
@@ -62,20 +71,22 @@ def expected_job(site, frame, weights, heights, lengths):
 
 def got_job(library, site, frame, weights, heights, lengths):
     """The core's answer."""
-    return core.job(library, site, frame, weights, heights, [[mark] * length for mark, length in zip(OLD, lengths)])
+    return core.job(library, site, frame, weights, heights, held(lengths))
 
 
 def compare_job(tally, library, stratum, call, measured):
-    """One accepted call, with buffers."""
+    """One accepted call, with buffers and without."""
     result = jobs.job(*call)
-    tally.compare(stratum, call, got_job(library, *call), answer_of(result, call[4]))
+    expected = answer_of(result, call[4])
+    tally.compare(stratum, call, got_job(library, *call), expected)
+    tally.compare(WITHOUT, call, core.figures(library, *call[:4]), expected[0])
     if measured:
         tally.largest.measure(result)
 
 
 def lengths(rng, weights):
-    """Buffers as long as the list, or a little longer."""
-    return tuple(len(weights) + rng.choice((0, 0, 1)) for _ in OLD)
+    """Buffers as long as the list, or longer."""
+    return tuple(len(weights) + (rng.choice((0, 0, 1)) if rng.random() < 0.99 else rng.randrange(1_000)) for _ in OLD)
 
 
 def with_buffers(rng, draft):
@@ -113,7 +124,7 @@ def run_faults(library, tally, calls):
         stratum = f'refusal {expected[0][0]:2}' if expected[0][0] else 'changed, and accepted'
         tally.compare(stratum, call, got_job(library, *call), expected)
         plain = expected_job(*call[:4], (len(call[2]),) * 3)[0]
-        tally.compare('the same without buffers', call, core.figures(library, *call[:4]), plain)
+        tally.compare(WITHOUT, call, core.figures(library, *call[:4]), plain)
 
 
 def run_bad(library, tally, seed, count):
@@ -127,26 +138,49 @@ def run_systematic(library, tally, seed, count):
     run_faults(library, tally, faults.systematic())
 
 
+def compare_log(tally, library, name, lists):
+    """One log, counted by its stratum and by the refusal that the model gives."""
+    answer = soil.log(*lists)
+    expected = (0, 0, answer.cls) if isinstance(answer, soil.Log) else (*answer[1:], 0)
+    tally.compare(f'log, {name}', lists, core.site_class(library, *lists), expected)
+    tally.counts[f'of the logs, refusal {expected[0]}' if expected[0] else 'of the logs, classed'] += 1
+
+
+def run_systematic_logs(library, tally, seed, count):
+    """Every refusal of a log at every layer, both sides of each limit, and the stored logs."""
+    for lists in drawn_logs.systematic():
+        compare_log(tally, library, 'systematic', lists)
+    for case in log_cases.all_cases():
+        compare_log(tally, library, 'of the program logs', log_cases.lists(*case))
+
+
 def run_logs(library, tally, seed, count):
     """Soil logs of every stratum in turn."""
     rng = random.Random(seed)
     for number in range(count):
         name = list(drawn_logs.STRATA)[number % len(drawn_logs.STRATA)]
-        lists = drawn_logs.STRATA[name](rng)
-        answer = soil.log(*lists)
-        expected = (0, 0, answer.cls) if isinstance(answer, soil.Log) else (*answer[1:], 0)
-        tally.compare(f'log, {name}', lists, core.site_class(library, *lists), expected)
+        compare_log(tally, library, name, drawn_logs.STRATA[name](rng))
+
+
+def compare_sheet(tally, library, data):
+    """One sheet; counted by what the model prints first."""
+    expected = sheet.shear(data)
+    first = expected.split(b'\t')
+    stratum = 'sheet listed' if first[0] == b'base' else f'sheet refused {int(first[1]):2}'
+    tally.compare(stratum, data, core.sheet(library, data), expected)
+
+
+def run_stored_sheets(library, tally, seed, count):
+    """The sheets of the program `sheets`."""
+    for path in sorted((core.ROOT / 'crates' / 'sheets' / 'data').iterdir()):
+        compare_sheet(tally, library, path.read_bytes())
 
 
 def run_sheets(library, tally, seed, count):
-    """Sheets, sound and damaged; counted by what the model prints first."""
+    """Sheets, sound and damaged."""
     rng = random.Random(seed)
     for _ in range(count):
-        data = damage.drawn(rng)
-        expected = sheet.shear(data)
-        first = expected.split(b'\t')
-        stratum = 'sheet listed' if first[0] == b'base' else f'sheet refused {int(first[1]):2}'
-        tally.compare(stratum, data, core.sheet(library, data), expected)
+        compare_sheet(tally, library, damage.drawn(rng))
 
 
 def run(task):
@@ -173,18 +207,19 @@ def main(job_count=JOBS, bad=BAD, logs=LOGS, sheets=SHEETS, seed=SEED):
     tasks = [(run_stratum, f'stratum {seed} {each.name}', each.name, count) for each, count in strata()]
     tasks += [(run_sharp, seed, 0)]
     tasks += chunks(run_plain, seed, job_count - sum(count for _, count in strata()) - len(SHARP))
-    tasks += [(run_systematic, seed, 0), *chunks(run_bad, seed, bad), *chunks(run_logs, seed, logs)]
-    tasks += chunks(run_sheets, seed, sheets)
+    tasks += [(run_systematic, seed, 0), *chunks(run_bad, seed, bad)]
+    tasks += [(run_systematic_logs, seed, 0), *chunks(run_logs, seed, logs)]
+    tasks += [(run_stored_sheets, seed, 0), *chunks(run_sheets, seed, sheets)]
     total = Tally()
-    with multiprocessing.Pool() as pool:
-        for tally in pool.imap_unordered(run, tasks):
+    with futures.ProcessPoolExecutor() as pool:     # a core that crashes ends this with an error
+        for tally in pool.map(run, tasks):
             total.add(tally)
     for name, count in sorted(total.counts.items()):
         print(f'{count:9}  {name}')
     print(*total.largest.lines(), sep='\n')
     for stratum, call, got, expected in total.differences[:SHOWN]:
         print('DIFFERS', stratum, call, got, expected)
-    print(f'seed {seed}: {sum(total.counts.values())} comparisons, {len(total.differences)} differences')
+    print(f'seed {seed}: {total.compared} comparisons, {len(total.differences)} differences')
     return 1 if total.differences else 0
 
 

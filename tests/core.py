@@ -71,17 +71,36 @@ def lent(numbers):
     return (U64 * len(numbers))(*numbers), len(numbers)
 
 
+GUARD = 8
+PAINT = 0xA5A5A5A5A5A5A5A5
+
+
+def lent_out(cells):
+    """Cells in the middle of a longer array, and what says whether anything beside them was written."""
+    array = (U64 * (len(cells) + 2 * GUARD))(*[PAINT] * GUARD, *cells, *[PAINT] * GUARD)
+    return array, ctypes.cast(ctypes.byref(array, GUARD * ctypes.sizeof(U64)), ctypes.POINTER(U64)), len(cells)
+
+
+def cells_of(array):
+    """What the cells hold after; None where something beside them was written."""
+    numbers = list(array)
+    beside = numbers[:GUARD] + numbers[len(numbers) - GUARD:]
+    return numbers[GUARD:len(numbers) - GUARD] if set(beside) == {PAINT} else None
+
+
 def numbers_of(struct):
     """The fields of a reply, in order."""
     return tuple(getattr(struct, name) for name, _ in struct._fields_)
 
 
 def job(library, site, frame, weights, heights, buffers):
-    """(number, place, V, V_M, V*, V_D, T) and what the three buffers hold after."""
-    out = [lent(each) for each in buffers]
-    reply = library.rukeshomaji_job(Site(*site), Frame(*frame), *lent(weights), *lent(heights),
-                                    *(part for each in out for part in each))
-    return numbers_of(reply), [list(cells) for cells, _ in out]
+    """(number, place, V, V_M, V*, V_D, T), what the three buffers hold after, and whether the lists are as they were."""
+    out = [lent_out(each) for each in buffers]
+    lists = [lent(weights), lent(heights)]
+    reply = library.rukeshomaji_job(Site(*site), Frame(*frame), *lists[0], *lists[1],
+                                    *(part for _, pointer, length in out for part in (pointer, length)))
+    same = [list(array) for array, _ in lists] == [list(weights), list(heights)]
+    return numbers_of(reply), [cells_of(array) for array, _, _ in out], same
 
 
 def figures(library, site, frame, weights, heights):

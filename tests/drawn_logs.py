@@ -22,18 +22,17 @@ def plain(rng):
 
 def at_limit(rng):
     """One measured layer's velocity set so that the average comes as near to 180 or 270 m/s as a whole dm/s allows."""
-    ds, kinds, values = plain(rng)
-    layer = rng.randrange(len(ds))
-    limit = rng.choice((1_800, 2_700))
-    kinds[layer] = soil.MEASURED
-    rest = sum(10**8 * d / soil.velocity(kind, value)
-               for i, (d, kind, value) in enumerate(zip(ds, kinds, values)) if i != layer)
-    left = 10**8 * soil.THICKNESS_SUM / limit - rest
-    if left <= 0:
-        return ds, kinds, values
-    speed = round(10**8 * ds[layer] / left) + rng.randint(-1, 1)
-    values[layer] = min(max(speed, 500), 30_000)
-    return ds, kinds, values
+    while True:
+        ds, kinds, values = plain(rng)
+        layer = rng.randrange(len(ds))
+        limit = rng.choice((1_800, 2_700))
+        rest = sum(10**8 * d / soil.velocity(kind, value)
+                   for i, (d, kind, value) in enumerate(zip(ds, kinds, values)) if i != layer)
+        left = 10**8 * soil.THICKNESS_SUM / limit - rest
+        speed = round(10**8 * ds[layer] / left) + rng.randint(-1, 1) if left > 0 else 0
+        if speed in soil.VALUE[soil.MEASURED]:
+            kinds[layer], values[layer] = soil.MEASURED, speed
+            return ds, kinds, values
 
 
 def exactly(rng):
@@ -55,6 +54,30 @@ def spoilt(rng):
         near = rng.choice((0, 1, 2, 3, 4, 25, 26, 50, 51, 499, 500, 30_000, 30_001, 3_000, MOST, rng.randrange(4_000)))
         lists[which] = [*lists[which][:place], near, *lists[which][place + 1:]]
     return tuple(lists)
+
+
+def put(numbers, place, value):
+    """The numbers with one changed."""
+    return [*numbers[:place], value, *numbers[place + 1:]]
+
+
+def systematic():
+    """0 to 43 layers, also in one list alone; at each of 40 layers a thickness of 0 with a right and a wrong sum, sums beside 3,000,
+    unknown kinds, both sides of each range, and numbers whose low bits are allowed."""
+    for layers in range(44):
+        ds = ([soil.THICKNESS_SUM // max(layers, 1)] * layers)[:-1] + [soil.THICKNESS_SUM - soil.THICKNESS_SUM // max(layers, 1) * (layers - 1)]
+        ds = ds[:layers]
+        yield ds, [1] * layers, [2_000] * layers
+        yield from ((ds[:a], ([1] * layers)[:b], ([2_000] * layers)[:c]) for a, b, c in ((None, -1, None), (None, None, -1), (-1, None, None)))
+    ds, kinds, values = [75] * 40, [1, 2, 3, 2] * 10, [2_000, 10, 30, 2] * 10
+    for layer in range(40):
+        yield put(ds, layer, 0), kinds, values
+        yield put(put(ds, layer, 0), (layer + 1) % 40, 150), kinds, values
+        yield from ((put(ds, layer, value), kinds, values) for value in (74, 76, 75 + 2**16, 75 + 2**32, 75 + 2**63, MOST))
+        yield from ((ds, put(kinds, layer, kind), values) for kind in (0, 4, 1 + 2**16, 1 + 2**32, 1 + 2**63, MOST))
+        for kind, allowed in soil.VALUE.items():
+            ends = (allowed[0] - 1, allowed[0], allowed[-1], allowed[-1] + 1, allowed[0] + 2**16, allowed[0] + 2**32, allowed[0] + 2**63, MOST)
+            yield from ((ds, put(kinds, layer, kind), put(values, layer, value)) for value in ends)
 
 
 STRATA = {'plain': plain, 'average at 180 or 270 m/s': at_limit, 'every layer at a limit': exactly, 'spoilt': spoilt}

@@ -13,10 +13,11 @@ LIMITS = {'site': (limits.S_S_DESIGN, limits.S_1_DESIGN, limits.S_S_MCE, limits.
 
 @functools.cache
 def beside(allowed):
-    """Each allowed value that has a neighbour outside, those neighbours, 0 and the largest u64."""
+    """Each allowed value that has a neighbour outside, those neighbours, 0, the largest u64, and numbers whose low bits are allowed."""
     among = set(allowed)
     ends = {value for value in among if not {value - 1, value + 1} <= among}
-    return sorted({value + step for value in ends for step in (-1, 0, 1) if value + step >= 0} | {0, MOST})
+    wide = {min(among) + step for step in (2**16, 2**32, 2**63)}
+    return sorted({value + step for value in ends for step in (-1, 0, 1) if value + step >= 0} | {0, MOST} | wide)
 
 
 def put(numbers, place, value):

@@ -70,7 +70,25 @@ def heavy():
         period = max(1, int(response.corner(*hazard(site)) / 5) - draft.frame.calculated_period % 31)
         return Draft(site, limits.Frame(1, period, 100 + draft.frame.R % 21, 150, 100), [20_000] * 50, list(range(8, 401, 8)))
 
-    return Stratum('heavy, T below 0.2 T0', reach, lambda job: job.W == 1_000_000 and job.frame.alphay == 100)
+    return Stratum('heavy, T up to 0.2 T0', reach, lambda job: job.W == 1_000_000 and job.frame.alphay == 100
+                   and 5 * job.T <= max(job.design.T0, job.mce.T0))
+
+
+def largest():
+    """Every number at its largest and R = 1: the largest shears and products."""
+    def reach(draft):
+        """The levels at the very top; class, kind and period as drawn."""
+        site = draft.site._replace(SSD=80, S1D=45, SSM=100, S1M=55, NA=150, NV=200)
+        frame = draft.frame._replace(R=100, I=150, alphay=100)
+        return Draft(site, frame, [20_000] * 50, list(range(1_951, 2_001)))
+
+    return Stratum('every number at its largest', reach, lambda job: job.heights[0] == 1_951)
+
+
+def star_at_800000():
+    """V*'s ratio at its second threshold: Sa is at most 0.8 g and F at least 1, so it is never above, and p's third line is not reached."""
+    return Stratum('star: ratio 800000', lambda draft: draft._replace(frame=draft.frame._replace(R=100)),
+                   lambda job: ratio_of('star', job.site, job.T, job.frame.R) == 800_000)
 
 
 def light():
@@ -88,5 +106,7 @@ def rare_strata():
     """Each with how many jobs the comparison draws for it."""
     yield from ((tied(names), 100) for names in TIES)
     yield from ((at_mark(hazard, threshold, offset), 50) for hazard, threshold in MARKS for offset in (-1, 0, 1))
+    yield star_at_800000(), 50
+    yield largest(), 500
     yield heavy(), 10_000
     yield light(), 10_000

@@ -87,10 +87,10 @@ def main(jobs=JOBS, seed=SEED):
         site, frame, weights, heights = draw(rng)
         calls.append((site, frame, weights, heights, lengths(rng, weights)))
     answers = [got_job(library, *call) for call in calls]
-    for name, patches in ERRORS.items():
+    for name, patches in {'nothing, the model as it is': [], **ERRORS}.items():
         with made(patches):
             shown = sum(expected_job(*call) != answer for call, answer in zip(calls, answers))
-        unseen += shown == 0
+        unseen += (shown == 0) == bool(patches)
         print(f'{shown:7} of {jobs} show: {name}')
     return 1 if unseen else 0
 
