@@ -1,5 +1,5 @@
 #!/bin/sh
-# Tries the wrong answers of inner functions that the gate leaves out for their time: each must be refused. From the project's root.
+# Tries the wrong answers that the gate leaves out for their time: each must be refused. From the project's root.
 set -eu
 root=$(cd "$(dirname "$0")/.." && pwd)
 copy=$(mktemp -d)
