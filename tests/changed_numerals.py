@@ -1,4 +1,4 @@
-"""Each numeral of the model's chain, soil log, ranges and refusals, changed by one, one at a time: is it seen by what the gate holds the definitions and the code to?
+"""Numerals of the model, each changed by one: are they seen by what the gate holds the definitions and the code to?
 
 The numerals of the chain are tried on the jobs of crates/vectors, those of the soil log on the logs of crates/logs, those of the
 ranges and refusals on the changed jobs of crates/refusals and the jobs of crates/vectors: the files that stand there, which the unchanged model must meet first.
