@@ -2,4 +2,5 @@ pub mod Roof
 pub mod Sums
 pub mod Telescope
 pub mod Turning
+pub mod Bearing
 pub mod Chain

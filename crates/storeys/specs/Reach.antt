@@ -3,7 +3,6 @@
 --   Load T v        V of at most 1,400,000,000 N, and an F_t that is a part of V
 --   Levels ws hs    as many heights as weights; 50 levels of at most 20,000 kN and 2,000 dm make P at most 2,000,000,000
 --   Falling us      no shear is above the one below it: what `shears-fall` (proofs/Telescope.antt) says of the shears
---   Above b fs hs   as many heights as forces, no height below b, and moments about b that fit
 --   Rising hs       no height is below the one before it
 --   Turning fs hs   as many heights as forces; heights that rise to at most 2,000 dm; forces of 1,400,000,000 N in all
 --   Standing ws hs  levels, at least one, whose P is above 0 and whose heights rise to at most 2,000 dm
@@ -12,7 +11,7 @@ use mathlib.Core.List.{List}
 use Prim.Native.Nat.{ℕ, _+_, _*_, _≤_, _<_}
 use lib.ListN.{length, getD}
 use Rattle.whole.specs.Cells.{sum}
-use Rattle.storeys.specs.Storeys.{weightHeight, about}
+use Rattle.storeys.specs.Storeys.{weightHeight}
 
 pub record Load (T v : ℕ) : Type 0 where
   pub part : 7 * T ≤ 100_000
@@ -24,11 +23,6 @@ pub record Levels (ws hs : List ℕ) : Type 0 where
 
 abbrev pub Falling : List ℕ → Type 0
 Falling us = (x : ℕ) → getD us (x + 1) 0 ≤ getD us x 0
-
-pub record Above (b : ℕ) (fs hs : List ℕ) : Type 0 where
-  pub same : length fs ≡ length hs
-  pub above : (x : ℕ) → x < length hs → b ≤ getD hs x 0
-  pub most : about b fs hs ≤ 2_800_000_000_000
 
 abbrev pub Rising : List ℕ → Type 0
 Rising hs = (x : ℕ) → x + 1 < length hs → getD hs x 0 ≤ getD hs (x + 1) 0

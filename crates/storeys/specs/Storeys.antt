@@ -7,11 +7,12 @@
 --   force us x, forces us    a level's force: its shear less the one above; of all levels
 --   bottom hs x           the height of the bottom of storey x: level x − 1, or the base
 --   about b fs hs         force times height above b, added
+--   borne b fs hs         what levels bear: their forces added, and their overturning about b
 --   overturning fs hs x   (23) without its factor, about the bottom of storey x, in N·dm, over the levels from x upward
 --   overturnings fs hs    those of all storeys
 --   Filled T v ws hs us fs ms us′ fs′ ms′    us′, fs′ and ms′ are what buffers that held us, fs and ms hold when shears, forces and
 --                         overturning moments are laid over their first cells
--- ℕ's subtraction stops at 0; that no difference here goes below it: `roof-most`, `force-whole`, `above-from` of proofs/.
+-- ℕ's subtraction stops at 0; that no difference here goes below it: `roof-most`, `force-whole`, `bottom-below` of proofs/.
 use mathlib.Core.Path.{_≡_}
 use mathlib.Core.List.{List, [], _∷_}
 use Prim.Native.Nat.{ℕ, zero, suc, _+_, _-_, _*_}
@@ -19,7 +20,8 @@ use lib.ListN.{length, drop, getD}
 use Rattle.whole.specs.declared.Fraction.{Fraction}
 use Rattle.whole.specs.Rounding.{up}
 use Rattle.whole.specs.Fraction.{over}
-use Rattle.whole.specs.Cells.{cells, laid}
+use Rattle.whole.specs.Cells.{cells, sum, laid}
+use Rattle.storeys.specs.declared.overturning.Borne.{Borne}
 
 abbrev pub roofPart : ℕ → Fraction
 roofPart T = over (7 * T) 100_000
@@ -55,6 +57,9 @@ unfoldable pub about : ℕ → List ℕ → List ℕ → ℕ
 about b [] hs = 0
 about b (f ∷ fs) [] = 0
 about b (f ∷ fs) (h ∷ hs) = f * (h - b) + about b fs hs
+
+abbrev pub borne : ℕ → List ℕ → List ℕ → Borne
+borne b fs hs = record { force = sum fs; moment = about b fs hs }
 
 abbrev pub overturning : List ℕ → List ℕ → ℕ → ℕ
 overturning fs hs x = about (bottom hs x) (drop x fs) (drop x hs)
