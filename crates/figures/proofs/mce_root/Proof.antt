@@ -12,8 +12,8 @@ mce-square-requires c κs = search needs
 
 lower-root-requires : tie.Need-lower-root-requires
 lower-root-requires c κs =
-    subst (λ (q : Fraction). (1_000_000 ≤ 10_000_000) × (0 < q .den) × (q .den ≤ 1000) × (q .num ≤ 11 * q .den))
-    (sym (c .mce-square .ensures)) (omega arith, omega arith, omega arith, omega arith)
+    subst (λ (q : Fraction). (0 < 1_000_000) × (1_000_000 ≤ 10_000_000) × (0 < q .den) × (q .den ≤ 1000) × (q .num ≤ 11 * q .den))
+    (sym (c .mce-square .ensures)) (omega arith, omega arith, omega arith, omega arith, omega arith)
 
 returns : tie.Need-returns
 returns c = search needs

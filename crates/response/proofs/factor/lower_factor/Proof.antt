@@ -37,7 +37,7 @@ lower-root-requires c κs =
     let u = c .before .pre .0 in
     let h = c .before .pre .1 in
     let q = c .before .pre .2 in
-    (u .most, q .square-positive, q .square-small, q .square-most)
+    (u .positive, u .most, q .square-positive, q .square-small, q .square-most)
 
 mul-if2 : tie.Need-mul-if2
 mul-if2 c = search needs
