@@ -1,6 +1,7 @@
 -- The three hazards of a site and an R, with the constants of the shears.
 --   Mapped ss s1 na nv  mapped values between the least and the largest of both levels, and near-fault factors as allowed
---   hazardOf c ss s1 na nv k q      A and B from mapped values and near-fault factors, with a capacity k and its square q
+--   accelerations c ss s1 na nv     A and B from mapped values and near-fault factors
+--   hazardOf c ss s1 na nv k q      these, with a capacity k and its square q
 --   designHazard c ss s1 na nv R    with the design capacity of R
 --   mceHazard c ss s1 na nv R       with R itself
 --   lines               (8), (18): 0.3, 0.8; 0.52, 0.144; 0.7
@@ -13,6 +14,7 @@ use Rattle.limits.specs.declared.site.Site.{Site}
 use Rattle.site.specs.declared.hazard.Hazard.{Hazard}
 use Rattle.site.specs.declared.hazard.Lines.{Lines}
 use Rattle.site.specs.declared.hazard.Hazards.{Hazards}
+use Rattle.site.specs.declared.hazards.SiteAccelerations.{SiteAccelerations}
 use Rattle.site.specs.Coefficients.{factored, accelerationA, accelerationB}
 use Rattle.site.specs.Capacity.{designCapacity, designSquare, mceCapacity, mceSquare}
 
@@ -22,11 +24,14 @@ pub record Mapped (ss s1 na nv : ℕ) : Type 0 where
   pub n-a : (100 ≤ na) × (na ≤ 150)
   pub n-v : (100 ≤ nv) × (nv ≤ 200)
 
+abbrev pub accelerations : Class → ℕ → ℕ → ℕ → ℕ → SiteAccelerations
+accelerations c ss s1 na nv = record { a = accelerationA c (factored ss na); b = accelerationB c (factored s1 nv) }
+
 abbrev pub hazardOf : Class → ℕ → ℕ → ℕ → ℕ → Fraction → Fraction → Hazard
 hazardOf c ss s1 na nv capacity square =
     record {
-      a = accelerationA c (factored ss na);
-      b = accelerationB c (factored s1 nv);
+      a = accelerations c ss s1 na nv .a;
+      b = accelerations c ss s1 na nv .b;
       capacity = capacity;
       square = square;
     }

@@ -10,11 +10,10 @@ use crate::hazard::Hazards;
 use crate::hazard::Lines;
 use limits::site::Class;
 use limits::site::Site;
-use whole::Fraction;
 ghost use mathlib.Core.Path.{_≡_};
 ghost use Prim.Native.Nat.{_≤_};
 ghost use Rattle.limits.specs.Allowed.{AllowedSite};
-ghost use Rattle.site.specs.Hazards.{Mapped, hazardOf, hazardsOf};
+ghost use Rattle.site.specs.Hazards.{Mapped, accelerations, hazardsOf};
 
 // The near-fault factor of a site that has none, in 0.01.
 const NO_FACTOR: u64 = 100;
@@ -33,27 +32,20 @@ const DIVISOR: u64 = 14;
 
 const STAR_DIVISOR: u64 = 42;
 
-// A and B from mapped values and near-fault factors, with a capacity and its square.
-pub fn hazard(
-    class: Class,
-    ss: u64,
-    s1: u64,
-    na: u64,
-    nv: u64,
-    capacity: Fraction,
-    square: Fraction,
-) -> Hazard
+// A and B of a site, in 10⁻⁸ g.
+pub struct SiteAccelerations {
+    pub a: u64,
+    pub b: u64,
+}
+
+// A and B from mapped values and near-fault factors.
+pub fn accelerations(class: Class, ss: u64, s1: u64, na: u64, nv: u64) -> SiteAccelerations
     requires { ⌜ Mapped ss s1 na nv ⌝ }
-    ensures { λ h. ⌜ h ≡ hazardOf class ss s1 na nv capacity square ⌝ }
+    ensures { λ r. ⌜ r ≡ accelerations class ss s1 na nv ⌝ }
 {
     let a = acceleration_a(class, ss * na);
     let b = acceleration_b(class, s1 * nv);
-    Hazard {
-        a,
-        b,
-        capacity,
-        square,
-    }
+    SiteAccelerations { a, b }
 }
 
 // V's, V_M's, and V*'s with both near-fault factors taken as 100.
@@ -62,36 +54,30 @@ pub fn hazards_of(site: Site, r: u64) -> Hazards
     ensures { λ k. ⌜ k ≡ hazardsOf site r ⌝ }
 {
     let class = site.class;
+    let design = accelerations(class, site.ssd, site.s1d, site.na, site.nv);
+    let mce = accelerations(class, site.ssm, site.s1m, site.na, site.nv);
+    let plain = accelerations(class, site.ssd, site.s1d, NO_FACTOR, NO_FACTOR);
     let allowable = design_capacity(r);
     let square = design_square(r);
     Hazards {
-        design: hazard(
-            class,
-            site.ssd,
-            site.s1d,
-            site.na,
-            site.nv,
-            allowable,
+        design: Hazard {
+            a: design.a,
+            b: design.b,
+            capacity: allowable,
             square,
-        ),
-        mce: hazard(
-            class,
-            site.ssm,
-            site.s1m,
-            site.na,
-            site.nv,
-            mce_capacity(r),
-            mce_square(r),
-        ),
-        star: hazard(
-            class,
-            site.ssd,
-            site.s1d,
-            NO_FACTOR,
-            NO_FACTOR,
-            allowable,
+        },
+        mce: Hazard {
+            a: mce.a,
+            b: mce.b,
+            capacity: mce_capacity(r),
+            square: mce_square(r),
+        },
+        star: Hazard {
+            a: plain.a,
+            b: plain.b,
+            capacity: allowable,
             square,
-        ),
+        },
         lines: LINES,
         divisor: DIVISOR,
         stardivisor: STAR_DIVISOR,

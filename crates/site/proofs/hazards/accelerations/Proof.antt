@@ -1,11 +1,8 @@
--- `site::hazards::hazard` meets its contract. Assumes nothing.
-use mathlib.Core.Path.{ap₂}
-use Prim.Native.Nat.{ℕ}
+-- `site::hazards::accelerations` meets its contract. Assumes nothing.
 use native.Mathlib.Omega.{arith}
 use Rattle.site.proofs.Bounds.{s-s-bounds, s-1-bounds}
-use Rattle.site.specs.declared.hazard.Hazard.{Hazard}
-use Rattle.site.proofs.hazards.hazard.Statement.{statement}
-use Rattle.site.proofs.hazards.hazard.Tie as tie
+use Rattle.site.proofs.hazards.accelerations.Statement.{statement}
+use Rattle.site.proofs.hazards.accelerations.Tie as tie
 
 mul-acceleration-a : tie.Need-mul-acceleration-a
 mul-acceleration-a c =
@@ -32,12 +29,10 @@ acceleration-b-requires c κs =
     s-1-bounds (a .s1) (a .nv) (p .s-1 .0) (p .s-1 .1) (p .n-v .0) (p .n-v .1)
 
 returns : tie.Need-returns
-returns c =
-    let a = c .before .before .args in
-    ap₂ (λ (x y : ℕ). record { a = x; b = y; capacity = a .capacity; square = a .square }) (c .before .acceleration-a .ensures) (c .acceleration-b .ensures)
+returns c = λ i. record { a = c .before .acceleration-a .ensures i; b = c .acceleration-b .ensures i }
 
-pub hazard-spec : {M : Type 1} → statement M
-hazard-spec =
+pub accelerations-spec : {M : Type 1} → statement M
+accelerations-spec =
     tie.close
     (tie.spec
     mul-acceleration-a
