@@ -1,4 +1,5 @@
 pub mod Cubes
+pub mod ByTable
 pub mod Speeds
 pub mod Layers
 pub mod Adding

@@ -2,5 +2,6 @@
 
 pub mod class;
 pub mod log;
+pub mod tables;
 pub mod times;
 pub mod velocity;

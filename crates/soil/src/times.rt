@@ -1,10 +1,13 @@
 // The time of each layer in ns, rounded up and down, and the sums U and L.
+use crate::tables::COHESIONLESS;
+use crate::tables::COHESIVE;
 use crate::velocity::VelocityAnswer;
-use crate::velocity::velocity;
+use crate::velocity::velocity_by;
 use limits::refusal::Refusal;
 use whole::quotients;
 ghost use mathlib.Core.Path.{_≡_};
 ghost use Rattle.soil.specs.Times.{Matched, judgedTimes, timesOutcome};
+ghost use Rattle.soil.specs.Velocity.{Tables};
 
 // The times of all layers in ns: the sum of those rounded up, U, and of those rounded down, L.
 pub struct Times {
@@ -20,16 +23,22 @@ pub enum TimesAnswer {
 // The ns that 1 cm takes at 1 dm/s.
 const NS_AT_UNIT: u64 = 100_000_000;
 
-// 15 at the first layer to which it applies; else U and L.
-pub fn timed(thicknesses: &[u64], kinds: &[u64], values: &[u64]) -> TimesAnswer
-    requires { ⌜ Matched (now thicknesses) (now kinds) (now values) ⌝ }
+// 15 at the first layer to which it applies; else U and L: with the tables of velocities lent.
+fn timed_by(
+    cohesive: &[u64],
+    cohesionless: &[u64],
+    thicknesses: &[u64],
+    kinds: &[u64],
+    values: &[u64],
+) -> TimesAnswer
+    requires { ⌜ Tables (now cohesive) (now cohesionless) × Matched (now thicknesses) (now kinds) (now values) ⌝ }
     ensures { λ a. ⌜ timesOutcome a ≡ judgedTimes (now (thicknesses .entry)) (now (kinds .entry)) (now (values .entry)) ⌝ }
 {
     let mut up = 0;
     let mut down = 0;
     let mut i = 0;
     while i < thicknesses.len() {
-        let a = velocity(kinds[i], values[i], i as u64 + 1);
+        let a = velocity_by(cohesive, cohesionless, kinds[i], values[i], i as u64 + 1);
         let VelocityAnswer::Taken(v) = a else {
             let VelocityAnswer::Refused(r) = a else {
                 return TimesAnswer::Refused(Refusal::none());
@@ -42,4 +51,12 @@ pub fn timed(thicknesses: &[u64], kinds: &[u64], values: &[u64]) -> TimesAnswer
         i += 1;
     }
     TimesAnswer::Taken(Times { up, down })
+}
+
+// The same, by the tables.
+pub fn timed(thicknesses: &[u64], kinds: &[u64], values: &[u64]) -> TimesAnswer
+    requires { ⌜ Matched (now thicknesses) (now kinds) (now values) ⌝ }
+    ensures { λ a. ⌜ timesOutcome a ≡ judgedTimes (now (thicknesses .entry)) (now (kinds .entry)) (now (values .entry)) ⌝ }
+{
+    timed_by(&COHESIVE, &COHESIONLESS, thicknesses, kinds, values)
 }

@@ -1,26 +1,20 @@
 // The velocity of a layer by its kind: measured, or by its blow count (3.a), (3.b).
+use crate::tables::COHESIONLESS;
+use crate::tables::COHESIVE;
 use limits::layer::Layer;
 use limits::ranges::within;
 use limits::refusal::Refusal;
 use limits::refusal::Verdict;
-use whole::roots::largest;
 ghost use mathlib.Core.Path.{_≡_};
-ghost use Prim.Native.Nat.{_≤_};
-ghost use Rattle.soil.specs.Velocity.{measured, byCount, velocity, velocityOutcome};
+ghost use Prim.Native.Nat.{_+_, _<_};
+ghost use lib.ListN.{length};
+ghost use Rattle.soil.specs.Velocity.{measured, tabled, Tables, velocity, velocityOutcome};
 
 // A velocity in dm/s.
 pub enum VelocityAnswer {
     Taken(u64),
     Refused(Refusal),
 }
-
-// The velocity of N = 1, in dm/s: 100 m/s in (3.a), 80 m/s in (3.b).
-const COHESIVE_SCALE: u64 = 1_000;
-
-const COHESIONLESS_SCALE: u64 = 800;
-
-// Past the velocity of every N up to 50.
-const PAST: u64 = 4_096;
 
 // A measured velocity.
 fn measured(value: u64, place: u64) -> VelocityAnswer
@@ -42,10 +36,10 @@ fn measured(value: u64, place: u64) -> VelocityAnswer
     VelocityAnswer::Taken(value)
 }
 
-// The velocity that N blows give, where N is from least to most: the largest whole v with v^3 <= scale^3 N.
-fn by_count(least: u64, most: u64, scale: u64, n: u64, place: u64) -> VelocityAnswer
-    requires { ⌜ (most ≤ 50) × (scale ≤ 1_000) ⌝ }
-    ensures { λ a. ⌜ velocityOutcome a ≡ byCount least most scale n place ⌝ }
+// The velocity that N blows give, where N is from least to most, by the table of those velocities.
+fn by_count(least: u64, most: u64, velocities: &[u64], n: u64, place: u64) -> VelocityAnswer
+    requires { ⌜ most < least + length (now velocities) ⌝ }
+    ensures { λ a. ⌜ velocityOutcome a ≡ tabled least most (now (velocities .entry)) n place ⌝ }
 {
     let v = within(least, most, n, Refusal::LAYER, place);
     let Verdict::Passed = v else {
@@ -54,11 +48,19 @@ fn by_count(least: u64, most: u64, scale: u64, n: u64, place: u64) -> VelocityAn
         };
         return VelocityAnswer::Refused(r);
     };
-    VelocityAnswer::Taken(largest(1, 3, scale * scale * scale * n, PAST))
+    VelocityAnswer::Taken(velocities[(n - least) as usize])
 }
 
-// 15: the velocity of a layer, by its kind and value.
-pub fn velocity(kind: u64, value: u64, place: u64) -> VelocityAnswer
+// 15: the velocity of a layer, by its kind and value, with the tables of both kinds of soil lent: a constant table is laid out anew by each
+// function that names it, so once a log and not once a layer.
+pub fn velocity_by(
+    cohesive: &[u64],
+    cohesionless: &[u64],
+    kind: u64,
+    value: u64,
+    place: u64,
+) -> VelocityAnswer
+    requires { ⌜ Tables (now cohesive) (now cohesionless) ⌝ }
     ensures { λ a. ⌜ velocityOutcome a ≡ velocity kind value place ⌝ }
 {
     if kind == Layer::MEASURED {
@@ -68,7 +70,7 @@ pub fn velocity(kind: u64, value: u64, place: u64) -> VelocityAnswer
         return by_count(
             Layer::COHESIVE_LEAST,
             Layer::COHESIVE_MOST,
-            COHESIVE_SCALE,
+            cohesive,
             value,
             place,
         );
@@ -77,7 +79,7 @@ pub fn velocity(kind: u64, value: u64, place: u64) -> VelocityAnswer
         return by_count(
             Layer::COHESIONLESS_LEAST,
             Layer::COHESIONLESS_MOST,
-            COHESIONLESS_SCALE,
+            cohesionless,
             value,
             place,
         );
@@ -86,4 +88,11 @@ pub fn velocity(kind: u64, value: u64, place: u64) -> VelocityAnswer
         number: Refusal::LAYER,
         place,
     })
+}
+
+// The same, by the tables.
+pub fn velocity(kind: u64, value: u64, place: u64) -> VelocityAnswer
+    ensures { λ a. ⌜ velocityOutcome a ≡ velocity kind value place ⌝ }
+{
+    velocity_by(&COHESIVE, &COHESIONLESS, kind, value, place)
 }

@@ -1,13 +1,11 @@
--- `soil::velocity::by_count` meets its contract: s·s·s·N is s³·N, and below 4096³. Assumes nothing.
+-- `soil::velocity::by_count` meets its contract: N that passes is from least to most, so the table has a cell for it. Assumes nothing.
 use borrow.Author.Needs.{needs}
-use mathlib.Core.Path.{_∙_, ap}
-use native.Mathlib.Nat.{mul-le-mul}
+use mathlib.Core.Path.{_∙_}
 use native.Mathlib.Omega.{arith}
-use Rattle.limits.proofs.Stages.{says}
-use Rattle.limits.specs.Outcome.{accepted, verdictOutcome}
-use Rattle.soil.proofs.Cubes.{radicand-most, cube-root-at}
 use Rattle.limits.proofs.Passed.{within-passed}
-use Rattle.soil.specs.Velocity.{byCount}
+use Rattle.limits.proofs.Stages.{says}
+use Rattle.limits.specs.Outcome.{verdictOutcome}
+use Rattle.soil.specs.Velocity.{tabled}
 use Rattle.soil.proofs.velocity.by_count.Statement.{statement}
 use Rattle.soil.proofs.velocity.by_count.Tie as tie
 
@@ -33,34 +31,28 @@ returns : tie.Need-returns
 returns c = search needs
 
 returns-2 : tie.Need-returns-2
-unfolding byCount
+unfolding tabled
 returns-2 c =
     simp (says verdictOutcome (c .before .before .before .before .before .before .within .ensures) (c .before .before .before .before .v .given .1 ∙ c .before .v2 .given .1))
 
-mul-largest : tie.Need-mul-largest
-mul-largest c = omega (arith, mul-le-mul (c .before .before .before .pre .1) (c .before .before .before .pre .1))
+sub-t9 : tie.Need-sub-t9
+sub-t9 c =
+    let a = c .before .before .before .before .args in
+    omega (arith, within-passed (a .least) (a .most) (a .n) 15 (a .place) (says verdictOutcome (c .before .before .within .ensures) (c .enum-told .given .1)))
 
-mul-largest-2 : tie.Need-mul-largest-2
-mul-largest-2 c = omega (arith, mul-le-mul (mul-le-mul (c .before .before .before .pre .1) (c .before .before .before .pre .1)) (c .before .before .before .pre .1))
+mul-t11 : tie.Need-mul-t11
+mul-t11 c =
+    let a = c .before .before .before .before .args in
+    omega (arith, within-passed (a .least) (a .most) (a .n) 15 (a .place) (says verdictOutcome (c .before .before .within .ensures) (c .enum-told .given .1)))
 
-mul-largest-3 : tie.Need-mul-largest-3
-mul-largest-3 c =
-    let a = c .before .before .before .args in
-    let n = within-passed (a .least) (a .most) (a .n) 15 (a .place) (says verdictOutcome (c .before .before .within .ensures) (c .enum-told .given .1)) in
-    omega (arith, radicand-most (a .scale) (a .n) (c .before .before .before .pre .1) (omega arith))
-
-largest-requires : tie.Need-largest-requires
-largest-requires c κs =
-    let a = c .before .before .before .args in
-    let n = within-passed (a .least) (a .most) (a .n) 15 (a .place) (says verdictOutcome (c .before .before .within .ensures) (c .enum-told .given .1)) in
-    omega (arith, radicand-most (a .scale) (a .n) (c .before .before .before .pre .1) (omega arith))
+shared-slice-read-t13 : tie.Need-shared-slice-read-t13
+shared-slice-read-t13 c =
+    let a = c .before .before .before .before .before .args in
+    omega (arith, within-passed (a .least) (a .most) (a .n) 15 (a .place) (says verdictOutcome (c .before .before .before .within .ensures) (c .before .enum-told .given .1)))
 
 returns-3 : tie.Need-returns-3
-unfolding byCount
-returns-3 c =
-    let a = c .before .before .before .before .args in
-    let n = within-passed (a .least) (a .most) (a .n) 15 (a .place) (says verdictOutcome (c .before .before .before .within .ensures) (c .before .enum-told .given .1)) in
-    simp (says verdictOutcome (c .before .before .before .within .ensures) (c .before .enum-told .given .1)) (ap accepted (cube-root-at (a .scale) (a .n) (c .before .before .before .before .pre .1) (omega arith) (c .largest .result) (c .largest .ensures)))
+unfolding tabled
+returns-3 c = simp (says verdictOutcome (c .before .before .before .within .ensures) (c .before .enum-told .given .1))
 
 pub by-count-spec : {M : Type 1} → statement M
 by-count-spec =
@@ -74,8 +66,7 @@ by-count-spec =
     none-requires
     returns
     returns-2
-    mul-largest
-    mul-largest-2
-    mul-largest-3
-    largest-requires
+    sub-t9
+    mul-t11
+    shared-slice-read-t13
     returns-3)

@@ -1,43 +1,27 @@
--- `soil::velocity::velocity` meets its contract. Assumes nothing.
+-- `soil::velocity::velocity` meets its contract: the cube rule holds of both tables, of all entries at once, by computing it.
+-- Assumes nothing.
 use borrow.Author.Needs.{needs}
-use borrow.Author.Tests.{eq-eqb, ne-eqb}
-use Rattle.soil.specs.Velocity.{velocity}
+use mathlib.Core.Path.{refl}
+use Rattle.whole.specs.Cells.{cells}
+use Rattle.whole.specs.Search.{largest, bitsFrom}
+use Rattle.soil.specs.Velocity.{cubeRoot}
 use Rattle.soil.proofs.velocity.velocity.Statement.{statement}
 use Rattle.soil.proofs.velocity.velocity.Tie as tie
 
-measured-requires : tie.Need-measured-requires
-measured-requires c κs = search needs
+slice-aggregate-velocity-by : tie.Need-slice-aggregate-velocity-by
+slice-aggregate-velocity-by c = search needs
+
+slice-aggregate-velocity-by-2 : tie.Need-slice-aggregate-velocity-by-2
+slice-aggregate-velocity-by-2 c = search needs
+
+velocity-by-requires : tie.Need-velocity-by-requires
+unfolding cubeRoot largest bitsFrom cells
+velocity-by-requires c κs = record { cohesive = refl; cohesionless = refl }
 
 returns : tie.Need-returns
-unfolding velocity
-returns c = simp (eq-eqb _ _ (c .before .if1 .taken)) (c .measured .ensures)
-
-by-count-requires : tie.Need-by-count-requires
-by-count-requires c κs = search needs
-
-returns-2 : tie.Need-returns-2
-unfolding velocity
-returns-2 c = simp (ne-eqb _ _ (c .before .before .if1 .left), eq-eqb _ _ (c .before .if2 .taken)) (c .by-count .ensures)
-
-by-count-requires-2 : tie.Need-by-count-requires-2
-by-count-requires-2 c κs = search needs
-
-returns-3 : tie.Need-returns-3
-unfolding velocity
-returns-3 c = simp (ne-eqb _ _ (c .before .before .before .if1 .left), ne-eqb _ _ (c .before .before .if2 .left), eq-eqb _ _ (c .before .if3 .taken)) (c .by-count2 .ensures)
-
-returns-4 : tie.Need-returns-4
-unfolding velocity
-returns-4 c = simp (ne-eqb _ _ (c .before .before .if1 .left), ne-eqb _ _ (c .before .if2 .left), ne-eqb _ _ (c .if3 .left))
+returns c = search needs
 
 pub velocity-spec : {M : Type 1} → statement M
 velocity-spec =
     tie.close
-    (tie.spec
-    measured-requires
-    returns
-    by-count-requires
-    returns-2
-    by-count-requires-2
-    returns-3
-    returns-4)
+    (tie.spec slice-aggregate-velocity-by slice-aggregate-velocity-by-2 velocity-by-requires returns)
