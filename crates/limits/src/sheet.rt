@@ -19,6 +19,4 @@ impl Sheet {
     pub const FRAME_NUMBERS: usize = 5;
     // All later lines are `level`.
     pub const LEVEL_LINE: u64 = 3;
-
-    pub const LEVEL_NUMBERS: usize = 2;
 }

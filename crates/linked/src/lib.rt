@@ -4,7 +4,7 @@ use limits::frame::FrameValues;
 use limits::site::Class;
 use limits::site::ClassAnswer;
 use limits::site::SiteValues;
-use sheet::sheet_listing;
+use sheet::put_sheet;
 ghost use mathlib.Core.Path.{_≡_};
 ghost use Rattle.limits.specs.Site.{classOutcome};
 ghost use Rattle.job.specs.Job.{answerOutcome};
@@ -188,10 +188,7 @@ pub struct SheetReply {
 pub extern "C" fn rukeshomaji_sheet(sheet: &[u8]) -> SheetReply
     ensures { λ r. ⌜ r ≡ sheetReply (now (sheet .entry)) ⌝ }
 {
-    let l = sheet_listing(sheet);
-    let bytes = l.bytes;
-    SheetReply {
-        bytes,
-        length: l.length,
-    }
+    let mut bytes = [0; 4_610];
+    let length = put_sheet(&mut bytes, sheet);
+    SheetReply { bytes, length }
 }

@@ -136,10 +136,9 @@ module _ {s : List ℕ} {from : ℕ} {weights heights : List ℕ} {n at : ℕ} (
         stored : (l held : List ℕ) (v : ℕ) → length l ≡ n → held ≡ cellsOf l → set held n v ≡ cellsOf (l ++ (v ∷ []))
         stored l held v c e = rw (← c, e) (sym (kept-more (zeros 50) l v))
 
-    -- as the code stores it: the line's numbers stand in the first of its cells
-    pub gathered-more : (ns held : List ℕ) (k : ℕ) → line (bytes "level") 2 (drop at s) ≡ found ns k → held ≡ laid ns blank
-        → {weights′ heights′ : List ℕ} {at′ : ℕ} → weights′ ≡ set weights n (getD held 0 0)
-        → heights′ ≡ set heights n (getD held 1 0) → at + k ≡ at′
+    -- as the code stores it: the line's two numbers
+    pub gathered-more : {weight height : ℕ} (ns : List ℕ) (k : ℕ) → line (bytes "level") 2 (drop at s) ≡ found ns k
+        → getD ns 0 0 ≡ weight → getD ns 1 0 ≡ height
+        → {weights′ heights′ : List ℕ} {at′ : ℕ} → weights′ ≡ set weights n weight → heights′ ≡ set heights n height → at + k ≡ at′
         → Gathered s from weights′ heights′ (n + 1) at′
-    gathered-more ns held k o e ew eh ea =
-        rw (ew, eh, ← ea, e, in-cells ns 0, in-cells ns 1) (gathered-one ns k o)
+    gathered-more ns k o w h ew eh ea = rw (ew, eh, ← ea, ← w, ← h) (gathered-one ns k o)

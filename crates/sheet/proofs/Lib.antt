@@ -1,4 +1,5 @@
 pub mod Examples
+pub mod LevelLine
 pub mod Gathering
 pub mod Refused
 pub mod Stages

@@ -1,6 +1,6 @@
 -- The lines of a listing, written one after the other, and how long they are.
 -- Assumes nothing.
-use mathlib.Core.Path.{_≡_, refl, sym, ap, ap₂, _∙_}
+use mathlib.Core.Path.{_≡_, refl, sym, ap, ap₂, subst, _∙_}
 use mathlib.Core.List.{List, [], _∷_, _++_, append-assoc, append-nil}
 use Prim.Native.Nat.{ℕ, zero, suc, _+_, _*_, _≤_}
 use native.Mathlib.Nat.{zero-add}
@@ -12,7 +12,7 @@ use Rattle.text.specs.Bytes.{bytes}
 use Rattle.text.specs.Writing.{laidOut, spliced}
 use Rattle.text.proofs.Fields.{line-most}
 use Rattle.text.proofs.Spliced.{Wrote, wrote, wrote-none, wrote-more}
-use Rattle.sheet.specs.Listing.{roofFirst, refusal, printed, Levelled}
+use Rattle.sheet.specs.Listing.{roofFirst, refusal, printed, Written, Levelled}
 
 -- ---- how long: 20 digits a number at the most
 module _ (fs us ms : List ℕ) where
@@ -83,10 +83,18 @@ pub refusal-room : (n p : ℕ) → length (refusal n p) ≤ 4_610
 unfolding refusal
 refusal-room n p = omega (arith, line-most (bytes "refused") (n ∷ p ∷ []))
 
--- ---- an array of zeros that was written from its first cell on
-pub printed-is : {l held : List ℕ} {p : ℕ} → Wrote (zeros 4_610) 0 l held p → record { bytes = held; length = p } ≡ printed l
-unfolding printed spliced
-printed-is {l} {held} {p} w =
-    ap₂ (λ (b : List ℕ) (n : ℕ). record { bytes = b; length = n })
-    (w .holds ∙ ap (λ (k : ℕ). l ++ drop k (zeros 4_610)) (zero-add (length l)))
-    (w .end ∙ zero-add (length l))
+-- ---- a buffer that was written from its first cell on; an array of zeros that was is what is printed
+pub written-is : {l old held : List ℕ} {p : ℕ} → Wrote old 0 l held p → Written l old held p
+unfolding spliced
+written-is {l} {old} {held} {p} w =
+    record {
+      bytes-are = w .holds ∙ ap (λ (k : ℕ). l ++ drop k old) (zero-add (length l));
+      length-is = w .end ∙ zero-add (length l);
+    }
+
+pub written-as : {l l′ old held : List ℕ} {n : ℕ} → l ≡ l′ → Written l old held n → Written l′ old held n
+written-as {l} {l′} {old} {held} {n} e w = subst (λ (z : List ℕ). Written z old held n) e w
+
+pub printed-is : {l held : List ℕ} {n : ℕ} → Written l (zeros 4_610) held n → record { bytes = held; length = n } ≡ printed l
+unfolding printed
+printed-is {l} {held} {n} w = ap₂ (λ (b : List ℕ) (k : ℕ). record { bytes = b; length = k }) (w .bytes-are) (w .length-is)

@@ -8,8 +8,13 @@ use Prim.Native.Nat.{ℕ}
 use Rattle.whole.proofs.Unique.{determined}
 use Rattle.sheet.specs.declared.listing.Listing.{Listing}
 use Rattle.sheet.specs.declared.reader.SheetCells.{SheetCells}
-use Rattle.sheet.specs.Listing.{sheetListing, printed}
+use Rattle.sheet.specs.Listing.{sheetListing, printed, Written}
 use Rattle.sheet.specs.Reading.{readSheet, sheetRead}
+
+-- of the functions that write into a lent buffer: every cell of it, and the length
+pub written-unique : {l old held held′ : List ℕ} {n n′ : ℕ} → Written l old held n → Written l old held′ n′
+    → (held ≡ held′) × (n ≡ n′)
+written-unique w w′ = (determined (w .bytes-are) (w′ .bytes-are), determined (w .length-is) (w′ .length-is))
 
 module _ (s : List ℕ) where
   pub one-listing : {l l′ : Listing} → l ≡ printed (sheetListing s) → l′ ≡ printed (sheetListing s) → l ≡ l′

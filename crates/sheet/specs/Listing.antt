@@ -8,6 +8,7 @@
 --   jobOfSheet r                  the job of what a sheet holds
 --   sheetListing bytes            what is printed for a sheet: 17, then 16, precede everything that a job judges
 --   printed l                     the bytes l as the code hands them on: in the first of 4,610 cells, and how many there are
+--   Written l old held n          a buffer that held old holds `held`, l over its first cells and the rest as it was; n is the length of l
 --   Levelled fs us ms             as many shears and overturning moments as forces, and not over 50
 use mathlib.Core.Path.{_≡_}
 use mathlib.Core.List.{List, [], _∷_, _++_}
@@ -39,6 +40,10 @@ refusal n p = laidOut (bytes "refused") (n ∷ p ∷ [])
 
 unfoldable pub printed : List ℕ → Listing
 printed l = record { bytes = laid l (zeros 4_610); length = length l }
+
+pub record Written (l old held : List ℕ) (n : ℕ) : Type 0 where
+  pub bytes-are : held ≡ laid l old
+  pub length-is : n ≡ length l
 
 pub record Levelled (fs us ms : List ℕ) : Type 0 where
   pub shears : length us ≡ length fs

@@ -9,6 +9,7 @@
 --   SheetRead, readLines bytes    what the lines of a sheet hold, or 16 at the first that is otherwise
 --   readSheet bytes               17 at 0 where there are over 4,096 bytes; else the same
 --   cellsOf l                     the first 50 of a list in 50 cells, zeros in the rest
+--   levelAnswer c o               the code's answer to the reading o of a level line from c on: weight, height, where the next begins
 --   levelsRead o, sheetRead o     the code's answer to the outcome o, its weights and heights in 50 cells each
 -- A sheet without level lines is read: 1 is refused by the job. A line that lacks its LF, or that is not there, is otherwise.
 use mathlib.Core.List.{List, [], _∷_}
@@ -21,7 +22,10 @@ use Rattle.limits.specs.declared.site.SiteValues.{SiteValues}
 use Rattle.limits.specs.Outcome.{Outcome, accepted, refused, zeros, require, _>>=_, _>>_}
 use Rattle.text.specs.Bytes.{bytes}
 use Rattle.text.specs.Line.{line}
-use Rattle.text.specs.Reading.{Reading, found, otherwise}
+use Rattle.text.specs.Reading.{Reading, found, otherwise, after}
+use Rattle.text.specs.declared.reading.Cursor.{Cursor}
+use Rattle.sheet.specs.declared.levels.LevelAnswer.{LevelAnswer}
+use Rattle.sheet.specs.declared.levels.LevelAnswer.the-variants.{Found, Otherwise}
 use Rattle.sheet.specs.declared.levels.LevelsAnswer.the-variants.{Taken as TakenLevels, Refused as RefusedLevels}
 use Rattle.sheet.specs.declared.levels.LevelsRead.{LevelsRead}
 use Rattle.sheet.specs.declared.reader.SheetAnswer.the-variants.{Taken, Refused}
@@ -98,6 +102,10 @@ readSheet s = do
 
 abbrev pub cellsOf : List ℕ → List ℕ
 cellsOf l = laid (take 50 l) (zeros 50)
+
+unfoldable pub levelAnswer : Cursor → Reading (List ℕ) → LevelAnswer
+levelAnswer c (found ns n) = Found (getD ns 0 0) (getD ns 1 0) (after c n)
+levelAnswer c otherwise = Otherwise
 
 unfoldable pub levelsRead : Outcome Levels → LevelsRead
 levelsRead (accepted ls) =

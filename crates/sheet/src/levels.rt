@@ -1,13 +1,46 @@
 // The level lines of a sheet: all lines from line 3 on, of which the first 50 are kept.
 use limits::refusal::Refusal;
 use limits::sheet::Sheet;
-use text::line::line;
+use text::line::field;
+use text::number::NumberAnswer;
 use text::reading::Cursor;
 use text::reading::ReadAnswer;
+use text::reading::word;
 ghost use mathlib.Core.Path.{_≡_};
 ghost use lib.ListN.{set, drop};
 ghost use Rattle.limits.specs.Outcome.{refused};
-ghost use Rattle.sheet.specs.Reading.{levelLines, levelsRead};
+ghost use Rattle.text.specs.Bytes.{bytes};
+ghost use Rattle.text.specs.Line.{line};
+ghost use Rattle.sheet.specs.Reading.{levelAnswer, levelLines, levelsRead};
+
+// What a level line holds, weight and height, and where the next line begins; or it is otherwise.
+pub enum LevelAnswer {
+    Found(u64, u64, Cursor),
+    Otherwise,
+}
+
+// The line at a cursor: its two numbers by value, as every level has one.
+fn level_line(s: &[u8], c: Cursor) -> LevelAnswer
+    ensures { λ a. ⌜ a ≡ levelAnswer c (line (bytes "level") 2 (drop (c .at) (now (s .entry)))) ⌝ }
+{
+    let first = word(s, c, b"level");
+    let ReadAnswer::Found(begin) = first else {
+        return LevelAnswer::Otherwise;
+    };
+    let w = field(s, begin);
+    let NumberAnswer::Found(weight, middle) = w else {
+        return LevelAnswer::Otherwise;
+    };
+    let h = field(s, middle);
+    let NumberAnswer::Found(height, end) = h else {
+        return LevelAnswer::Otherwise;
+    };
+    let last = word(s, end, b"\n");
+    let ReadAnswer::Found(next) = last else {
+        return LevelAnswer::Otherwise;
+    };
+    LevelAnswer::Found(weight, height, next)
+}
 
 // How many level lines there are, or the refusal.
 pub enum LevelsAnswer {
@@ -56,14 +89,12 @@ pub fn level_lines(s: &[u8], c: Cursor) -> LevelsRead
     let mut n = 0;
     let mut at = c.at;
     while at < s.len() {
-        let l = line(s, Cursor { at }, b"level", Sheet::LEVEL_NUMBERS);
-        let a = l.answer;
-        let ReadAnswer::Found(next) = a else {
+        let a = level_line(s, Cursor { at });
+        let LevelAnswer::Found(weight, height, next) = a else {
             return LevelsRead::otherwise(Sheet::LEVEL_LINE + n as u64);
         };
-        let numbers = l.numbers;
-        keep(&mut weights, n, numbers[0]);
-        keep(&mut heights, n, numbers[1]);
+        keep(&mut weights, n, weight);
+        keep(&mut heights, n, height);
         n += 1;
         at = next.at;
     }

@@ -3,8 +3,8 @@ use limits::levels::counted;
 use limits::refusal::Refusal;
 use limits::refusal::Verdict;
 use listing::Listing;
-use listing::job_listing;
-use listing::refusal_of;
+use listing::put_job;
+use listing::put_refusal;
 use reader::SheetAnswer;
 use reader::read_sheet;
 
@@ -13,29 +13,41 @@ pub mod listing;
 pub mod reader;
 
 ghost use mathlib.Core.Path.{_≡_};
-ghost use Rattle.sheet.specs.Listing.{sheetListing, printed};
+ghost use Prim.Native.Nat.{_≤_};
+ghost use lib.ListN.{length};
+ghost use Rattle.sheet.specs.Listing.{sheetListing, printed, Written};
 
-// The bytes that are printed for the bytes of a sheet. More levels than the reader keeps are refused by 1, before anything else
-// that a job judges.
-pub fn sheet_listing(s: &[u8]) -> Listing
-    ensures { λ l. ⌜ l ≡ printed (sheetListing (now (s .entry))) ⌝ }
+// Writes what is printed for the bytes of a sheet, and returns its length. More levels than the reader keeps are refused by 1, before
+// anything else that a job judges.
+pub fn put_sheet(out: &mut [u8], s: &[u8]) -> usize
+    requires { ⌜ 4_610 ≤ length (now out) ⌝ }
+    ensures { λ n. ⌜ Written (sheetListing (now (s .entry))) (now (out .entry)) (now (out .exit)) n ⌝ }
 {
     let read = read_sheet(s);
     let a = read.answer;
     let SheetAnswer::Taken(site, frame, levels) = a else {
         let SheetAnswer::Refused(r) = a else {
-            return refusal_of(Refusal::none());
+            return put_refusal(out, Refusal::none());
         };
-        return refusal_of(r);
+        return put_refusal(out, r);
     };
     let count = counted(levels);
     let Verdict::Passed = count else {
         let Verdict::Refused(r) = count else {
-            return refusal_of(Refusal::none());
+            return put_refusal(out, Refusal::none());
         };
-        return refusal_of(r);
+        return put_refusal(out, r);
     };
     let weights = read.weights;
     let heights = read.heights;
-    job_listing(site, frame, &weights[..levels], &heights[..levels])
+    put_job(out, site, frame, &weights[..levels], &heights[..levels])
+}
+
+// The bytes that are printed for the bytes of a sheet.
+pub fn sheet_listing(s: &[u8]) -> Listing
+    ensures { λ l. ⌜ l ≡ printed (sheetListing (now (s .entry))) ⌝ }
+{
+    let mut bytes = [0; 4_610];
+    let length = put_sheet(&mut bytes, s);
+    Listing { bytes, length }
 }

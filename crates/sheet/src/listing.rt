@@ -11,7 +11,7 @@ ghost use Prim.Native.Nat.{_+_, _≤_};
 ghost use lib.ListN.{length};
 ghost use Rattle.job.specs.Job.{jobOf};
 ghost use Rattle.text.specs.Writing.{spliced};
-ghost use Rattle.sheet.specs.Listing.{allLevels, resultsListing, refusal, listing, printed, Levelled};
+ghost use Rattle.sheet.specs.Listing.{allLevels, resultsListing, refusal, listing, Written, Levelled};
 
 // The bytes of a listing, and how many there are. With 20 digits a number a base line has 110 bytes and a level line 90: there is room
 // for any figures of 50 levels.
@@ -44,37 +44,41 @@ pub fn put_levels(
     p
 }
 
-// The listing of a job that was taken.
-pub fn results_listing(f: Figures, forces: &[u64], shears: &[u64], overturnings: &[u64]) -> Listing
-    requires { ⌜ Levelled (now forces) (now shears) (now overturnings) ⌝ }
-    ensures { λ r. ⌜ r ≡ printed (resultsListing f (now (forces .entry)) (now (shears .entry)) (now (overturnings .entry))) ⌝ }
+// Writes the listing of a job that was taken, and returns its length.
+pub fn put_results(
+    out: &mut [u8],
+    f: Figures,
+    forces: &[u64],
+    shears: &[u64],
+    overturnings: &[u64],
+) -> usize
+    requires { ⌜ Levelled (now forces) (now shears) (now overturnings) × (4_610 ≤ length (now out)) ⌝ }
+    ensures { λ n. ⌜ Written (resultsListing f (now (forces .entry)) (now (shears .entry)) (now (overturnings .entry))) (now (out .entry)) (now (out .exit)) n ⌝ }
 {
-    let mut bytes = [0; 4_610];
     let base = [f.v, f.vm, f.star, f.vd, f.t];
-    let p = put_line(&mut bytes, 0, b"base", &base);
-    let length = put_levels(&mut bytes, p, forces, shears, overturnings);
-    Listing { bytes, length }
+    let p = put_line(out, 0, b"base", &base);
+    put_levels(out, p, forces, shears, overturnings)
 }
 
-// The one line of a job or a sheet that was refused.
-pub fn refusal_of(r: Refusal) -> Listing
-    ensures { λ l. ⌜ l ≡ printed (refusal (r .number) (r .place)) ⌝ }
+// Writes the one line of a job or a sheet that was refused, and returns its length.
+pub fn put_refusal(out: &mut [u8], r: Refusal) -> usize
+    requires { ⌜ 4_610 ≤ length (now out) ⌝ }
+    ensures { λ n. ⌜ Written (refusal (r .number) (r .place)) (now (out .entry)) (now (out .exit)) n ⌝ }
 {
-    let mut bytes = [0; 4_610];
     let numbers = [r.number, r.place];
-    let length = put_line(&mut bytes, 0, b"refused", &numbers);
-    Listing { bytes, length }
+    put_line(out, 0, b"refused", &numbers)
 }
 
-// The listing of a job of at most 50 levels.
-pub fn job_listing(
+// Writes the listing of a job of at most 50 levels, and returns its length.
+pub fn put_job(
+    out: &mut [u8],
     site: SiteValues,
     frame: FrameValues,
     weights: &[u64],
     heights: &[u64],
-) -> Listing
-    requires { ⌜ length (now weights) ≤ 50 ⌝ }
-    ensures { λ l. ⌜ l ≡ printed (listing (jobOf site frame (now (weights .entry)) (now (heights .entry)) (length (now (weights .entry))))) ⌝ }
+) -> usize
+    requires { ⌜ (length (now weights) ≤ 50) × (4_610 ≤ length (now out)) ⌝ }
+    ensures { λ n. ⌜ Written (listing (jobOf site frame (now (weights .entry)) (now (heights .entry)) (length (now (weights .entry))))) (now (out .entry)) (now (out .exit)) n ⌝ }
 {
     let mut forces = [0; 50];
     let mut shears = [0; 50];
@@ -90,10 +94,10 @@ pub fn job_listing(
     );
     let JobAnswer::Taken(figures) = a else {
         let JobAnswer::Refused(r) = a else {
-            return refusal_of(Refusal::none());
+            return put_refusal(out, Refusal::none());
         };
-        return refusal_of(r);
+        return put_refusal(out, r);
     };
     let n = weights.len();
-    results_listing(figures, &forces[..n], &shears[..n], &overturnings[..n])
+    put_results(out, figures, &forces[..n], &shears[..n], &overturnings[..n])
 }

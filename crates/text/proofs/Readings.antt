@@ -15,7 +15,7 @@ use Rattle.text.specs.declared.reading.Cursor.{Cursor}
 use Rattle.text.specs.declared.reading.ReadAnswer.the-variants.{Found, Otherwise}
 use Rattle.text.specs.Line.{blank, lineRead}
 use Rattle.text.specs.Number.{numberAnswer}
-use Rattle.text.specs.Reading.{Reading, found, otherwise, Reader, later, next, after, wordAnswer}
+use Rattle.text.specs.Reading.{Reading, found, otherwise, Reader, read, later, next, after, wordAnswer, _>>=_}
 
 -- ---- an answer from a cursor on, and from n bytes further on
 abbrev pub Moves : {B X : Type 0} → (Cursor → Reading B → X) → Type 0
@@ -99,3 +99,25 @@ onward s answer moves {c} {c′} {o} {a} w f =
     rw (w .is)
     (moves c (w .used) (f a (drop (w .used) (drop (c .at) s)))
     ∙ rw (drop-drop (w .used) (c .at) s) (ap (λ (d : Cursor). answer d (f a (drop (d .at) s))) (w .to)))
+
+-- ---- two readings, the second from where the first ended
+module _ {A B : Type 0} (s : List ℕ) (r : Reader A) (f : A → Reader B) {c b : Cursor} {a : A} (w : Went c b (r (drop (c .at) s)) a) where
+  from-there : drop (w .used) (drop (c .at) s) ≡ drop (b .at) s
+  from-there = drop-drop (w .used) (c .at) s ∙ ap (λ (d : Cursor). drop (d .at) s) (w .to)
+
+  pub then-went : {e : Cursor} {v : B} → Went b e (f a (drop (b .at) s)) v → Went c e ((r >>= f) (drop (c .at) s)) v
+  then-went {e} {v} t =
+      record {
+        used = w .used + t .used;
+        is = rw (w .is, from-there, t .is);
+        to = further c (w .used) (t .used) ∙ ap (λ (d : Cursor). after d (t .used)) (w .to) ∙ t .to;
+      }
+
+  pub then-missed : f a (drop (b .at) s) ≡ otherwise → (r >>= f) (drop (c .at) s) ≡ otherwise
+  then-missed o = rw (w .is, from-there, o)
+
+pub first-missed : {A B : Type 0} (r : Reader A) (f : A → Reader B) {s : List ℕ} → r s ≡ otherwise → (r >>= f) s ≡ otherwise
+first-missed r f o = rw o
+
+pub read-went : {A : Type 0} (s : List ℕ) (c : Cursor) (a : A) → Went c c (read a s) a
+read-went s c a = record { used = 0; is = refl; to = stays c }

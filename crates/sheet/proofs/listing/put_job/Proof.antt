@@ -1,0 +1,140 @@
+-- `sheet::listing::put_job` meets its contract. Assumes nothing.
+use borrow.Author.Needs.{needs}
+use mathlib.Core.Path.{_≡_, sym, subst, _∙_}
+use Prim.Native.Nat.{ℕ}
+use native.Mathlib.Omega.{arith}
+use Rattle.job.specs.declared.JobAnswer.{JobAnswer}
+use Rattle.job.specs.declared.JobAnswer.the-variants.{Taken}
+use Rattle.job.specs.Job.{Buffers, Answers}
+use Rattle.sheet.proofs.Joining.{lent, refused-listing, forces-cut, shears-cut, overturnings-cut, cut-levelled, taken-listing}
+use Rattle.sheet.proofs.Listings.{written-as}
+use Rattle.sheet.proofs.listing.put_job.Statement.{statement}
+use Rattle.sheet.proofs.listing.put_job.Tie as tie
+
+-- what the buffers hold after a job
+abbrev held : tie.After-job → Buffers
+held c = let l = c .job .last .1 .1 .1 .1 in record { forces = l .0; shears = l .1 .0; overturnings = l .1 .1 .0 }
+
+taken : (c : tie.After-a)
+    → Answers (c .before .before .before .before .before .before .before .before .before .before .before .before .args .site) (c .before .before .before .before .before .before .before .before .before .before .before .before .args .frame) (c .before .before .before .before .before .before .before .before .before .before .before .before .args .weights .now) (c .before .before .before .before .before .before .before .before .before .before .before .before .args .heights .now) lent (Taken (c .a .given .0 .0)) (held (c .before .before .before .before .before))
+taken c =
+    let g = c .before .before .before .before .before .before .before .before .before .before .before .before .args in
+    subst (λ (x : JobAnswer). Answers (g .site) (g .frame) (g .weights .now) (g .heights .now) lent x (held (c .before .before .before .before .before))) (c .a .given .1) (c .before .before .before .before .before .job .ensures)
+
+slice-aggregate-job : tie.Need-slice-aggregate-job
+slice-aggregate-job c = search needs
+
+slice-aggregate-job-2 : tie.Need-slice-aggregate-job-2
+slice-aggregate-job-2 c = search needs
+
+slice-aggregate-job-3 : tie.Need-slice-aggregate-job-3
+slice-aggregate-job-3 c = search needs
+
+job-requires : tie.Need-job-requires
+job-requires c κs = search needs
+
+enum-known-a : tie.Need-enum-known-a
+enum-known-a c = search needs
+
+enum-known-a-2 : tie.Need-enum-known-a-2
+enum-known-a-2 c = search needs
+
+enum-known-a-3 : tie.Need-enum-known-a-3
+enum-known-a-3 c = search needs
+
+enum-told : tie.Need-enum-told
+enum-told c = search needs
+
+none-requires : tie.Need-none-requires
+none-requires c κs = search needs
+
+put-refusal-requires : tie.Need-put-refusal-requires
+put-refusal-requires c κs = search needs
+
+same-length : tie.Need-same-length
+same-length c = search needs
+
+returns : tie.Need-returns
+returns c =
+    let never = c .before .before .before .before .before .enum-told .given .1 in
+    absurd (let z : _≡_ {A = ℕ} 0 1 = cc in let b : ⊥ = omega arith in b)
+
+put-refusal-requires-2 : tie.Need-put-refusal-requires-2
+put-refusal-requires-2 c κs = search needs
+
+same-length-2 : tie.Need-same-length-2
+same-length-2 c = search needs
+
+returns-2 : tie.Need-returns-2
+returns-2 c =
+    let b = c .before .before .before .before .before .before .before .before .before .before .before .before .before .before .before .before .before .before .before .before in
+    let g = b .args in
+    let h = held (c .before .before .before .before .before .before .before .before .before .before .before .before .before) in
+    let answer = subst (λ (x : JobAnswer). Answers (g .site) (g .frame) (g .weights .now) (g .heights .now) lent x h) (c .before .before .before .before .before .before .before .before .a2 .given .1 ∙ c .before .before .before .before .before .a3 .given .1) (c .before .before .before .before .before .before .before .before .before .before .before .before .before .job .ensures) in
+    written-as (refused-listing (g .site) (g .frame) (g .weights .now) (g .heights .now) (b .pre .0) _ h answer) (c .before .before .put-refusal2 .ensures)
+
+array-share-prefix-forces : tie.Need-array-share-prefix-forces
+array-share-prefix-forces c = search needs
+
+slice-aggregate-put-results : tie.Need-slice-aggregate-put-results
+slice-aggregate-put-results c =
+    let b = c .before .before .before .before .before .before .before .before .before .before .before .before .before .before .before in
+    sym (forces-cut (b .args .site) (b .args .frame) (b .args .weights .now) (b .args .heights .now) (b .pre .0) _ _ (taken (c .before .before .before)))
+
+array-share-prefix-shears : tie.Need-array-share-prefix-shears
+array-share-prefix-shears c = search needs
+
+slice-aggregate-put-results-2 : tie.Need-slice-aggregate-put-results-2
+slice-aggregate-put-results-2 c =
+    let b = c .before .before .before .before .before .before .before .before .before .before .before .before .before .before .before .before in
+    sym (shears-cut (b .args .site) (b .args .frame) (b .args .weights .now) (b .args .heights .now) (b .pre .0) _ _ (taken (c .before .before .before .before)))
+
+array-share-prefix-overturnings : tie.Need-array-share-prefix-overturnings
+array-share-prefix-overturnings c = search needs
+
+slice-aggregate-put-results-3 : tie.Need-slice-aggregate-put-results-3
+slice-aggregate-put-results-3 c =
+    let b = c .before .before .before .before .before .before .before .before .before .before .before .before .before .before .before .before .before in
+    sym (overturnings-cut (b .args .site) (b .args .frame) (b .args .weights .now) (b .args .heights .now) (b .pre .0) _ _ (taken (c .before .before .before .before .before)))
+
+put-results-requires : tie.Need-put-results-requires
+put-results-requires c κs =
+    let b = c .before .before .before .before .before .before .before .before .before .before .before .before .before .before .before .before .before in
+    (cut-levelled (b .args .site) (b .args .frame) (b .args .weights .now) (b .args .heights .now) (b .pre .0) _ _ (taken (c .before .before .before .before .before)), b .pre .1)
+
+same-length-3 : tie.Need-same-length-3
+same-length-3 c = search needs
+
+returns-3 : tie.Need-returns-3
+returns-3 c =
+    let b = c .before .before .before .before .before .before .before .before .before .before .before .before .before .before .before .before .before .before .before .before in
+    written-as (taken-listing (b .args .site) (b .args .frame) (b .args .weights .now) (b .args .heights .now) (b .pre .0) _ _ (taken (c .before .before .before .before .before .before .before .before))) (c .before .before .put-results .ensures)
+
+pub put-job-spec : {M : Type 1} → statement M
+put-job-spec =
+    tie.close
+    (tie.spec
+    slice-aggregate-job
+    slice-aggregate-job-2
+    slice-aggregate-job-3
+    job-requires
+    enum-known-a
+    enum-known-a-2
+    enum-known-a-3
+    enum-told
+    none-requires
+    put-refusal-requires
+    same-length
+    returns
+    put-refusal-requires-2
+    same-length-2
+    returns-2
+    array-share-prefix-forces
+    slice-aggregate-put-results
+    array-share-prefix-shears
+    slice-aggregate-put-results-2
+    array-share-prefix-overturnings
+    slice-aggregate-put-results-3
+    put-results-requires
+    same-length-3
+    returns-3)
