@@ -1,22 +1,30 @@
-/* Times one call of each kind: the core, the same rules in integers, and in doubles. */
+/* Times one call of each kind: the core, and the same rules in plain C, turn by turn. */
 #define _POSIX_C_SOURCE 200809L
-#include <pthread.h>
 #include <stdio.h>
+#include <stdlib.h>
 #include <string.h>
 #include <time.h>
-#include "rules.h"
+#include "inputs.h"
+#include "sides.h"
 
-enum { ROUNDS = 51, LEVELS = 50, LAYERS = 40 };
+enum { ROUNDS = 201, COMPARED = 20000 };
 
-static u64 weights[LEVELS], heights[LEVELS], forces[LEVELS], shears[LEVELS], moments[LEVELS];
-static u64 thicknesses[LAYERS], kinds[LAYERS], values[LAYERS];
+typedef enum { JOB, LOG, SHEET } Call;
+
+/* a round takes as many calls as take some 100 us, all of a pool in turn */
+typedef struct {
+    const char *name;
+    Call call;
+    size_t count;          /* of inputs: 1, or POOL */
+    long calls;
+} Kind;
+
+static JobInput jobs[POOL];
+static LogInput logs[POOL];
+static SheetInput sheets[POOL];
+static char texts[POOL][BYTES + 64];
 static volatile u64 kept;
-
-typedef JobReply Job(Site, Frame, const u64 *, size_t, const u64 *, size_t, u64 *, size_t, u64 *, size_t, u64 *, size_t);
-typedef ClassReply Log(const u64 *, size_t, const u64 *, size_t, const u64 *, size_t);
-
-static const Site SITE = {70, 40, 90, 50, 112, 123, 2};
-static const Frame FRAME = {2, 700, 480, 125, 150}, BAD = {2, 60001, 480, 125, 150};
+static u64 forces[LEVELS], shears[LEVELS], moments[LEVELS];
 
 static double now(void)
 {
@@ -25,197 +33,195 @@ static double now(void)
     return t.tv_sec * 1e9 + t.tv_nsec;
 }
 
-/* The median of ROUNDS rounds. */
-static double median(double *times)
+static JobReply job_call(Job *job, const JobInput *p)
 {
-    for (int i = 1; i < ROUNDS; i++)
-        for (int j = i; j > 0 && times[j] < times[j - 1]; j--) {
-            double t = times[j];
-            times[j] = times[j - 1];
-            times[j - 1] = t;
-        }
-    return times[ROUNDS / 2];
+    size_t n = p->levels;
+    return job(p->site, p->frame, p->weights, n, p->heights, n, forces, n, shears, n, moments, n);
 }
 
-/* One round, in ns a call. */
-static double job_round(Job *job, Frame frame, size_t n)
+static ClassReply log_call(Log *log, const LogInput *p)
 {
-    long calls = 200000 / (n + 10);
+    return log(p->thicknesses, LAYERS, p->kinds, LAYERS, p->values, LAYERS);
+}
+
+/* One round, in ns a call. A single input has another first weight or value at each call. */
+static double round_of(const Kind *k, const Side *side)
+{
+    size_t mask = k->count - 1;
     double start = now();
-    for (long i = 0; i < calls; i++) {
-        weights[0] = 4000 + i % 1000;
-        kept += job(SITE, frame, weights, n, heights, n, forces, n, shears, n, moments, n).vd;
+    for (long i = 0; i < k->calls; i++) switch (k->call) {
+    case JOB:
+        if (!mask) jobs->weights[0] = 4000 + i % 1000;
+        kept += job_call(side->job, jobs + (i & mask)).vd;
+        break;
+    case LOG:
+        if (!mask) logs->values[0] = 2 + i % 20;
+        kept += log_call(side->log, logs + (i & mask)).class_number;
+        break;
+    case SHEET:
+        kept += side->sheet(sheets[i & mask].bytes, sheets[i & mask].length).length;
     }
-    return (now() - start) / calls;
+    return (now() - start) / k->calls;
 }
 
-static double log_round(Log *log)
+static int has(const Side *side, Call call) { return call == JOB || (side->log && side->sheet); }
+
+static int ascending(const void *a, const void *b)
 {
-    long calls = 20000;
-    double start = now();
-    for (long i = 0; i < calls; i++) {
-        values[0] = 2 + i % 20;
-        kept += log(thicknesses, LAYERS, kinds, LAYERS, values, LAYERS).class_number;
+    double x = *(const double *)a, y = *(const double *)b;
+    return (x > y) - (x < y);
+}
+
+static double median(const double *of)
+{
+    double sorted[ROUNDS];
+    memcpy(sorted, of, sizeof sorted);
+    qsort(sorted, ROUNDS, sizeof *sorted, ascending);
+    return sorted[ROUNDS / 2];
+}
+
+/* The median time of the core, and the median of its ratio over each other side, both sides of a ratio in one round. */
+static void timed(const char *name, Call call, size_t count, double guess)
+{
+    static double times[SIDES][ROUNDS], ratios[ROUNDS];
+    Kind k = {name, call, count, (long)(100000 / guess / count + 1) * count};
+    for (int i = 0; i < ROUNDS; i++)
+        for (int s = 0; s < SIDES; s++)
+            if (has(sides + s, call)) times[s][i] = round_of(&k, sides + s);
+    printf("%-28s %-6s %8.0f ns", name, count == 1 ? "fixed" : "drawn", median(times[0]));
+    for (int s = 1; s < SIDES; s++) {
+        if (!has(sides + s, call)) continue;
+        for (int i = 0; i < ROUNDS; i++) ratios[i] = times[0][i] / times[s][i];
+        printf("   %s %5.2f", sides[s].name, median(ratios));
     }
-    return (now() - start) / calls;
-}
-
-typedef SheetReply Sheet(const uint8_t *, size_t);
-
-static double sheet_round(Sheet *sheet, const char *bytes)
-{
-    long calls = 5000;
-    size_t length = strlen(bytes);
-    double start = now();
-    for (long i = 0; i < calls; i++) kept += sheet((const uint8_t *)bytes, length).length;
-    return (now() - start) / calls;
-}
-
-/* The sheet of the job of 50 levels. */
-static const char *sheet_of_50(void)
-{
-    static char bytes[4096];
-    int n = sprintf(bytes, "site\t70\t40\t90\t50\t112\t123\t2\nframe\t2\t700\t480\t125\t150\n");
-    for (size_t x = 0; x < LEVELS; x++) n += sprintf(bytes + n, "level\t%d\t%d\n", (int)weights[x], (int)heights[x]);
-    return bytes;
-}
-
-/* How deep a call goes into the stack: a thread's own stack is painted, and what is no longer as painted was used. */
-enum { STACK = 1 << 18, PAINT = 0xa5 };
-static uint8_t stack[STACK] __attribute__((aligned(4096)));
-
-static uint8_t *before;
-
-/* where the stack stands right before the call of an entry: its caller's part is not counted */
-#define HERE() __asm__ volatile("mov %%rsp, %0" : "=r"(before))
-
-static void *one_job(void *p)
-{
-    HERE();
-    kept += rukeshomaji_job(SITE, FRAME, weights, 50, heights, 50, forces, 50, shears, 50, moments, 50).vd;
-    return p;
-}
-static void *one_figures(void *p)
-{
-    HERE();
-    kept += rukeshomaji_figures(SITE, FRAME, weights, 50, heights, 50).vd;
-    return p;
-}
-static void *one_log(void *p)
-{
-    HERE();
-    kept += rukeshomaji_site_class(thicknesses, 40, kinds, 40, values, 40).class_number;
-    return p;
-}
-static void *one_sheet(void *p)
-{
-    static SheetReply reply;
-    const char *bytes = sheet_of_50();
-    size_t length = strlen(bytes);
-    HERE();
-    reply = rukeshomaji_sheet((const uint8_t *)bytes, length);
-    kept += reply.length;
-    return p;
-}
-
-/* The second of two runs: in the first the loader binds what the code calls. */
-static long depth(void *run(void *))
-{
-    long untouched = 0;
-    for (int turn = 0; turn < 2; turn++) {
-        pthread_attr_t own;
-        pthread_t thread;
-        memset(stack, PAINT, STACK);
-        pthread_attr_init(&own);
-        pthread_attr_setstack(&own, stack, STACK);
-        pthread_create(&thread, &own, run, NULL);
-        pthread_join(thread, NULL);
-        for (untouched = 0; untouched < STACK && stack[untouched] == PAINT;) untouched++;
-    }
-    return before - (stack + untouched);
-}
-
-/* The core beside the integers, and the doubles where there are any: turn by turn, the median of each and of the ratios. */
-static double core[ROUNDS], integers[ROUNDS], carried[ROUNDS], doubles[ROUNDS], ratios[ROUNDS];
-
-static void over(const char *name, double *times)
-{
-    for (int i = 0; i < ROUNDS; i++) ratios[i] = core[i] / times[i];
-    double ratio = median(ratios);
-    memcpy(ratios, times, sizeof ratios);
-    printf("   %s %6.0f ns, ratio %5.2f", name, median(ratios), ratio);
-}
-
-static void report(const char *name, int of_jobs)
-{
-    memcpy(ratios, core, sizeof ratios);
-    printf("%-22s core %6.0f ns", name, median(ratios));
-    over("integers", integers);
-    if (of_jobs) over("in one pass", carried), over("doubles", doubles);
     printf("\n");
+    fflush(stdout);
 }
 
-static int same_job(Job *job, Frame frame, size_t n)
+/* ---- every side gives what the core gives, in the reply and in each cell */
+static int same_job(const JobInput *p)
 {
-    u64 f[LEVELS] = {0}, s[LEVELS] = {0}, m[LEVELS] = {0};
-    memset(forces, 0, sizeof forces), memset(shears, 0, sizeof shears), memset(moments, 0, sizeof moments);
-    JobReply a = rukeshomaji_job(SITE, frame, weights, n, heights, n, f, n, s, n, m, n);
-    JobReply b = job(SITE, frame, weights, n, heights, n, forces, n, shears, n, moments, n);
-    return !memcmp(&a, &b, sizeof a) && !memcmp(f, forces, sizeof f) && !memcmp(s, shears, sizeof s) && !memcmp(m, moments, sizeof m);
+    static u64 cells[SIDES][3 * LEVELS];
+    JobReply replies[SIDES];
+    for (int s = 0; s < SIDES; s++) {
+        if (!sides[s].log) continue;
+        size_t n = p->levels;
+        u64 *c = memset(cells[s], 0, sizeof cells[s]);
+        replies[s] = sides[s].job(p->site, p->frame, p->weights, n, p->heights, n, c, n, c + LEVELS, n, c + 2 * LEVELS, n);
+        if (memcmp(replies, replies + s, sizeof *replies) || memcmp(cells, cells + s, sizeof *cells)) return 0;
+    }
+    return 1;
 }
 
-/* The doubles round once, at the end: a few newtons off. */
-static int near_job(size_t n)
+/* the doubles round once, at the end: a few newtons off, and T may be a millisecond off where inputs are drawn */
+static int near_job(const JobInput *p)
 {
-    JobReply a = rukeshomaji_figures(SITE, FRAME, weights, n, heights, n);
-    JobReply b = double_job(SITE, FRAME, weights, n, heights, n, forces, n, shears, n, moments, n);
-    u64 off = a.vd > b.vd ? a.vd - b.vd : b.vd - a.vd;
-    return a.t == b.t && off <= a.vd / 100000 + 1;
+    u64 a = job_call(rukeshomaji_job, p).vd, b = job_call(double_job, p).vd, off = a > b ? a - b : b - a;
+    return off <= a / 100000 + 1;
+}
+
+static int same_log(const LogInput *p)
+{
+    ClassReply first = log_call(sides->log, p);
+    for (int s = 1; s < SIDES; s++) {
+        if (!sides[s].log) continue;
+        ClassReply other = log_call(sides[s].log, p);
+        if (memcmp(&first, &other, sizeof first)) return 0;
+    }
+    return 1;
+}
+
+static int same_sheet(const char *bytes, size_t length)
+{
+    static SheetReply first, other;
+    first = sides->sheet((const uint8_t *)bytes, length);
+    for (int s = 1; s < SIDES; s++) {
+        if (!sides[s].sheet) continue;
+        other = sides[s].sheet((const uint8_t *)bytes, length);
+        if (first.length != other.length || memcmp(first.bytes, other.bytes, sizeof first.bytes)) return 0;
+    }
+    return 1;
 }
 
 static int same(void)
 {
-    int all = 1;
-    for (size_t n = 1; n <= LEVELS; n++)
-        all &= same_job(integer_job, FRAME, n) && same_job(carried_job, FRAME, n) && near_job(n) && same_job(integer_job, BAD, n);
-    SheetReply listed = rukeshomaji_sheet((const uint8_t *)sheet_of_50(), strlen(sheet_of_50()));
-    SheetReply plain = integer_sheet((const uint8_t *)sheet_of_50(), strlen(sheet_of_50()));
-    all &= listed.length == plain.length && !memcmp(listed.bytes, plain.bytes, listed.length);
-    ClassReply a = rukeshomaji_site_class(thicknesses, 40, kinds, 40, values, 40);
-    ClassReply b = integer_site_class(thicknesses, 40, kinds, 40, values, 40);
-    return all && !memcmp(&a, &b, sizeof a);
+    for (size_t n = 1; n <= LEVELS; n++) {
+        JobInput p = fixed_job(n);
+        if (!same_job(&p) || !near_job(&p)) return 0;
+    }
+    for (int i = 0; i < COMPARED; i++) {
+        size_t n = 1 + drawn(LEVELS);
+        JobInput p = i % 5 ? drawn_job(n) : spoilt_job(n);
+        LogInput l = i ? drawn_log() : fixed_log();
+        char text[BYTES + 64];
+        size_t length = sheet_of(&p, text);
+        if (i % 4 == 1) l.thicknesses[drawn(LAYERS)] = drawn(3) ? 0 : 99;
+        if (i % 4 == 2) l.values[drawn(LAYERS)] = drawn(60);
+        if (i % 7 == 3) text[drawn(length)] = '0' + drawn(12);
+        if (i % 100 == 99) long_sheet(&p, text, drawn_weight), length = BYTES;
+        if (!same_job(&p) || !same_log(&l) || !same_sheet(text, length)) return 0;
+    }
+    return 1;
+}
+
+/* ---- the kinds of call, each on its fixed input and on a pool of drawn ones */
+static void time_jobs(const char *name, size_t levels, double guess, JobInput fixed, JobInput draw(size_t))
+{
+    jobs[0] = fixed;
+    timed(name, JOB, 1, guess);
+    for (int i = 0; i < POOL; i++) jobs[i] = draw(levels);
+    timed(name, JOB, POOL, guess);
+}
+
+static void lay_sheet(int i, const JobInput *p)
+{
+    sheets[i] = (SheetInput){(uint8_t *)texts[i], sheet_of(p, texts[i])};
+}
+
+static void time_sheets(const char *name, size_t levels, double guess)
+{
+    JobInput p = fixed_job(levels);
+    lay_sheet(0, &p);
+    timed(name, SHEET, 1, guess);
+    for (int i = 0; i < POOL; i++) p = drawn_job(levels), lay_sheet(i, &p);
+    timed(name, SHEET, POOL, guess);
+}
+
+static void time_long_sheets(const char *name)
+{
+    JobInput p = fixed_job(1);
+    for (int i = 0; i < POOL; i++) sheets[i] = (SheetInput){(uint8_t *)texts[i], BYTES};
+    long_sheet(&p, texts[0], least_weight);
+    timed(name, SHEET, 1, 8000);
+    for (int i = 0; i < POOL; i++) p = drawn_job(1), long_sheet(&p, texts[i], drawn_weight);
+    timed(name, SHEET, POOL, 8000);
+}
+
+static void time_logs(const char *name)
+{
+    logs[0] = fixed_log();
+    timed(name, LOG, 1, 300);
+    for (int i = 0; i < POOL; i++) logs[i] = drawn_log();
+    timed(name, LOG, POOL, 300);
 }
 
 int main(void)
 {
-    for (size_t x = 0; x < LEVELS; x++) weights[x] = 5000 + 10 * x, heights[x] = 38 * (x + 1);
-    for (size_t i = 0; i < LAYERS; i++) thicknesses[i] = 75, kinds[i] = 2 + i % 2, values[i] = 2 + i % 24;
     if (!same()) {
         printf("the core and the plain C differ\n");
         return 1;
     }
-    size_t counts[] = {1, 10, 50};
-    for (int k = 0; k < 3; k++) {
-        char name[32];
-        snprintf(name, sizeof name, "job of %zu level%s", counts[k], k ? "s" : "");
-        for (int i = 0; i < ROUNDS; i++) {
-            core[i] = job_round(rukeshomaji_job, FRAME, counts[k]);
-            integers[i] = job_round(integer_job, FRAME, counts[k]);
-            carried[i] = job_round(carried_job, FRAME, counts[k]);
-            doubles[i] = job_round(double_job, FRAME, counts[k]);
-        }
-        report(name, 1);
-    }
-    for (int i = 0; i < ROUNDS; i++) core[i] = job_round(rukeshomaji_job, BAD, 50), integers[i] = job_round(integer_job, BAD, 50);
-    report("refused job of 50", 0);
-    for (int i = 0; i < ROUNDS; i++) {
-        core[i] = sheet_round(rukeshomaji_sheet, sheet_of_50());
-        integers[i] = sheet_round(integer_sheet, sheet_of_50());
-    }
-    report("sheet of 50 levels", 0);
-    for (int i = 0; i < ROUNDS; i++) core[i] = log_round(rukeshomaji_site_class), integers[i] = log_round(integer_site_class);
-    report("soil log of 40 layers", 0);
-    printf("stack touched below the call: job %ld, figures %ld, soil log %ld, sheet %ld bytes\n", depth(one_job), depth(one_figures),
-           depth(one_log), depth(one_sheet));
+    printf("%d jobs, logs and sheets: all sides give the same\n", COMPARED);
+    JobInput refused = fixed_job(50);
+    refused.frame.calculated = 60001;
+    time_jobs("job of 1 level", 1, 100, fixed_job(1), drawn_job);
+    time_jobs("job of 10 levels", 10, 200, fixed_job(10), drawn_job);
+    time_jobs("job of 25 levels", 25, 400, fixed_job(25), drawn_job);
+    time_jobs("job of 50 levels", 50, 800, fixed_job(50), drawn_job);
+    time_jobs("refused job of 50 levels", 50, 80, refused, spoilt_job);
+    time_sheets("sheet of 1 level", 1, 400);
+    time_sheets("sheet of 50 levels", 50, 5000);
+    time_long_sheets("refused sheet of 4,096 bytes");
+    time_logs("soil log of 40 layers");
     return 0;
 }

@@ -35,12 +35,12 @@ static double factor(double a, double b, double t, double capacity)
 
 static double modified(double q) { return q <= 0.3 ? q : q <= 0.8 ? 0.52 * q + 0.144 : 0.7 * q; }
 
-JobReply double_job(Site s, Frame f, const u64 *w, size_t n, const u64 *h, size_t m, u64 *forces, size_t nf, u64 *shears, size_t ns,
+JobReply OF(job)(Site s, Frame f, const u64 *w, size_t n, const u64 *h, size_t m, u64 *forces, size_t nf, u64 *shears, size_t ns,
                     u64 *moments, size_t nm)
 {
     static const double c[] = {0.085, 0.07, 0.07, 0.05};
     size_t room = nf < ns ? nf : ns;
-    u64 refused = judged(s, f, w, n, h, m, room < nm ? room : nm);
+    u64 refused = OF(judged)(s, f, w, n, h, m, room < nm ? room : nm);
     if (refused) return (JobReply){refused >> 32, refused & 0xffffffff, 0, 0, 0, 0, 0};
     double W = 0, P = 0;
     for (size_t x = 0; x < n; x++) W += 1000.0 * w[x], P += (double)w[x] * h[x];
@@ -58,19 +58,13 @@ JobReply double_job(Site s, Frame f, const u64 *w, size_t n, const u64 *h, size_
     double v = share * modified(spectrum(a, b, t) / factor(a, b, t, design));
     double vm = share * modified(spectrum(am, bm, t) / factor(am, bm, t, r));
     double star = share / 3 * fs * modified(spectrum(ap, bp, t) / fs), vd = fmax(fmax(v, vm), star);
-    double ft = 0.07 * t * vd, px = 0, above = 0, force[50], height[50];
+    double ft = 0.07 * t * vd, px = 0, above = 0, moment = 0;
     for (size_t x = n; x-- > 0;) {
         px += (double)w[x] * h[x];
-        height[x] = h[x];
         double under = ceil(ft + (vd - ft) * px / P);
-        force[x] = under - above;
-        shears[x] = under, forces[x] = force[x];
+        shears[x] = under, forces[x] = under - above;
         above = under;
-    }
-    for (size_t x = 0; x < n; x++) {
-        double bottom = x ? height[x - 1] : 0, moment = 0;
-        for (size_t k = x; k < n; k++) moment += force[k] * (height[k] - bottom);
-        moments[x] = moment;
+        moments[x] = moment += under * (h[x] - (x ? h[x - 1] : 0));
     }
     return (JobReply){0, 0, ceil(v), ceil(vm), ceil(star), ceil(vd), round(1000 * t)};
 }

@@ -1,4 +1,4 @@
-/* The rules in 64-bit integers. */
+/* The rules in 64-bit integers, in one pass over the levels. */
 #include "rules.h"
 
 static const u64 COLUMNS_A[] = {5000, 6000, 7000, 8000, 9000}, COLUMNS_V[] = {3000, 3500, 4000, 4500, 5000};
@@ -86,30 +86,11 @@ static u64 blended(u64 sa, u64 f)
     return up(7 * sa, 10);
 }
 
-/* overturning of each storey summed anew, as document 01 says it and the core does */
-static inline void summed(const u64 *forces, const u64 *shears, const u64 *h, size_t n, u64 *moments)
-{
-    (void)shears;
-    for (size_t x = 0; x < n; x++) {
-        u64 bottom = x ? h[x - 1] : 0, moment = 0;
-        for (size_t k = x; k < n; k++) moment += forces[k] * (h[k] - bottom);
-        moments[x] = moment;
-    }
-}
-
-/* the same figures in one pass: each storey adds its shear times its height */
-static inline void carried(const u64 *forces, const u64 *shears, const u64 *h, size_t n, u64 *moments)
-{
-    (void)forces;
-    u64 moment = 0;
-    for (size_t x = n; x-- > 0;) moments[x] = moment += shears[x] * (h[x] - (x ? h[x - 1] : 0));
-}
-
-static inline JobReply job_by(void overturn(const u64 *, const u64 *, const u64 *, size_t, u64 *), Site s, Frame f, const u64 *w, size_t n,
-                              const u64 *h, size_t m, u64 *forces, size_t nf, u64 *shears, size_t ns, u64 *moments, size_t nm)
+JobReply OF(job)(Site s, Frame f, const u64 *w, size_t n, const u64 *h, size_t m, u64 *forces, size_t nf, u64 *shears, size_t ns,
+                 u64 *moments, size_t nm)
 {
     size_t room = nf < ns ? nf : ns;
-    u64 refused = judged(s, f, w, n, h, m, room < nm ? room : nm);
+    u64 refused = OF(judged)(s, f, w, n, h, m, room < nm ? room : nm);
     if (refused) return (JobReply){refused >> 32, refused & 0xffffffff, 0, 0, 0, 0, 0};
     u64 W = 0, P = 0;
     for (size_t x = 0; x < n; x++) W += w[x], P += w[x] * h[x];
@@ -133,20 +114,9 @@ static inline JobReply job_by(void overturn(const u64 *, const u64 *, const u64 
         forces[x] = shears[x] - above;
         above = shears[x];
     }
-    overturn(forces, shears, h, n, moments);
+    u64 moment = 0;
+    for (size_t x = n; x-- > 0;) moments[x] = moment += shears[x] * (h[x] - (x ? h[x - 1] : 0));
     return (JobReply){0, 0, v, vm, star, vd, T};
-}
-
-JobReply integer_job(Site s, Frame f, const u64 *w, size_t n, const u64 *h, size_t m, u64 *forces, size_t nf, u64 *shears, size_t ns,
-                     u64 *moments, size_t nm)
-{
-    return job_by(summed, s, f, w, n, h, m, forces, nf, shears, ns, moments, nm);
-}
-
-JobReply carried_job(Site s, Frame f, const u64 *w, size_t n, const u64 *h, size_t m, u64 *forces, size_t nf, u64 *shears, size_t ns,
-                     u64 *moments, size_t nm)
-{
-    return job_by(carried, s, f, w, n, h, m, forces, nf, shears, ns, moments, nm);
 }
 
 static u64 velocity(u64 kind, u64 value)
@@ -160,7 +130,7 @@ static u64 velocity(u64 kind, u64 value)
     return lo;
 }
 
-ClassReply integer_site_class(const u64 *d, size_t n, const u64 *kinds, size_t nk, const u64 *values, size_t nv)
+ClassReply OF(site_class)(const u64 *d, size_t n, const u64 *kinds, size_t nk, const u64 *values, size_t nv)
 {
     if (nk != n || nv != n) return (ClassReply){2, 0, 0};
     if (n < 1 || n > 40) return (ClassReply){13, 0, 0};

@@ -1,4 +1,4 @@
-/* Refusals 1 to 12, shared by both versions. */
+/* Refusals 1 to 12 of a job. */
 #include "rules.h"
 
 static u64 refusal(u64 number, u64 place) { return number << 32 | place; }
@@ -10,7 +10,7 @@ static int among(const u64 *values, int count, u64 x)
     return 0;
 }
 
-u64 judged(Site s, Frame f, const u64 *w, size_t n, const u64 *h, size_t m, size_t room)
+u64 OF(judged)(Site s, Frame f, const u64 *w, size_t n, const u64 *h, size_t m, size_t room)
 {
     static const u64 ssd[] = {50, 60, 70, 80}, s1d[] = {30, 35, 40, 45}, ssm[] = {70, 80, 90, 100}, s1m[] = {40, 45, 50, 55};
     static const u64 i_values[] = {100, 125, 150};

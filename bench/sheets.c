@@ -42,7 +42,7 @@ static SheetReply refused(u64 number, u64 place)
     return r;
 }
 
-SheetReply integer_sheet(const uint8_t *s, size_t length)
+SheetReply OF(sheet)(const uint8_t *s, size_t length)
 {
     const uint8_t *p = s, *end = s + length;
     u64 site[7], frame[5], level[2], w[50], h[50], forces[50], shears[50], moments[50];
@@ -57,7 +57,7 @@ SheetReply integer_sheet(const uint8_t *s, size_t length)
     if (n > 50) return refused(1, 0);
     Site a = {site[0], site[1], site[2], site[3], site[4], site[5], site[6]};
     Frame b = {frame[0], frame[1], frame[2], frame[3], frame[4]};
-    JobReply j = integer_job(a, b, w, n, h, n, forces, n, shears, n, moments, n);
+    JobReply j = OF(job)(a, b, w, n, h, n, forces, n, shears, n, moments, n);
     if (j.number) return refused(j.number, j.place);
     SheetReply r = {{0}, 0};
     uint8_t *out = put(r.bytes, "base", (u64[]){j.v, j.vm, j.star, j.vd, j.t}, 5);

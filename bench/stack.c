@@ -1,0 +1,75 @@
+/* How deep a call of the core goes into the stack: a thread's own stack is painted, and what is no longer as painted was used. */
+#include <pthread.h>
+#include <stdio.h>
+#include <string.h>
+#include "inputs.h"
+
+enum { STACK = 1 << 18, PAINT = 0xa5 };
+static uint8_t stack[STACK] __attribute__((aligned(4096)));
+static uint8_t *before;
+static volatile u64 kept;
+
+static JobInput job;
+static LogInput soil;
+static char text[BYTES + 64];
+static u64 forces[LEVELS], shears[LEVELS], moments[LEVELS];
+
+/* where the stack stands right before the call of an entry: its caller's part is not counted */
+#define HERE() __asm__ volatile("mov %%rsp, %0" : "=r"(before))
+
+static void *one_job(void *p)
+{
+    HERE();
+    kept += rukeshomaji_job(job.site, job.frame, job.weights, 50, job.heights, 50, forces, 50, shears, 50, moments, 50).vd;
+    return p;
+}
+
+static void *one_figures(void *p)
+{
+    HERE();
+    kept += rukeshomaji_figures(job.site, job.frame, job.weights, 50, job.heights, 50).vd;
+    return p;
+}
+
+static void *one_log(void *p)
+{
+    HERE();
+    kept += rukeshomaji_site_class(soil.thicknesses, LAYERS, soil.kinds, LAYERS, soil.values, LAYERS).class_number;
+    return p;
+}
+
+static void *one_sheet(void *p)
+{
+    static SheetReply reply;
+    size_t length = sheet_of(&job, text);
+    HERE();
+    reply = rukeshomaji_sheet((const uint8_t *)text, length);
+    kept += reply.length;
+    return p;
+}
+
+/* The second of two runs: in the first the loader binds what the code calls. */
+static long depth(void *run(void *))
+{
+    long untouched = 0;
+    for (int turn = 0; turn < 2; turn++) {
+        pthread_attr_t own;
+        pthread_t thread;
+        memset(stack, PAINT, STACK);
+        pthread_attr_init(&own);
+        pthread_attr_setstack(&own, stack, STACK);
+        pthread_create(&thread, &own, run, NULL);
+        pthread_join(thread, NULL);
+        for (untouched = 0; untouched < STACK && stack[untouched] == PAINT;) untouched++;
+    }
+    return before - (stack + untouched);
+}
+
+int main(void)
+{
+    job = fixed_job(LEVELS);
+    soil = fixed_log();
+    printf("stack touched below the call: job %ld, figures %ld, soil log %ld, sheet %ld bytes\n", depth(one_job), depth(one_figures),
+           depth(one_log), depth(one_sheet));
+    return 0;
+}
