@@ -11,7 +11,7 @@ enum { ROUNDS = 201, COMPARED = 20000 };
 
 typedef enum { JOB, LOG, SHEET } Call;
 
-/* a round takes as many calls as take some 100 us, all of a pool in turn */
+/* a round takes as many calls as take some 100 us, or the whole of a pool where that takes longer */
 typedef struct {
     const char *name;
     Call call;

@@ -1,4 +1,4 @@
-/* count LEVELS: one job of the fixed input, one of each of a pool of drawn ones, and as many sheets, for bench/growth to count in. */
+/* count LEVELS: one job of the fixed input, then a job and a sheet of each of a pool of drawn ones, for bench/growth to count in. */
 #include <stdio.h>
 #include <stdlib.h>
 #include "inputs.h"
@@ -6,31 +6,39 @@
 Job plain_job;
 Sheet plain_sheet;
 
+static JobInput job;
+static char text[BYTES + 64];
+static size_t length;
 static u64 forces[LEVELS], shears[LEVELS], moments[LEVELS];
 static volatile u64 kept;
 
-/* in functions of their own, by whose names the counts are told apart; a name for each side and kind of call */
-#define COUNTED(name, call) __attribute__((noinline)) void name(const JobInput *p) { kept += call; }
-#define JOB(job) job(p->site, p->frame, p->weights, p->levels, p->heights, p->levels, forces, LEVELS, shears, LEVELS, moments, LEVELS).vd
-static char text[BYTES + 64];
-static size_t length;
-COUNTED(core_fixed_job, JOB(rukeshomaji_job))
-COUNTED(core_drawn_job, JOB(rukeshomaji_job))
-COUNTED(plain_fixed_job, JOB(plain_job))
-COUNTED(plain_drawn_job, JOB(plain_job))
-COUNTED(core_drawn_sheet, rukeshomaji_sheet((const uint8_t *)text, length).length + 0 * p->levels)
-COUNTED(plain_drawn_sheet, plain_sheet((const uint8_t *)text, length).length + 0 * p->levels)
+static u64 base_shear(Job *of)
+{
+    size_t n = job.levels;
+    return of(job.site, job.frame, job.weights, n, job.heights, n, forces, n, shears, n, moments, n).vd;
+}
+
+static u64 listed(Sheet *of) { return of((const uint8_t *)text, length).length; }
+
+/* in functions of their own, by whose names the counts are told apart */
+#define COUNTED(name, call) __attribute__((noinline)) void name(void) { kept += call; }
+COUNTED(core_fixed_job, base_shear(rukeshomaji_job))
+COUNTED(core_drawn_job, base_shear(rukeshomaji_job))
+COUNTED(plain_fixed_job, base_shear(plain_job))
+COUNTED(plain_drawn_job, base_shear(plain_job))
+COUNTED(core_drawn_sheet, listed(rukeshomaji_sheet))
+COUNTED(plain_drawn_sheet, listed(plain_sheet))
 
 int main(int count, char **words)
 {
     size_t levels = count == 2 ? atoi(words[1]) : 0;
     if (levels < 1 || levels > LEVELS) return 1;
-    JobInput p = fixed_job(levels);
-    core_fixed_job(&p), plain_fixed_job(&p);
+    job = fixed_job(levels);
+    core_fixed_job(), plain_fixed_job();
     for (int i = 0; i < POOL; i++) {
-        p = drawn_job(levels), length = sheet_of(&p, text);
-        core_drawn_job(&p), plain_drawn_job(&p);
-        core_drawn_sheet(&p), plain_drawn_sheet(&p);
+        job = drawn_job(levels), length = sheet_of(&job, text);
+        core_drawn_job(), plain_drawn_job();
+        core_drawn_sheet(), plain_drawn_sheet();
     }
     return 0;
 }

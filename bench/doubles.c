@@ -36,7 +36,7 @@ static double factor(double a, double b, double t, double capacity)
 static double modified(double q) { return q <= 0.3 ? q : q <= 0.8 ? 0.52 * q + 0.144 : 0.7 * q; }
 
 JobReply OF(job)(Site s, Frame f, const u64 *w, size_t n, const u64 *h, size_t m, u64 *forces, size_t nf, u64 *shears, size_t ns,
-                    u64 *moments, size_t nm)
+                 u64 *moments, size_t nm)
 {
     static const double c[] = {0.085, 0.07, 0.07, 0.05};
     size_t room = nf < ns ? nf : ns;

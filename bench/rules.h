@@ -1,5 +1,5 @@
 /* The same rules in plain C, beside the entries of the core. A file of them is compiled once for each side that is timed: OF(job) is
- * plain_job, clang_job or best_job. */
+ * plain_job, clang_job, best_job or double_job. */
 #include "../include/rukeshomaji.h"
 
 typedef uint64_t u64;

@@ -8,12 +8,11 @@ use native.Mathlib.Nat.{add-assoc}
 use native.Mathlib.Omega.{arith}
 use lib.ListN.{length, getD, set, drop, length-append, length-drop, drop-of-length-le}
 use lib.Seq.{drop-cons, drop-drop}
-use Rattle.whole.specs.Cells.{laid}
 use Rattle.limits.specs.Outcome.{Outcome, accepted, refused, zeros, _>>=_}
 use Rattle.text.specs.Bytes.{bytes}
-use Rattle.text.specs.Line.{line, blank}
+use Rattle.text.specs.Line.{line}
 use Rattle.text.specs.Reading.{found, otherwise}
-use Rattle.text.proofs.Stored.{kept-length, kept-more, in-cells}
+use Rattle.text.proofs.Stored.{kept-length, kept-more}
 use Rattle.text.proofs.Takes.{line-takes}
 use Rattle.sheet.specs.declared.levels.LevelsAnswer.the-variants.{Taken}
 use Rattle.sheet.specs.Reading.{Levels, level, lineAt, linesFrom, levelLines, cellsOf, levelsRead}

@@ -1,4 +1,5 @@
--- No second outcome meets the contract of `sheet_listing`: every cell of its array is determined, and its length.
+-- No second outcome meets the contract of `sheet_listing`, nor of a function that writes into a lent buffer: every cell of the array is
+-- determined, and the length.
 -- So are those of `read_sheet` and of every function inside, whose contracts say 'the result is what the definition gives': by
 -- `determined` of `whole`.
 -- Assumes nothing.
@@ -11,7 +12,6 @@ use Rattle.sheet.specs.declared.reader.SheetCells.{SheetCells}
 use Rattle.sheet.specs.Listing.{sheetListing, printed, Written}
 use Rattle.sheet.specs.Reading.{readSheet, sheetRead}
 
--- of the functions that write into a lent buffer: every cell of it, and the length
 pub written-unique : {l old held held′ : List ℕ} {n n′ : ℕ} → Written l old held n → Written l old held′ n′
     → (held ≡ held′) × (n ≡ n′)
 written-unique w w′ = (determined (w .bytes-are) (w′ .bytes-are), determined (w .length-is) (w′ .length-is))

@@ -19,7 +19,7 @@ pub enum LevelAnswer {
     Otherwise,
 }
 
-// The line at a cursor: its two numbers by value, as every level has one.
+// The line at a cursor, its two numbers by value: a sheet has many of these lines.
 fn level_line(s: &[u8], c: Cursor) -> LevelAnswer
     ensures { λ a. ⌜ a ≡ levelAnswer c (line (bytes "level") 2 (drop (c .at) (now (s .entry)))) ⌝ }
 {

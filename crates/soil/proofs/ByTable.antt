@@ -9,13 +9,13 @@ use Rattle.whole.proofs.Cells.{cells-at, cells-length}
 use Rattle.limits.specs.Outcome.{Outcome, Done, accepted, refused, _>>_}
 use Rattle.limits.specs.Ranges.{within}
 use Rattle.limits.proofs.Passed.{within-passed}
-use Rattle.soil.specs.Velocity.{cubeRoot, byCount, Tabled, tabled}
+use Rattle.soil.specs.Velocity.{cubeRoot, byCount, TableOf, fromTable}
 
-pub table-length : (s least most : ℕ) (vs : List ℕ) → Tabled s least most vs → length vs ≡ most + 1 - least
+pub table-length : (s least most : ℕ) (vs : List ℕ) → TableOf s least most vs → length vs ≡ most + 1 - least
 table-length s least most vs t = ap length t ∙ cells-length _ _
 
-pub by-table : (s least most : ℕ) (vs : List ℕ) (N p : ℕ) → Tabled s least most vs → tabled least most vs N p ≡ byCount least most s N p
-unfolding tabled byCount
+pub by-table : (s least most : ℕ) (vs : List ℕ) (N p : ℕ) → TableOf s least most vs → fromTable least most vs N p ≡ byCount least most s N p
+unfolding fromTable byCount
 by-table s least most vs N p t = go (within least most N 15 p) refl
   where
     go : (o : Outcome Done) → within least most N 15 p ≡ o → (o >> accepted (getD vs (N - least) 0)) ≡ (o >> accepted (cubeRoot s N))

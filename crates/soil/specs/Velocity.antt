@@ -2,14 +2,15 @@
 --   cubeRoot s N               the largest whole v with v³ ≤ s³·N (proofs/Cubes.antt)
 --   measured v p               15 at p: v not 500 to 30,000; else v itself
 --   byCount least most s N p   15 at p: N not from least to most; else the cube root
---   Tabled s least most vs     vs are the cube roots of N = least to most, as a table holds them
---   tabled least most vs N p   15 at p: N not from least to most; else what stands in vs for N: `by-table` (proofs/ByTable.antt) says
---                              that it is what byCount gives
+--   TableOf s least most vs    vs are the cube roots of N = least to most, as a table holds them
+--   fromTable least most vs N p    15 at p: N not from least to most; else what stands in vs for N, which is what byCount gives:
+--                              `by-table` (proofs/ByTable.antt)
 --   Tables cs ls               cs and ls are the tables of (3.a) and (3.b)
 --   velocity kind value p      kind 1: measured; 2: cohesive, N from 2 to 25, v³ ≤ 1000³·N; 3: cohesionless, N from 1 to
 --                              50, v³ ≤ 800³·N; any other kind is 15 at p
 --   velocities p ks xs         of all layers, of kinds ks and values xs; the first layer stands at place p
 --   velocityOutcome a          what the code's answer a says
+-- ℕ's subtraction stops at 0; no N that passes is below least.
 use mathlib.Core.Path.{_≡_}
 use mathlib.Core.List.{List, [], _∷_}
 use Prim.Native.Nat.{ℕ, _+_, _-_, _*_, _^_}
@@ -36,17 +37,17 @@ byCount least most s N p = do
   within least most N 15 p
   accepted (cubeRoot s N)
 
-abbrev pub Tabled : ℕ → ℕ → ℕ → List ℕ → Type 0
-Tabled s least most vs = vs ≡ cells (λ k. cubeRoot s (least + k)) (most + 1 - least)
+abbrev pub TableOf : ℕ → ℕ → ℕ → List ℕ → Type 0
+TableOf s least most vs = vs ≡ cells (λ k. cubeRoot s (least + k)) (most + 1 - least)
 
-unfoldable pub tabled : ℕ → ℕ → List ℕ → ℕ → ℕ → Outcome ℕ
-tabled least most vs N p = do
+unfoldable pub fromTable : ℕ → ℕ → List ℕ → ℕ → ℕ → Outcome ℕ
+fromTable least most vs N p = do
   within least most N 15 p
   accepted (getD vs (N - least) 0)
 
 pub record Tables (cs ls : List ℕ) : Type 0 where
-  pub cohesive : Tabled 1_000 2 25 cs
-  pub cohesionless : Tabled 800 1 50 ls
+  pub cohesive : TableOf 1_000 2 25 cs
+  pub cohesionless : TableOf 800 1 50 ls
 
 unfoldable pub velocity : ℕ → ℕ → ℕ → Outcome ℕ
 velocity kind value p =

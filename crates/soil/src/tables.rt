@@ -1,6 +1,6 @@
-// Velocities by blow count, in dm/s, the first of N = the least: data, whose rule is `Tables` (specs/Velocity.antt).
+// Velocities by blow count N, in dm/s. Their rule is `Tables` (specs/Velocity.antt).
 
-// (3.a), cohesive soil: N = 2 to 25.
+// (3.a), cohesive soil: those of N = 2, 3, .. 25.
 pub const COHESIVE: [u64; 24] = [
     1_259,
     1_442,
@@ -28,7 +28,7 @@ pub const COHESIVE: [u64; 24] = [
     2_924,
 ];
 
-// (3.b), cohesionless soil: N = 1 to 50.
+// (3.b), cohesionless soil: those of N = 1, 2, .. 50.
 pub const COHESIONLESS: [u64; 50] = [
     800,
     1_007,

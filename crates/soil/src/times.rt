@@ -53,7 +53,7 @@ fn timed_by(
     TimesAnswer::Taken(Times { up, down })
 }
 
-// The same, by the tables.
+// 15 at the first layer to which it applies; else U and L.
 pub fn timed(thicknesses: &[u64], kinds: &[u64], values: &[u64]) -> TimesAnswer
     requires { ⌜ Matched (now thicknesses) (now kinds) (now values) ⌝ }
     ensures { λ a. ⌜ timesOutcome a ≡ judgedTimes (now (thicknesses .entry)) (now (kinds .entry)) (now (values .entry)) ⌝ }

@@ -8,7 +8,7 @@ use limits::refusal::Verdict;
 ghost use mathlib.Core.Path.{_≡_};
 ghost use Prim.Native.Nat.{_+_, _<_};
 ghost use lib.ListN.{length};
-ghost use Rattle.soil.specs.Velocity.{measured, tabled, Tables, velocity, velocityOutcome};
+ghost use Rattle.soil.specs.Velocity.{measured, fromTable, Tables, velocity, velocityOutcome};
 
 // A velocity in dm/s.
 pub enum VelocityAnswer {
@@ -39,7 +39,7 @@ fn measured(value: u64, place: u64) -> VelocityAnswer
 // The velocity that N blows give, where N is from least to most, by the table of those velocities.
 fn by_count(least: u64, most: u64, velocities: &[u64], n: u64, place: u64) -> VelocityAnswer
     requires { ⌜ most < least + length (now velocities) ⌝ }
-    ensures { λ a. ⌜ velocityOutcome a ≡ tabled least most (now (velocities .entry)) n place ⌝ }
+    ensures { λ a. ⌜ velocityOutcome a ≡ fromTable least most (now (velocities .entry)) n place ⌝ }
 {
     let v = within(least, most, n, Refusal::LAYER, place);
     let Verdict::Passed = v else {
@@ -90,7 +90,7 @@ pub fn velocity_by(
     })
 }
 
-// The same, by the tables.
+// 15: the velocity of a layer, by its kind and value.
 pub fn velocity(kind: u64, value: u64, place: u64) -> VelocityAnswer
     ensures { λ a. ⌜ velocityOutcome a ≡ velocity kind value place ⌝ }
 {

@@ -1,7 +1,7 @@
 -- What levels bear, out of what those above the lowest bear: a bottom that is lower by d adds d times the forces together. So 01's sum
 -- over the levels from x upward is had in one pass from the roof down.
 -- Assumes nothing.
-use mathlib.Core.Path.{_≡_, refl, sym, ap, ap₂, subst, _∙_}
+use mathlib.Core.Path.{_≡_, sym, ap, ap₂, subst, _∙_}
 use mathlib.Core.List.{List, [], _∷_}
 use Prim.Native.Nat.{ℕ, suc, _+_, _*_, _-_, _≤_, _<_}
 use native.Mathlib.Omega.{arith}
@@ -45,7 +45,7 @@ borne-lowest b (f ∷ fs) (a ∷ hs) t s l =
     ap (λ (m : ℕ). record { force = f + sum fs; moment = m }) (omega (arith, lowered b a fs hs (omega (arith, t .same)) l up))
 
 pub borne-most : (b : ℕ) (fs hs : List ℕ) → Turning fs hs → (sum fs ≤ 1_400_000_000) × (about b fs hs ≤ 2_800_000_000_000)
-borne-most b fs hs t = (t .borne, omega (arith, about-most b fs hs 2_000 (t .tall), t .borne))
+borne-most b fs hs t = (t .load, omega (arith, about-most b fs hs 2_000 (t .tall), t .load))
 
 -- ---- what is borne from level x on is what is borne above the lowest of the levels from x − 1 on, about it
 above-lowest : (l : List ℕ) (x : ℕ) → 0 < x → drop x l ≡ drop 1 (drop (x - 1) l)

@@ -32,7 +32,7 @@ turning-of T v ws hs l s =
       same = forces-length (shears T v ws hs) ∙ shears-length T v ws hs ∙ s .levels .same;
       rising = s .rising;
       tall = s .tall;
-      borne = omega (arith, forces-sum T v ws hs (s .some) (s .positive) (l .part), l .shear);
+      load = omega (arith, forces-sum T v ws hs (s .some) (s .positive) (l .part), l .shear);
     }
 
 pub standing-of : (ws hs : List ℕ) → length ws ≡ length hs → 0 < length ws → length ws ≤ 50 → Rising hs

@@ -55,7 +55,7 @@ turning-from fs hs x t =
           let e : x + k + 1 ≡ x + (k + 1) = omega arith in
           simp getD-drop (subst (λ (n : ℕ). getD hs (x + k) 0 ≤ getD hs n 0) e (t .rising (x + k) (omega (arith, simp length-drop at l))));
       tall = λ k l. simp getD-drop (t .tall (x + k) (omega (arith, simp length-drop at l)));
-      borne = omega (arith, sum-part fs x, t .borne);
+      load = omega (arith, sum-part fs x, t .load);
     }
 
 -- ---- the bottom of a storey is not above the lowest of the levels from it on

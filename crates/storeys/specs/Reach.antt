@@ -31,7 +31,7 @@ pub record Turning (fs hs : List ℕ) : Type 0 where
   pub same : length fs ≡ length hs
   pub rising : Rising hs
   pub tall : (x : ℕ) → x < length hs → getD hs x 0 ≤ 2_000
-  pub borne : sum fs ≤ 1_400_000_000
+  pub load : sum fs ≤ 1_400_000_000
 
 pub record Standing (ws hs : List ℕ) : Type 0 where
   pub levels : Levels ws hs

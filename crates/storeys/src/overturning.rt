@@ -15,7 +15,8 @@ pub struct Borne {
 // What the levels handed on bear about b, out of what those above the lowest bear about it: the lowest adds its force, and all of them
 // are its height above b further up.
 pub fn with_lowest(b: u64, above: Borne, forces: &[u64], heights: &[u64]) -> Borne
-    requires { ⌜ Turning (now forces) (now heights) × (0 < length (now forces)) × (b ≤ getD (now heights) 0 0) × (above ≡ borne (getD (now heights) 0 0) (drop 1 (now forces)) (drop 1 (now heights))) ⌝ }
+    requires { ⌜ Turning (now forces) (now heights) × (0 < length (now forces)) × (b ≤ getD (now heights) 0 0) ⌝ }
+    requires { ⌜ above ≡ borne (getD (now heights) 0 0) (drop 1 (now forces)) (drop 1 (now heights)) ⌝ }
     ensures { λ r. ⌜ r ≡ borne b (now (forces .entry)) (now (heights .entry)) ⌝ }
 {
     let force = forces[0] + above.force;

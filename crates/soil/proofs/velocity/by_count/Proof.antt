@@ -5,7 +5,7 @@ use native.Mathlib.Omega.{arith}
 use Rattle.limits.proofs.Passed.{within-passed}
 use Rattle.limits.proofs.Stages.{says}
 use Rattle.limits.specs.Outcome.{verdictOutcome}
-use Rattle.soil.specs.Velocity.{tabled}
+use Rattle.soil.specs.Velocity.{fromTable}
 use Rattle.soil.proofs.velocity.by_count.Statement.{statement}
 use Rattle.soil.proofs.velocity.by_count.Tie as tie
 
@@ -31,7 +31,7 @@ returns : tie.Need-returns
 returns c = search needs
 
 returns-2 : tie.Need-returns-2
-unfolding tabled
+unfolding fromTable
 returns-2 c =
     simp (says verdictOutcome (c .before .before .before .before .before .before .within .ensures) (c .before .before .before .before .v .given .1 ∙ c .before .v2 .given .1))
 
@@ -51,7 +51,7 @@ shared-slice-read-t13 c =
     omega (arith, within-passed (a .least) (a .most) (a .n) 15 (a .place) (says verdictOutcome (c .before .before .before .within .ensures) (c .before .enum-told .given .1)))
 
 returns-3 : tie.Need-returns-3
-unfolding tabled
+unfolding fromTable
 returns-3 c = simp (says verdictOutcome (c .before .before .before .within .ensures) (c .before .enum-told .given .1))
 
 pub by-count-spec : {M : Type 1} → statement M

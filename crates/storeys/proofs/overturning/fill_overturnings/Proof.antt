@@ -68,7 +68,7 @@ with-lowest-requires c κs =
     let within : at < length hs = omega (arith, t .same) in
     let left : 0 < length (drop at fs) = simp length-drop (omega arith) in
     let low : c .before .before .bottom .result ≤ getD (drop at hs) 0 0 = omega (arith, c .before .before .bottom .ensures, bottom-lowest fs hs at t within) in
-    simp part-tail (turning-from fs hs at t, left, low, l .inv .1 ∙ borne-above fs hs (l .x) some)
+    simp part-tail ((turning-from fs hs at t, left, low), l .inv .1 ∙ borne-above fs hs (l .x) some)
 
 mul-out : tie.Need-mul-out Inv-loop μ-loop
 mul-out c = search needs

@@ -12,12 +12,12 @@ use Rattle.storeys.proofs.overturning.with_lowest.Tie as tie
 
 whole : (c : tie.Start)
     → withLowest (c .args .b) (c .args .forces .now) (c .args .heights .now) (c .args .above) ≡ borne (c .args .b) (c .args .forces .now) (c .args .heights .now)
-whole c = rw (c .pre .3) (borne-lowest _ _ _ (c .pre .0) (c .pre .1) (c .pre .2))
+whole c = rw (c .pre .1) (borne-lowest _ _ _ (c .pre .0 .0) (c .pre .0 .1) (c .pre .0 .2))
 
 most : (c : tie.Start)
     → (getD (c .args .forces .now) 0 0 + c .args .above .force ≤ 1_400_000_000) × (withLowest (c .args .b) (c .args .forces .now) (c .args .heights .now) (c .args .above) .moment ≤ 2_800_000_000_000)
 most c =
-    let l = borne-most (c .args .b) (c .args .forces .now) (c .args .heights .now) (c .pre .0) in
+    let l = borne-most (c .args .b) (c .args .forces .now) (c .args .heights .now) (c .pre .0 .0) in
     (omega (arith, ap (λ (r : Borne). r .force) (whole c), l), omega (arith, ap (λ (r : Borne). r .moment) (whole c), l))
 
 shared-slice-read-force : tie.Need-shared-slice-read-force

@@ -1,8 +1,7 @@
 -- `whole::roots::square_root` meets its contract. The invariant: the root is at most r, which is at most 4 s. The measure is r.
 -- Assumes nothing.
 use borrow.Author.Needs.{needs}
-use mathlib.Core.Path.{_≡_}
-use Prim.Native.Nat.{ℕ, _+_, _*_, _≤_, _<_}
+use Prim.Native.Nat.{_+_, _*_, _≤_, _<_}
 use native.Mathlib.Nat.{mul-le-mul}
 use native.Mathlib.Omega.{arith}
 use Rattle.whole.proofs.Extreme.{largest-at}
