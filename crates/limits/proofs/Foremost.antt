@@ -4,7 +4,7 @@
 use mathlib.Core.Path.{_≡_, subst}
 use mathlib.Core.List.{List}
 use mathlib.Core.Logic.{inl, inr}
-use Prim.Native.Nat.{ℕ, _+_, _≤_, _<_}
+use Prim.Native.Nat.{ℕ, _+_, _≤_}
 use native.Mathlib.Omega.{arith}
 use Rattle.limits.specs.declared.frame.FrameValues.{FrameValues}
 use Rattle.limits.specs.declared.judging.Given.{Given}
@@ -13,6 +13,7 @@ use Rattle.limits.specs.Applies.{Applies, levels, lists, buffer, weight,
 use Rattle.limits.specs.Frame.{judgedFrame}
 use Rattle.limits.specs.Judging.{judgedJob}
 use Rattle.limits.specs.Levels.{judgedLevels}
+use Rattle.limits.specs.Order.{rank, Before}
 use Rattle.limits.specs.Outcome.{accepted, refused}
 use Rattle.limits.specs.Site.{judgedSite}
 use Rattle.limits.proofs.Ahead.{Stops, up-to-yields, stopped-number, stopped-place, first-stops, later-stops, bound-stops, value-stops}
@@ -23,22 +24,22 @@ use Rattle.limits.proofs.Places.{named, not-above}
 use Rattle.limits.proofs.Refusing.{refused-applies}
 
 module _ (s : SiteValues) (f : FrameValues) (ws hs : List ℕ) (room : ℕ) where
-  -- ---- a stage that refuses makes the job do so: those before it have lower numbers
+  -- ---- a stage that refuses makes the job do so: those before it have numbers that are judged before it
   levels-stop : (n q : ℕ) → Stops n q (judgedLevels ws hs room) → Stops n q (judgedJob s f ws hs room)
   unfolding judgedJob
   levels-stop n q t = first-stops n q (judgedLevels ws hs room) _ t
 
-  site-stops : (n q : ℕ) → 4 < n → Stops n q (judgedSite s) → Stops n q (judgedJob s f ws hs room)
+  site-stops : (n q : ℕ) → Before 4 n → Stops n q (judgedSite s) → Stops n q (judgedJob s f ws hs room)
   unfolding judgedJob
   site-stops n q h t =
-      later-stops n q (judgedLevels ws hs room) _ (up-to-yields q (judgedLevels ws hs room) (levels-up-to ws hs room) h)
+      later-stops n q (judgedLevels ws hs room) _ (up-to-yields 4 n q (judgedLevels ws hs room) (levels-up-to ws hs room) h)
       (λ _. bound-stops n q (judgedSite s) _ t)
 
-  frame-stops : (n q : ℕ) → 7 < n → Stops n q (judgedFrame f) → Stops n q (judgedJob s f ws hs room)
+  frame-stops : (n q : ℕ) → Before 7 n → Stops n q (judgedFrame f) → Stops n q (judgedJob s f ws hs room)
   unfolding judgedJob
   frame-stops n q h t =
-      later-stops n q (judgedLevels ws hs room) _ (up-to-yields q (judgedLevels ws hs room) (levels-up-to ws hs room) (omega arith))
-      (λ _. value-stops n q (judgedSite s) _ (up-to-yields q (judgedSite s) (site-up-to s) h)
+      later-stops n q (judgedLevels ws hs room) _ (up-to-yields 4 n q (judgedLevels ws hs room) (levels-up-to ws hs room) (omega arith))
+      (λ _. value-stops n q (judgedSite s) _ (up-to-yields 7 n q (judgedSite s) (site-up-to s) h)
       (λ site. bound-stops n q (judgedFrame f) _ t))
 
   -- where a refusal applies, the job is given it or one that comes no later
@@ -62,9 +63,9 @@ module _ (s : SiteValues) (f : FrameValues) (ws hs : List ℕ) (room : ℕ) wher
   stops n q (kind o) = frame-stops 11 0 (omega arith) (kind-stops f o)
   stops n q (period z o) = frame-stops 12 0 (omega arith) (period-stops f z o)
 
-  -- the lowest number that applies is given
-  pub lowest-number : (n p m q : ℕ) → judgedJob s f ws hs room ≡ refused n p → Applies s f ws hs room m q → n ≤ m
-  lowest-number n p m q e a = stopped-number m q n p (subst (Stops m q) e (stops m q a))
+  -- the first number that applies is given
+  pub first-number : (n p m q : ℕ) → judgedJob s f ws hs room ≡ refused n p → Applies s f ws hs room m q → rank n ≤ rank m
+  first-number n p m q e a = stopped-number m q n p (subst (Stops m q) e (stops m q a))
 
   -- at its lowest place
   pub lowest-place : (n p q : ℕ) → judgedJob s f ws hs room ≡ refused n p → Applies s f ws hs room n q → p ≤ q

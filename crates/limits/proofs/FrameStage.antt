@@ -3,8 +3,7 @@
 use mathlib.Core.Path.{_≡_, refl}
 use mathlib.Core.List.{[], _∷_}
 use mathlib.Core.Logic.{inl, inr}
-use Prim.Native.Nat.{ℕ, _<_}
-use native.Mathlib.Nat.{le-refl}
+use Prim.Native.Nat.{ℕ}
 use native.Mathlib.Omega.{arith}
 use lib.Dec.{eqb}
 use borrow.Author.Tests.{ne-eqb}
@@ -12,18 +11,19 @@ use Rattle.whole.proofs.Choice.{by-test}
 use Rattle.limits.specs.declared.frame.FrameValues.{FrameValues}
 use Rattle.limits.specs.Applies.{OutOf, NotListed}
 use Rattle.limits.specs.Frame.{judgedKind, judgedPeriod, judgedFrame}
+use Rattle.limits.specs.Order.{Before}
 use Rattle.limits.specs.Ranges.{within, listed}
 use Rattle.limits.proofs.Ahead.{Stops, Yields, UpTo, up-to-yields, first-stops, later-stops, bound-stops, value-stops, within-yields}
 use Rattle.limits.proofs.NotAllowed.{range-stops, listed-yields, listed-stops}
 
 module _ (f : FrameValues) where
-  r-yields : (n q : ℕ) → 8 < n → Yields n q (within 100 600 (f .r) 8 0)
+  r-yields : (n q : ℕ) → Before 8 n → Yields n q (within 100 600 (f .r) 8 0)
   r-yields n q h = within-yields n q 100 600 (f .r) 8 0 (inl h)
 
-  i-yields : (n q : ℕ) → 9 < n → Yields n q (listed (100 ∷ 125 ∷ 150 ∷ []) (f .i) 9 0)
+  i-yields : (n q : ℕ) → Before 9 n → Yields n q (listed (100 ∷ 125 ∷ 150 ∷ []) (f .i) 9 0)
   i-yields n q h = listed-yields n q _ (f .i) 9 0 (inl h)
 
-  alpha-yields : (n q : ℕ) → 10 < n → Yields n q (within 100 200 (f .alpha) 10 0)
+  alpha-yields : (n q : ℕ) → Before 10 n → Yields n q (within 100 200 (f .alpha) 10 0)
   alpha-yields n q h = within-yields n q 100 200 (f .alpha) 10 0 (inl h)
 
   kind-up-to : UpTo 11 (judgedKind (f .kind))
@@ -32,7 +32,7 @@ module _ (f : FrameValues) where
       by-test (UpTo 11) (eqb (f .kind) 1) _ _ (λ _. tt)
       (λ _. by-test (UpTo 11) (eqb (f .kind) 2) _ _ (λ _. tt)
       (λ _. by-test (UpTo 11) (eqb (f .kind) 3) _ _ (λ _. tt)
-      (λ _. by-test (UpTo 11) (eqb (f .kind) 4) _ _ (λ _. tt) (λ _. le-refl 11))))
+      (λ _. by-test (UpTo 11) (eqb (f .kind) 4) _ _ (λ _. tt) (λ _. omega arith))))
 
   pub r-stops : OutOf 100 600 (f .r) → Stops 8 0 (judgedFrame f)
   unfolding judgedFrame
@@ -69,6 +69,6 @@ module _ (f : FrameValues) where
       later-stops 12 0 (within 100 600 (f .r) 8 0) _ (r-yields 12 0 (omega arith))
       (λ _. later-stops 12 0 (listed (100 ∷ 125 ∷ 150 ∷ []) (f .i) 9 0) _ (i-yields 12 0 (omega arith))
       (λ _. later-stops 12 0 (within 100 200 (f .alpha) 10 0) _ (alpha-yields 12 0 (omega arith))
-      (λ _. value-stops 12 0 (judgedKind (f .kind)) _ (up-to-yields 0 (judgedKind (f .kind)) kind-up-to (omega arith))
+      (λ _. value-stops 12 0 (judgedKind (f .kind)) _ (up-to-yields 11 12 0 (judgedKind (f .kind)) kind-up-to (omega arith))
       (λ k. first-stops 12 0 (judgedPeriod (f .calculated)) _
       (rw (ne-eqb (f .calculated) 0 z) (range-stops 12 0 1 60_000 (f .calculated) 12 0 o (inr (refl, inl refl))))))))

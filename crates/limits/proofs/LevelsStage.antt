@@ -11,6 +11,7 @@ use borrow.Author.Tests.{ne-eqb, lt-leb}
 use Rattle.limits.specs.Allowed.{below}
 use Rattle.limits.specs.Applies.{OutOf}
 use Rattle.limits.specs.Levels.{counted, paired, roomy, weighed, raised, judgedLevels}
+use Rattle.limits.specs.Order.{Before}
 use Rattle.limits.specs.Outcome.{_>>_}
 use Rattle.limits.proofs.Ahead.{Ahead, Stops, Yields, UpTo, up-to-yields, both-up-to, require-up-to, within-up-to, first-stops, later-stops, require-yields, require-stops, within-yields}
 use Rattle.limits.proofs.EachLevel.{weighed-up-to, raised-up-to, weighed-stops, raised-stops}
@@ -25,14 +26,14 @@ module _ (ws hs : List ℕ) (room : ℕ) where
       (both-up-to 4 (roomy (length ws) room) _ (require-up-to 4 (leb (length ws) room) 2 0 (omega arith))
       (both-up-to 4 (weighed 1 ws) (raised 0 1 hs) (weighed-up-to 4 (omega arith) 1 ws) (raised-up-to 0 1 hs))))
 
-  counted-yields : (n q : ℕ) → 1 < n → Yields n q (counted (length ws))
+  counted-yields : (n q : ℕ) → Before 1 n → Yields n q (counted (length ws))
   counted-yields n q h = within-yields n q 1 50 (length ws) 1 0 (inl h)
 
   paired-yields : (n q : ℕ) → Ahead n q 2 0 → Yields n q (paired (length ws) (length hs))
   paired-yields n q a = require-yields n q (eqb (length hs) (length ws)) 2 0 a
 
   -- after 1 and 2
-  later : (n q : ℕ) → 2 < n → Stops n q (weighed 1 ws >> raised 0 1 hs) → Stops n q (judgedLevels ws hs room)
+  later : (n q : ℕ) → Before 2 n → Stops n q (weighed 1 ws >> raised 0 1 hs) → Stops n q (judgedLevels ws hs room)
   unfolding judgedLevels
   later n q h t =
       later-stops n q (counted (length ws)) _ (counted-yields n q (omega arith))
@@ -69,5 +70,5 @@ module _ (ws hs : List ℕ) (room : ℕ) where
     height-stops l o =
         later 4 (1 + x) (omega arith)
         (later-stops 4 (1 + x) (weighed 1 ws) (raised 0 1 hs)
-        (up-to-yields (1 + x) (weighed 1 ws) (weighed-up-to 3 (omega arith) 1 ws) (omega arith))
+        (up-to-yields 3 4 (1 + x) (weighed 1 ws) (weighed-up-to 3 (omega arith) 1 ws) (omega arith))
         (λ _. raised-stops (1 + x) 0 1 hs x (omega arith) refl l o))

@@ -7,6 +7,7 @@ pub mod Accepted
 pub mod Reading
 pub mod Told
 pub mod Ahead
+pub mod Ascending
 pub mod Refusing
 pub mod Places
 pub mod NotAllowed

@@ -4,7 +4,6 @@ use mathlib.Core.Path.{refl}
 use mathlib.Core.List.{List, [], _∷_}
 use mathlib.Core.Logic.{inl, inr}
 use Prim.Native.Nat.{ℕ, _≤_}
-use native.Mathlib.Nat.{le-refl}
 use native.Mathlib.Omega.{arith}
 use lib.Dec.{eqb}
 use borrow.Author.Tests.{ne-eqb}
@@ -38,12 +37,12 @@ module _ (s : SiteValues) where
   pub site-up-to : UpTo 7 (judgedSite s)
   unfolding judgedSite judgedClass
   site-up-to =
-      both-up-to 7 (judgedMapped s) _ (up-to-more (judgedMapped s) mapped-up-to (omega arith))
-      (both-up-to 7 (judgedNearFault s) _ (up-to-more (judgedNearFault s) near-fault-up-to (omega arith))
+      both-up-to 7 (judgedMapped s) _ (up-to-more 5 7 (judgedMapped s) mapped-up-to (omega arith))
+      (both-up-to 7 (judgedNearFault s) _ (up-to-more 6 7 (judgedNearFault s) near-fault-up-to (omega arith))
       (bound-up-to 7 (judgedClass (s .class)) _
       (by-test (UpTo 7) (eqb (s .class) 1) _ _ (λ _. tt)
       (λ _. by-test (UpTo 7) (eqb (s .class) 2) _ _ (λ _. tt)
-      (λ _. by-test (UpTo 7) (eqb (s .class) 3) _ _ (λ _. tt) (λ _. le-refl 7))))
+      (λ _. by-test (UpTo 7) (eqb (s .class) 3) _ _ (λ _. tt) (λ _. omega arith))))
       (λ _. tt)))
 
   -- ---- mapped values
@@ -88,7 +87,7 @@ module _ (s : SiteValues) where
   near-fault-stops : (q : ℕ) → Stops 6 q (judgedNearFault s) → Stops 6 q (judgedSite s)
   unfolding judgedSite
   near-fault-stops q t =
-      later-stops 6 q (judgedMapped s) _ (up-to-yields q (judgedMapped s) mapped-up-to (omega arith))
+      later-stops 6 q (judgedMapped s) _ (up-to-yields 5 6 q (judgedMapped s) mapped-up-to (omega arith))
       (λ _. first-stops 6 q (judgedNearFault s) _ t)
 
   pub na-stops : OutOf 100 150 (s .na) → Stops 6 1 (judgedSite s)
@@ -108,7 +107,7 @@ module _ (s : SiteValues) where
   pub class-stops : NotListed (1 ∷ 2 ∷ 3 ∷ []) (s .class) → Stops 7 0 (judgedSite s)
   unfolding judgedSite judgedClass
   class-stops o =
-      later-stops 7 0 (judgedMapped s) _ (up-to-yields 0 (judgedMapped s) mapped-up-to (omega arith))
-      (λ _. later-stops 7 0 (judgedNearFault s) _ (up-to-yields 0 (judgedNearFault s) near-fault-up-to (omega arith))
+      later-stops 7 0 (judgedMapped s) _ (up-to-yields 5 7 0 (judgedMapped s) mapped-up-to (omega arith))
+      (λ _. later-stops 7 0 (judgedNearFault s) _ (up-to-yields 6 7 0 (judgedNearFault s) near-fault-up-to (omega arith))
       (λ _. bound-stops 7 0 (judgedClass (s .class)) _
       (rw (ne-eqb (s .class) 1 (o .0), ne-eqb (s .class) 2 (o .1 .0), ne-eqb (s .class) 3 (o .1 .1 .0)) (inr (refl, inl refl)))))

@@ -1,4 +1,5 @@
 pub mod Outcome
+pub mod Order
 pub mod Ranges
 pub mod Levels
 pub mod Site

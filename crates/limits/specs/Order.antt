@@ -1,0 +1,23 @@
+-- The order in which refusals are judged, apart from their numbers: 'The lowest number that applies is given'; '17, then 16, precede
+-- everything for a sheet'; 'for a log 2 precedes 13'.
+--   order         the numbers of every entry, those that are judged first in front
+--   rank n        how many of them are judged before n
+--   Before m n    m is judged before n
+-- For 1 to 12 it comes to the lowest number: `lowest-first` (proofs/Ascending.antt).
+use mathlib.Core.List.{List, [], _∷_}
+use Prim.Native.Nat.{ℕ, suc, _<_}
+use lib.Dec.{eqb}
+use Rattle.whole.specs.Choice.{pick}
+
+abbrev pub order : List ℕ
+order = 17 ∷ 16 ∷ 1 ∷ 2 ∷ 3 ∷ 4 ∷ 5 ∷ 6 ∷ 7 ∷ 8 ∷ 9 ∷ 10 ∷ 11 ∷ 12 ∷ 13 ∷ 14 ∷ 15 ∷ []
+
+abbrev pub rankIn : List ℕ → ℕ → ℕ
+rankIn [] n = 0
+rankIn (m ∷ ms) n = pick (eqb m n) 0 (suc (rankIn ms n))
+
+abbrev pub rank : ℕ → ℕ
+rank n = rankIn order n
+
+abbrev pub Before : ℕ → ℕ → Type 0
+Before m n = rank m < rank n
