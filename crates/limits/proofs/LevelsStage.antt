@@ -9,7 +9,7 @@ use lib.Dec.{leb, eqb}
 use lib.ListN.{length, getD}
 use borrow.Author.Tests.{ne-eqb, lt-leb}
 use Rattle.limits.specs.Allowed.{below}
-use Rattle.limits.specs.Applies.{OutOf}
+use Rattle.limits.specs.Applies.{OutOf, count, lists, buffer, weight, height, rising, LevelsApply, of-count, of-room, of-weights, of-heights}
 use Rattle.limits.specs.Levels.{counted, paired, roomy, weighed, raised, judgedLevels}
 use Rattle.limits.specs.Order.{Before}
 use Rattle.limits.specs.Outcome.{_>>_}
@@ -40,18 +40,18 @@ module _ (ws hs : List ℕ) (room : ℕ) where
       (λ _. later-stops n q (paired (length ws) (length hs)) _ (paired-yields n q (inl h))
       (λ _. later-stops n q (roomy (length ws) room) _ (require-yields n q (leb (length ws) room) 2 0 (inl h)) (λ _. t)))
 
-  pub count-stops : OutOf 1 50 (length ws) → Stops 1 0 (judgedLevels ws hs room)
+  count-stops : OutOf 1 50 (length ws) → Stops 1 0 (judgedLevels ws hs room)
   unfolding judgedLevels
   count-stops o = first-stops 1 0 (counted (length ws)) _ (range-stops 1 0 1 50 (length ws) 1 0 o (inr (refl, inl refl)))
 
-  pub lists-stop : (length hs ≡ length ws → ⊥) → Stops 2 0 (judgedLevels ws hs room)
+  lists-stop : (length hs ≡ length ws → ⊥) → Stops 2 0 (judgedLevels ws hs room)
   unfolding judgedLevels
   lists-stop o =
       later-stops 2 0 (counted (length ws)) _ (counted-yields 2 0 (omega arith))
       (λ _. first-stops 2 0 (paired (length ws) (length hs)) _
       (require-stops 2 0 (eqb (length hs) (length ws)) 2 0 (ne-eqb _ _ o) (inr (refl, inl refl))))
 
-  pub buffer-stops : room < length ws → Stops 2 0 (judgedLevels ws hs room)
+  buffer-stops : room < length ws → Stops 2 0 (judgedLevels ws hs room)
   unfolding judgedLevels
   buffer-stops o =
       later-stops 2 0 (counted (length ws)) _ (counted-yields 2 0 (omega arith))
@@ -60,15 +60,24 @@ module _ (ws hs : List ℕ) (room : ℕ) where
       (require-stops 2 0 (leb (length ws) room) 2 0 (lt-leb _ _ o) (inr (refl, inl refl)))))
 
   module _ (x : ℕ) where
-    pub weight-stops : x < length ws → OutOf 1 20_000 (getD ws x 0) → Stops 3 (1 + x) (judgedLevels ws hs room)
+    weight-stops : x < length ws → OutOf 1 20_000 (getD ws x 0) → Stops 3 (1 + x) (judgedLevels ws hs room)
     weight-stops l o =
         later 3 (1 + x) (omega arith)
         (first-stops 3 (1 + x) (weighed 1 ws) (raised 0 1 hs) (weighed-stops (1 + x) 1 ws x (omega arith) refl l o))
 
-    pub height-stops : x < length hs → OutOf 1 2_000 (getD hs x 0) ⊎ (getD hs x 0 ≤ below 0 hs x)
+    height-stops : x < length hs → OutOf 1 2_000 (getD hs x 0) ⊎ (getD hs x 0 ≤ below 0 hs x)
         → Stops 4 (1 + x) (judgedLevels ws hs room)
     height-stops l o =
         later 4 (1 + x) (omega arith)
         (later-stops 4 (1 + x) (weighed 1 ws) (raised 0 1 hs)
         (up-to-yields 3 4 (1 + x) (weighed 1 ws) (weighed-up-to 3 (omega arith) 1 ws) (omega arith))
         (λ _. raised-stops (1 + x) 0 1 hs x (omega arith) refl l o))
+
+  -- where one applies
+  pub levels-stop : (n q : ℕ) → LevelsApply ws hs room n q → Stops n q (judgedLevels ws hs room)
+  levels-stop n q (of-count (count o)) = count-stops o
+  levels-stop n q (of-room (lists o)) = lists-stop o
+  levels-stop n q (of-room (buffer o)) = buffer-stops o
+  levels-stop n q (of-weights (weight x l o)) = weight-stops x l o
+  levels-stop n q (of-heights (height x l o)) = height-stops x l (inl o)
+  levels-stop n q (of-heights (rising x l o)) = height-stops x l (inr o)

@@ -1,4 +1,4 @@
--- Which refusals of a job name a place: 3 to 6 do, the others have place 0.
+-- The refusals of a job are 1 to 12; which of them name a place: 3 to 6 do, the others have place 0.
 -- Assumes nothing.
 use mathlib.Core.Path.{_≡_, refl}
 use mathlib.Core.List.{List}
@@ -7,30 +7,59 @@ use Prim.Native.Nat.{ℕ, zero, suc, _+_, _≤_, _<_}
 use native.Mathlib.Omega.{arith}
 use Rattle.limits.specs.declared.frame.FrameValues.{FrameValues}
 use Rattle.limits.specs.declared.site.SiteValues.{SiteValues}
-use Rattle.limits.specs.Applies.{Applies, levels, lists, buffer, weight, height, rising, ss-design, s1-design, ss-mce, s1-mce, na, nv, class, r, i, alpha, kind, period}
+use Rattle.limits.specs.Applies.{count, lists, buffer, weight, height, rising, LevelsApply, of-count, of-room, of-weights, of-heights, SiteApplies, ss-design, s1-design, ss-mce, s1-mce, na, nv, class, FrameApplies, r, i, alpha, kind, period, Applies, of-levels, of-site, of-frame}
 
 abbrev pub Named : ℕ → ℕ → Type 0
 Named n p = ((3 ≤ n) × (n ≤ 6) × (1 ≤ p)) ⊎ (((n < 3) ⊎ (6 < n)) × (p ≡ 0))
 
+named-levels : {ws hs : List ℕ} {room n p : ℕ} → LevelsApply ws hs room n p → Named n p
+named-levels (of-count (count o)) = inr (inl (omega arith), refl)
+named-levels (of-room (lists o)) = inr (inl (omega arith), refl)
+named-levels (of-room (buffer o)) = inr (inl (omega arith), refl)
+named-levels (of-weights (weight x l o)) = inl (omega arith)
+named-levels (of-heights (height x l o)) = inl (omega arith)
+named-levels (of-heights (rising x l o)) = inl (omega arith)
+
+named-site : {s : SiteValues} {n p : ℕ} → SiteApplies s n p → Named n p
+named-site (ss-design o) = inl (omega arith)
+named-site (s1-design o) = inl (omega arith)
+named-site (ss-mce o) = inl (omega arith)
+named-site (s1-mce o) = inl (omega arith)
+named-site (na o) = inl (omega arith)
+named-site (nv o) = inl (omega arith)
+named-site (class o) = inr (inr (omega arith), refl)
+
+named-frame : {f : FrameValues} {n p : ℕ} → FrameApplies f n p → Named n p
+named-frame (r o) = inr (inr (omega arith), refl)
+named-frame (i o) = inr (inr (omega arith), refl)
+named-frame (alpha o) = inr (inr (omega arith), refl)
+named-frame (kind o) = inr (inr (omega arith), refl)
+named-frame (period z o) = inr (inr (omega arith), refl)
+
 pub named : {s : SiteValues} {f : FrameValues} {ws hs : List ℕ} {room n p : ℕ} → Applies s f ws hs room n p → Named n p
-named (levels o) = inr (inl (omega arith), refl)
-named (lists o) = inr (inl (omega arith), refl)
-named (buffer o) = inr (inl (omega arith), refl)
-named (weight x l o) = inl (omega arith)
-named (height x l o) = inl (omega arith)
-named (rising x l o) = inl (omega arith)
-named (ss-design o) = inl (omega arith)
-named (s1-design o) = inl (omega arith)
-named (ss-mce o) = inl (omega arith)
-named (s1-mce o) = inl (omega arith)
-named (na o) = inl (omega arith)
-named (nv o) = inl (omega arith)
-named (class o) = inr (inr (omega arith), refl)
-named (r o) = inr (inr (omega arith), refl)
-named (i o) = inr (inr (omega arith), refl)
-named (alpha o) = inr (inr (omega arith), refl)
-named (kind o) = inr (inr (omega arith), refl)
-named (period z o) = inr (inr (omega arith), refl)
+named (of-levels a) = named-levels a
+named (of-site a) = named-site a
+named (of-frame a) = named-frame a
+
+pub numbered : {s : SiteValues} {f : FrameValues} {ws hs : List ℕ} {room n p : ℕ} → Applies s f ws hs room n p → (1 ≤ n) × (n ≤ 12)
+numbered (of-levels (of-count (count o))) = omega arith
+numbered (of-levels (of-room (lists o))) = omega arith
+numbered (of-levels (of-room (buffer o))) = omega arith
+numbered (of-levels (of-weights (weight x l o))) = omega arith
+numbered (of-levels (of-heights (height x l o))) = omega arith
+numbered (of-levels (of-heights (rising x l o))) = omega arith
+numbered (of-site (ss-design o)) = omega arith
+numbered (of-site (s1-design o)) = omega arith
+numbered (of-site (ss-mce o)) = omega arith
+numbered (of-site (s1-mce o)) = omega arith
+numbered (of-site (na o)) = omega arith
+numbered (of-site (nv o)) = omega arith
+numbered (of-site (class o)) = omega arith
+numbered (of-frame (r o)) = omega arith
+numbered (of-frame (i o)) = omega arith
+numbered (of-frame (alpha o)) = omega arith
+numbered (of-frame (kind o)) = omega arith
+numbered (of-frame (period z o)) = omega arith
 
 -- where a number has place 0 it has no other
 pub not-above : (n p q : ℕ) → Named n p → Named n q → ((k : ℕ) → q ≡ 1 + k → p ≤ 1 + k) → p ≤ q

@@ -14,8 +14,7 @@ use Rattle.limits.specs.declared.frame.FrameValues.{FrameValues}
 use Rattle.limits.specs.declared.judging.Given.{Given}
 use Rattle.limits.specs.declared.site.SiteValues.{SiteValues}
 use Rattle.limits.specs.Allowed.{below}
-use Rattle.limits.specs.Applies as when
-use Rattle.limits.specs.Applies.{OutOf, NotListed, Applies}
+use Rattle.limits.specs.Applies.{OutOf, NotListed, count, lists, buffer, weight, height, rising, LevelsApply, of-count, of-room, of-weights, of-heights, SiteApplies, ss-design, s1-design, ss-mce, s1-mce, na, nv, class, FrameApplies, r, i, alpha, kind, period, Applies, of-levels, of-site, of-frame}
 use Rattle.limits.specs.Frame.{judgedKind, judgedPeriod, judgedFrame}
 use Rattle.limits.specs.Judging.{judgedJob}
 use Rattle.limits.specs.Levels.{counted, paired, roomy, judgedWeight, weighed, judgedHeight, raised, judgedLevels}
@@ -24,7 +23,7 @@ use Rattle.limits.specs.Ranges.{among, within, listed}
 use Rattle.limits.specs.Site.{judgedClass, judgedMapped, judgedNearFault, judgedSite}
 use Rattle.limits.proofs.Accepted.{below-more}
 use Rattle.limits.proofs.Passed.{differ}
-use Rattle.limits.proofs.Told.{Told, then-told, bind-told, require-told, within-told, given-applies, accepted-unless}
+use Rattle.limits.proofs.Told.{Told, then-told, bind-told, require-told, within-told, given-applies, accepted-unless, told-as}
 
 -- ---- values that are not listed
 not-among : (vs : List ℕ) (x : ℕ) → among vs x ≡ false → NotListed vs x
@@ -33,105 +32,119 @@ not-among [] x e = tt
 not-among (v ∷ vs) x e = go (λ h. not-among vs x h) (eqb v x) refl e
   where
     go : (among vs x ≡ false → NotListed vs x) → (t : Bool) → eqb v x ≡ t → (t || among vs x) ≡ false → NotListed (v ∷ vs) x
-    go r true q h = absurd (differ h)
-    go r false q h = (λ k. eqb-false v x q (sym k), r h)
+    go rest true q h = absurd (differ h)
+    go rest false q h = (λ k. eqb-false v x q (sym k), rest h)
 
-module _ (A : ℕ → ℕ → Type 0) where
-  listed-told : (vs : List ℕ) (x n p : ℕ) → (NotListed vs x → A n p) → Told A (listed vs x n p)
-  unfolding listed
-  listed-told vs x n p f = require-told A (among vs x) n p (λ e. f (not-among vs x e))
+listed-told : (A : ℕ → ℕ → Type 0) (vs : List ℕ) (x n p : ℕ) → (NotListed vs x → A n p) → Told A (listed vs x n p)
+unfolding listed
+listed-told A vs x n p f = require-told A (among vs x) n p (λ e. f (not-among vs x e))
 
-  -- ---- levels, one by one
-  weighed-told : (p : ℕ) (ws : List ℕ) → ((x : ℕ) → x < length ws → OutOf 1 20_000 (getD ws x 0) → A 3 (p + x)) → Told A (weighed p ws)
-  unfolding weighed
-  weighed-told p [] f = tt
-  weighed-told p (w ∷ ws) f =
-      then-told A (judgedWeight w p) (weighed (p + 1) ws)
-      (within-told A 1 20_000 w 3 p (λ o. subst (A 3) (add-zero p) (f 0 (omega arith) o)))
-      (λ _. weighed-told (p + 1) ws (λ x h o. subst (A 3) (next x) (f (suc x) (omega arith) o)))
-    where
-      next : (x : ℕ) → p + suc x ≡ p + 1 + x
-      next x = omega arith
+-- ---- levels, one by one
+next : (p x : ℕ) → p + suc x ≡ p + 1 + x
+next p x = omega arith
 
-  raised-told : (b p : ℕ) (hs : List ℕ) → ((x : ℕ) → x < length hs → OutOf 1 2_000 (getD hs x 0) → A 4 (p + x))
-      → ((x : ℕ) → x < length hs → getD hs x 0 ≤ below b hs x → A 4 (p + x)) → Told A (raised b p hs)
-  unfolding raised
-  raised-told b p [] f g = tt
-  raised-told b p (a ∷ hs) f g =
-      then-told A (judgedHeight b a p) (raised a (p + 1) hs)
-      (then-told A (within 1 2_000 a 4 p) (require (ltb b a) 4 p)
-      (within-told A 1 2_000 a 4 p (λ o. subst (A 4) (add-zero p) (f 0 (omega arith) o)))
-      (λ _. require-told A (ltb b a) 4 p (λ e. subst (A 4) (add-zero p) (g 0 (omega arith) (ltb-false b a e)))))
-      (λ _. raised-told a (p + 1) hs (λ x h o. subst (A 4) (next x) (f (suc x) (omega arith) o))
-      (λ x h l. subst (A 4) (next x) (g (suc x) (omega arith) (subst (λ (n : ℕ). getD hs x 0 ≤ n) (below-more a hs x) l))))
-    where
-      next : (x : ℕ) → p + suc x ≡ p + 1 + x
-      next x = omega arith
+weighed-told : (A : ℕ → ℕ → Type 0) (p : ℕ) (ws : List ℕ) → ((x : ℕ) → x < length ws → OutOf 1 20_000 (getD ws x 0) → A 3 (p + x))
+    → Told A (weighed p ws)
+unfolding weighed
+weighed-told A p [] f = tt
+weighed-told A p (w ∷ ws) f =
+    then-told A (judgedWeight w p) (weighed (p + 1) ws)
+    (within-told A 1 20_000 w 3 p (λ o. subst (A 3) (add-zero p) (f 0 (omega arith) o)))
+    (λ _. weighed-told A (p + 1) ws (λ x h o. subst (A 3) (next p x) (f (suc x) (omega arith) o)))
 
--- ---- all stages
-module _ (s : SiteValues) (f : FrameValues) (ws hs : List ℕ) (room : ℕ) where
+raised-told : (A : ℕ → ℕ → Type 0) (b p : ℕ) (hs : List ℕ) → ((x : ℕ) → x < length hs → OutOf 1 2_000 (getD hs x 0) → A 4 (p + x))
+    → ((x : ℕ) → x < length hs → getD hs x 0 ≤ below b hs x → A 4 (p + x)) → Told A (raised b p hs)
+unfolding raised
+raised-told A b p [] f g = tt
+raised-told A b p (a ∷ hs) f g =
+    then-told A (judgedHeight b a p) (raised a (p + 1) hs)
+    (then-told A (within 1 2_000 a 4 p) (require (ltb b a) 4 p)
+    (within-told A 1 2_000 a 4 p (λ o. subst (A 4) (add-zero p) (f 0 (omega arith) o)))
+    (λ _. require-told A (ltb b a) 4 p (λ e. subst (A 4) (add-zero p) (g 0 (omega arith) (ltb-false b a e)))))
+    (λ _. raised-told A a (p + 1) hs (λ x h o. subst (A 4) (next p x) (f (suc x) (omega arith) o))
+    (λ x h l. subst (A 4) (next p x) (g (suc x) (omega arith) (subst (λ (n : ℕ). getD hs x 0 ≤ n) (below-more a hs x) l))))
+
+-- ---- the levels
+module _ (ws hs : List ℕ) (room : ℕ) where
   abbrev A : ℕ → ℕ → Type 0
-  A = Applies s f ws hs room
+  A = LevelsApply ws hs room
 
-  levels-told : Told A (judgedLevels ws hs room)
+  pub levels-told : Told A (judgedLevels ws hs room)
   unfolding judgedLevels
   levels-told =
-      then-told A (counted (length ws)) _ (within-told A 1 50 (length ws) 1 0 when.levels)
+      then-told A (counted (length ws)) _ (within-told A 1 50 (length ws) 1 0 (λ o. of-count (count o)))
       (λ _. then-told A (paired (length ws) (length hs)) _
-      (require-told A (eqb (length hs) (length ws)) 2 0 (λ e. when.lists (eqb-false _ _ e)))
+      (require-told A (eqb (length hs) (length ws)) 2 0 (λ e. of-room (lists (eqb-false _ _ e))))
       (λ _. then-told A (roomy (length ws) room) _
-      (require-told A (leb (length ws) room) 2 0 (λ e. when.buffer (leb-false _ _ e)))
-      (λ _. then-told A (weighed 1 ws) (raised 0 1 hs) (weighed-told A 1 ws when.weight)
-      (λ _. raised-told A 0 1 hs when.height when.rising))))
+      (require-told A (leb (length ws) room) 2 0 (λ e. of-room (buffer (leb-false _ _ e))))
+      (λ _. then-told A (weighed 1 ws) (raised 0 1 hs)
+      (weighed-told A 1 ws (λ x l o. of-weights (weight x l o)))
+      (λ _. raised-told A 0 1 hs (λ x l o. of-heights (height x l o)) (λ x l o. of-heights (rising x l o))))))
 
-  site-told : Told A (judgedSite s)
+-- ---- the site
+module _ (s : SiteValues) where
+  abbrev S : ℕ → ℕ → Type 0
+  S = SiteApplies s
+
+  pub site-told : Told S (judgedSite s)
   unfolding judgedSite judgedMapped judgedNearFault judgedClass
   site-told =
-      then-told A (judgedMapped s) _
-      (then-told A (listed (50 ∷ 60 ∷ 70 ∷ 80 ∷ []) (s .ssd) 5 1) _ (listed-told A _ (s .ssd) 5 1 when.ss-design)
-      (λ _. then-told A (listed (30 ∷ 35 ∷ 40 ∷ 45 ∷ []) (s .s1d) 5 2) _ (listed-told A _ (s .s1d) 5 2 when.s1-design)
-      (λ _. then-told A (listed (70 ∷ 80 ∷ 90 ∷ 100 ∷ []) (s .ssm) 5 3) _ (listed-told A _ (s .ssm) 5 3 when.ss-mce)
-      (λ _. listed-told A _ (s .s1m) 5 4 when.s1-mce))))
-      (λ _. then-told A (judgedNearFault s) _
-      (then-told A (within 100 150 (s .na) 6 1) _ (within-told A 100 150 (s .na) 6 1 when.na)
-      (λ _. within-told A 100 200 (s .nv) 6 2 when.nv))
-      (λ _. bind-told A (judgedClass (s .class)) _
-      (by-test (Told A) (eqb (s .class) 1) _ _ (λ _. tt)
-      (λ e₁. by-test (Told A) (eqb (s .class) 2) _ _ (λ _. tt)
-      (λ e₂. by-test (Told A) (eqb (s .class) 3) _ _ (λ _. tt)
-      (λ e₃. when.class (eqb-false _ _ e₁, (eqb-false _ _ e₂, (eqb-false _ _ e₃, tt)))))))
+      then-told S (judgedMapped s) _
+      (then-told S (listed (50 ∷ 60 ∷ 70 ∷ 80 ∷ []) (s .ssd) 5 1) _ (listed-told S _ (s .ssd) 5 1 ss-design)
+      (λ _. then-told S (listed (30 ∷ 35 ∷ 40 ∷ 45 ∷ []) (s .s1d) 5 2) _ (listed-told S _ (s .s1d) 5 2 s1-design)
+      (λ _. then-told S (listed (70 ∷ 80 ∷ 90 ∷ 100 ∷ []) (s .ssm) 5 3) _ (listed-told S _ (s .ssm) 5 3 ss-mce)
+      (λ _. listed-told S _ (s .s1m) 5 4 s1-mce))))
+      (λ _. then-told S (judgedNearFault s) _
+      (then-told S (within 100 150 (s .na) 6 1) _ (within-told S 100 150 (s .na) 6 1 na)
+      (λ _. within-told S 100 200 (s .nv) 6 2 nv))
+      (λ _. bind-told S (judgedClass (s .class)) _
+      (by-test (Told S) (eqb (s .class) 1) _ _ (λ _. tt)
+      (λ e₁. by-test (Told S) (eqb (s .class) 2) _ _ (λ _. tt)
+      (λ e₂. by-test (Told S) (eqb (s .class) 3) _ _ (λ _. tt)
+      (λ e₃. class (eqb-false _ _ e₁, (eqb-false _ _ e₂, (eqb-false _ _ e₃, tt)))))))
       (λ _. tt)))
 
-  period-told : Told A (judgedPeriod (f .calculated))
+-- ---- the frame
+module _ (f : FrameValues) where
+  abbrev F : ℕ → ℕ → Type 0
+  F = FrameApplies f
+
+  period-told : Told F (judgedPeriod (f .calculated))
   unfolding judgedPeriod
   period-told =
-      by-test (Told A) (eqb (f .calculated) 0) _ _ (λ _. tt)
-      (λ e. within-told A 1 60_000 (f .calculated) 12 0 (λ o. when.period (eqb-false _ _ e) o))
+      by-test (Told F) (eqb (f .calculated) 0) _ _ (λ _. tt)
+      (λ e. within-told F 1 60_000 (f .calculated) 12 0 (λ o. period (eqb-false _ _ e) o))
 
-  frame-told : Told A (judgedFrame f)
+  pub frame-told : Told F (judgedFrame f)
   unfolding judgedFrame judgedKind
   frame-told =
-      then-told A (within 100 600 (f .r) 8 0) _ (within-told A 100 600 (f .r) 8 0 when.r)
-      (λ _. then-told A (listed (100 ∷ 125 ∷ 150 ∷ []) (f .i) 9 0) _ (listed-told A _ (f .i) 9 0 when.i)
-      (λ _. then-told A (within 100 200 (f .alpha) 10 0) _ (within-told A 100 200 (f .alpha) 10 0 when.alpha)
-      (λ _. bind-told A (judgedKind (f .kind)) _
-      (by-test (Told A) (eqb (f .kind) 1) _ _ (λ _. tt)
-      (λ e₁. by-test (Told A) (eqb (f .kind) 2) _ _ (λ _. tt)
-      (λ e₂. by-test (Told A) (eqb (f .kind) 3) _ _ (λ _. tt)
-      (λ e₃. by-test (Told A) (eqb (f .kind) 4) _ _ (λ _. tt)
-      (λ e₄. when.kind (eqb-false _ _ e₁, (eqb-false _ _ e₂, (eqb-false _ _ e₃, (eqb-false _ _ e₄, tt)))))))))
-      (λ k. then-told A (judgedPeriod (f .calculated)) _ period-told (λ _. tt)))))
+      then-told F (within 100 600 (f .r) 8 0) _ (within-told F 100 600 (f .r) 8 0 r)
+      (λ _. then-told F (listed (100 ∷ 125 ∷ 150 ∷ []) (f .i) 9 0) _ (listed-told F _ (f .i) 9 0 i)
+      (λ _. then-told F (within 100 200 (f .alpha) 10 0) _ (within-told F 100 200 (f .alpha) 10 0 alpha)
+      (λ _. bind-told F (judgedKind (f .kind)) _
+      (by-test (Told F) (eqb (f .kind) 1) _ _ (λ _. tt)
+      (λ e₁. by-test (Told F) (eqb (f .kind) 2) _ _ (λ _. tt)
+      (λ e₂. by-test (Told F) (eqb (f .kind) 3) _ _ (λ _. tt)
+      (λ e₃. by-test (Told F) (eqb (f .kind) 4) _ _ (λ _. tt)
+      (λ e₄. kind (eqb-false _ _ e₁, (eqb-false _ _ e₂, (eqb-false _ _ e₃, (eqb-false _ _ e₄, tt)))))))))
+      (λ k. then-told F (judgedPeriod (f .calculated)) _ period-told (λ _. tt)))))
 
-  pub job-told : Told A (judgedJob s f ws hs room)
+-- ---- the job
+module _ (s : SiteValues) (f : FrameValues) (ws hs : List ℕ) (room : ℕ) where
+  abbrev J : ℕ → ℕ → Type 0
+  J = Applies s f ws hs room
+
+  pub job-told : Told J (judgedJob s f ws hs room)
   unfolding judgedJob
   job-told =
-      then-told A (judgedLevels ws hs room) _ levels-told
-      (λ _. bind-told A (judgedSite s) _ site-told (λ site. bind-told A (judgedFrame f) _ frame-told (λ frame. tt)))
+      then-told J (judgedLevels ws hs room) _ (told-as (LevelsApply ws hs room) J (λ n p. of-levels) (judgedLevels ws hs room) (levels-told ws hs room))
+      (λ _. bind-told J (judgedSite s) _ (told-as (SiteApplies s) J (λ n p. of-site) (judgedSite s) (site-told s))
+      (λ site. bind-told J (judgedFrame f) _ (told-as (FrameApplies f) J (λ n p. of-frame) (judgedFrame f) (frame-told f)) (λ frame. tt)))
 
   -- a refusal that is given applies
   pub refused-applies : (n p : ℕ) → judgedJob s f ws hs room ≡ refused n p → Applies s f ws hs room n p
-  refused-applies = given-applies A (judgedJob s f ws hs room) job-told
+  refused-applies = given-applies J (judgedJob s f ws hs room) job-told
 
   -- data to which no refusal applies is accepted
   pub accepted-unless-refused : ((n p : ℕ) → Applies s f ws hs room n p → ⊥) → (g : Given) × (judgedJob s f ws hs room ≡ accepted g)
-  accepted-unless-refused = accepted-unless A (judgedJob s f ws hs room) job-told
+  accepted-unless-refused = accepted-unless J (judgedJob s f ws hs room) job-told

@@ -9,7 +9,8 @@ use lib.Dec.{eqb}
 use borrow.Author.Tests.{ne-eqb}
 use Rattle.whole.proofs.Choice.{by-test}
 use Rattle.limits.specs.declared.site.SiteValues.{SiteValues}
-use Rattle.limits.specs.Applies.{OutOf, NotListed}
+use Rattle.limits.specs.Applies.{OutOf, NotListed, SiteApplies, ss-design, s1-design, ss-mce, s1-mce, na, nv, class}
+use Rattle.limits.specs.Order.{Before}
 use Rattle.limits.specs.Ranges.{within, listed}
 use Rattle.limits.specs.Site.{judgedClass, judgedMapped, judgedNearFault, judgedSite}
 use Rattle.limits.proofs.Ahead.{Stops, Yields, UpTo, up-to-more, up-to-yields, both-up-to, bound-up-to, within-up-to, first-stops, later-stops, bound-stops, within-yields}
@@ -50,14 +51,14 @@ module _ (s : SiteValues) where
   unfolding judgedSite
   mapped-stops q t = first-stops 5 q (judgedMapped s) _ t
 
-  pub ss-design-stops : NotListed (50 ∷ 60 ∷ 70 ∷ 80 ∷ []) (s .ssd) → Stops 5 1 (judgedSite s)
+  ss-design-stops : NotListed (50 ∷ 60 ∷ 70 ∷ 80 ∷ []) (s .ssd) → Stops 5 1 (judgedSite s)
   unfolding judgedMapped
   ss-design-stops o =
       mapped-stops 1
       (first-stops 5 1 (listed (50 ∷ 60 ∷ 70 ∷ 80 ∷ []) (s .ssd) 5 1) _
       (listed-stops 5 1 _ (s .ssd) 5 1 o (inr (refl, inr (omega arith)))))
 
-  pub s1-design-stops : NotListed (30 ∷ 35 ∷ 40 ∷ 45 ∷ []) (s .s1d) → Stops 5 2 (judgedSite s)
+  s1-design-stops : NotListed (30 ∷ 35 ∷ 40 ∷ 45 ∷ []) (s .s1d) → Stops 5 2 (judgedSite s)
   unfolding judgedMapped
   s1-design-stops o =
       mapped-stops 2
@@ -65,7 +66,7 @@ module _ (s : SiteValues) where
       (λ _. first-stops 5 2 (listed (30 ∷ 35 ∷ 40 ∷ 45 ∷ []) (s .s1d) 5 2) _
       (listed-stops 5 2 _ (s .s1d) 5 2 o (inr (refl, inr (omega arith))))))
 
-  pub ss-mce-stops : NotListed (70 ∷ 80 ∷ 90 ∷ 100 ∷ []) (s .ssm) → Stops 5 3 (judgedSite s)
+  ss-mce-stops : NotListed (70 ∷ 80 ∷ 90 ∷ 100 ∷ []) (s .ssm) → Stops 5 3 (judgedSite s)
   unfolding judgedMapped
   ss-mce-stops o =
       mapped-stops 3
@@ -74,7 +75,7 @@ module _ (s : SiteValues) where
       (λ _. first-stops 5 3 (listed (70 ∷ 80 ∷ 90 ∷ 100 ∷ []) (s .ssm) 5 3) _
       (listed-stops 5 3 _ (s .ssm) 5 3 o (inr (refl, inr (omega arith)))))))
 
-  pub s1-mce-stops : NotListed (40 ∷ 45 ∷ 50 ∷ 55 ∷ []) (s .s1m) → Stops 5 4 (judgedSite s)
+  s1-mce-stops : NotListed (40 ∷ 45 ∷ 50 ∷ 55 ∷ []) (s .s1m) → Stops 5 4 (judgedSite s)
   unfolding judgedMapped
   s1-mce-stops o =
       mapped-stops 4
@@ -90,13 +91,13 @@ module _ (s : SiteValues) where
       later-stops 6 q (judgedMapped s) _ (up-to-yields 5 6 q (judgedMapped s) mapped-up-to (omega arith))
       (λ _. first-stops 6 q (judgedNearFault s) _ t)
 
-  pub na-stops : OutOf 100 150 (s .na) → Stops 6 1 (judgedSite s)
+  na-stops : OutOf 100 150 (s .na) → Stops 6 1 (judgedSite s)
   unfolding judgedNearFault
   na-stops o =
       near-fault-stops 1
       (first-stops 6 1 (within 100 150 (s .na) 6 1) _ (range-stops 6 1 100 150 (s .na) 6 1 o (inr (refl, inr (omega arith)))))
 
-  pub nv-stops : OutOf 100 200 (s .nv) → Stops 6 2 (judgedSite s)
+  nv-stops : OutOf 100 200 (s .nv) → Stops 6 2 (judgedSite s)
   unfolding judgedNearFault
   nv-stops o =
       near-fault-stops 2
@@ -104,10 +105,29 @@ module _ (s : SiteValues) where
       (λ _. range-stops 6 2 100 200 (s .nv) 6 2 o (inr (refl, inr (omega arith)))))
 
   -- ---- the class
-  pub class-stops : NotListed (1 ∷ 2 ∷ 3 ∷ []) (s .class) → Stops 7 0 (judgedSite s)
+  class-stops : NotListed (1 ∷ 2 ∷ 3 ∷ []) (s .class) → Stops 7 0 (judgedSite s)
   unfolding judgedSite judgedClass
   class-stops o =
       later-stops 7 0 (judgedMapped s) _ (up-to-yields 5 7 0 (judgedMapped s) mapped-up-to (omega arith))
       (λ _. later-stops 7 0 (judgedNearFault s) _ (up-to-yields 6 7 0 (judgedNearFault s) near-fault-up-to (omega arith))
       (λ _. bound-stops 7 0 (judgedClass (s .class)) _
       (rw (ne-eqb (s .class) 1 (o .0), ne-eqb (s .class) 2 (o .1 .0), ne-eqb (s .class) 3 (o .1 .1 .0)) (inr (refl, inl refl)))))
+
+  -- where one applies, and which numbers they are
+  pub site-stops : (n q : ℕ) → SiteApplies s n q → Stops n q (judgedSite s)
+  site-stops n q (ss-design o) = ss-design-stops o
+  site-stops n q (s1-design o) = s1-design-stops o
+  site-stops n q (ss-mce o) = ss-mce-stops o
+  site-stops n q (s1-mce o) = s1-mce-stops o
+  site-stops n q (na o) = na-stops o
+  site-stops n q (nv o) = nv-stops o
+  site-stops n q (class o) = class-stops o
+
+  pub site-later : (n q : ℕ) → SiteApplies s n q → Before 4 n
+  site-later n q (ss-design o) = omega arith
+  site-later n q (s1-design o) = omega arith
+  site-later n q (ss-mce o) = omega arith
+  site-later n q (s1-mce o) = omega arith
+  site-later n q (na o) = omega arith
+  site-later n q (nv o) = omega arith
+  site-later n q (class o) = omega arith

@@ -45,3 +45,8 @@ module _ (Applies : ℕ → ℕ → Type 0) where
   pub accepted-unless : {A : Type 0} (o : Outcome A) → Told o → ((n p : ℕ) → Applies n p → ⊥) → (a : A) × (o ≡ accepted a)
   accepted-unless (accepted a) t none = (a, refl)
   accepted-unless (refused n p) t none = absurd (none n p t)
+
+-- what applies of a part applies of the whole
+pub told-as : (A B : ℕ → ℕ → Type 0) → ((n p : ℕ) → A n p → B n p) → {X : Type 0} (o : Outcome X) → Told A o → Told B o
+told-as A B f (accepted a) t = tt
+told-as A B f (refused n p) t = f n p t

@@ -1,8 +1,14 @@
--- When each refusal of a job applies: 'What comes back when data is bad', 1 to 12, of a site s, a frame f, weights ws and heights hs,
--- where room is the length of the shortest result buffer. Level x, from 0, has place 1 + x.
+-- When each refusal of a job applies: 'What comes back when data is bad', 1 to 12, part by part. Level x, from 0, has place 1 + x.
 --   OutOf least most x           x is not from least to most
 --   NotListed vs x               x is none of the values
---   Applies s f ws hs room n p   refusal n applies, at place p
+--   CountApplies ws n p          refusal n applies at place p: 1, of weights ws
+--   RoomApplies ws hs room n p   2, of heights hs beside them and a shortest result buffer of `room` cells
+--   WeightApplies ws n p         3
+--   HeightApplies hs n p         4
+--   LevelsApply ws hs room n p   1 to 4, any of these
+--   SiteApplies s n p            5 to 7, of a site s
+--   FrameApplies f n p           8 to 12, of a frame f
+--   Applies s f ws hs room n p   of a job: of its levels, its site or its frame
 use mathlib.Core.Path.{_≡_}
 use mathlib.Core.List.{List, [], _∷_}
 use mathlib.Core.Logic.{_⊎_}
@@ -19,22 +25,43 @@ abbrev pub NotListed : List ℕ → ℕ → Type 0
 NotListed [] x = Unit {0}
 NotListed (v ∷ vs) x = (x ≡ v → ⊥) × NotListed vs x
 
-pub data Applies (s : SiteValues) (f : FrameValues) (ws hs : List ℕ) (room : ℕ) : ℕ → ℕ → Type 0 where
-  levels : OutOf 1 50 (length ws) → Applies s f ws hs room 1 0
-  lists : (length hs ≡ length ws → ⊥) → Applies s f ws hs room 2 0
-  buffer : room < length ws → Applies s f ws hs room 2 0
-  weight : (x : ℕ) → x < length ws → OutOf 1 20_000 (getD ws x 0) → Applies s f ws hs room 3 (1 + x)
-  height : (x : ℕ) → x < length hs → OutOf 1 2_000 (getD hs x 0) → Applies s f ws hs room 4 (1 + x)
-  rising : (x : ℕ) → x < length hs → getD hs x 0 ≤ below 0 hs x → Applies s f ws hs room 4 (1 + x)
-  ss-design : NotListed (50 ∷ 60 ∷ 70 ∷ 80 ∷ []) (s .ssd) → Applies s f ws hs room 5 1
-  s1-design : NotListed (30 ∷ 35 ∷ 40 ∷ 45 ∷ []) (s .s1d) → Applies s f ws hs room 5 2
-  ss-mce : NotListed (70 ∷ 80 ∷ 90 ∷ 100 ∷ []) (s .ssm) → Applies s f ws hs room 5 3
-  s1-mce : NotListed (40 ∷ 45 ∷ 50 ∷ 55 ∷ []) (s .s1m) → Applies s f ws hs room 5 4
-  na : OutOf 100 150 (s .na) → Applies s f ws hs room 6 1
-  nv : OutOf 100 200 (s .nv) → Applies s f ws hs room 6 2
-  class : NotListed (1 ∷ 2 ∷ 3 ∷ []) (s .class) → Applies s f ws hs room 7 0
-  r : OutOf 100 600 (f .r) → Applies s f ws hs room 8 0
-  i : NotListed (100 ∷ 125 ∷ 150 ∷ []) (f .i) → Applies s f ws hs room 9 0
-  alpha : OutOf 100 200 (f .alpha) → Applies s f ws hs room 10 0
-  kind : NotListed (1 ∷ 2 ∷ 3 ∷ 4 ∷ []) (f .kind) → Applies s f ws hs room 11 0
-  period : (f .calculated ≡ 0 → ⊥) → OutOf 1 60_000 (f .calculated) → Applies s f ws hs room 12 0
+pub data CountApplies (ws : List ℕ) : ℕ → ℕ → Type 0 where
+  count : OutOf 1 50 (length ws) → CountApplies ws 1 0
+
+pub data RoomApplies (ws hs : List ℕ) (room : ℕ) : ℕ → ℕ → Type 0 where
+  lists : (length hs ≡ length ws → ⊥) → RoomApplies ws hs room 2 0
+  buffer : room < length ws → RoomApplies ws hs room 2 0
+
+pub data WeightApplies (ws : List ℕ) : ℕ → ℕ → Type 0 where
+  weight : (x : ℕ) → x < length ws → OutOf 1 20_000 (getD ws x 0) → WeightApplies ws 3 (1 + x)
+
+pub data HeightApplies (hs : List ℕ) : ℕ → ℕ → Type 0 where
+  height : (x : ℕ) → x < length hs → OutOf 1 2_000 (getD hs x 0) → HeightApplies hs 4 (1 + x)
+  rising : (x : ℕ) → x < length hs → getD hs x 0 ≤ below 0 hs x → HeightApplies hs 4 (1 + x)
+
+pub data LevelsApply (ws hs : List ℕ) (room n p : ℕ) : Type 0 where
+  of-count : CountApplies ws n p → LevelsApply ws hs room n p
+  of-room : RoomApplies ws hs room n p → LevelsApply ws hs room n p
+  of-weights : WeightApplies ws n p → LevelsApply ws hs room n p
+  of-heights : HeightApplies hs n p → LevelsApply ws hs room n p
+
+pub data SiteApplies (s : SiteValues) : ℕ → ℕ → Type 0 where
+  ss-design : NotListed (50 ∷ 60 ∷ 70 ∷ 80 ∷ []) (s .ssd) → SiteApplies s 5 1
+  s1-design : NotListed (30 ∷ 35 ∷ 40 ∷ 45 ∷ []) (s .s1d) → SiteApplies s 5 2
+  ss-mce : NotListed (70 ∷ 80 ∷ 90 ∷ 100 ∷ []) (s .ssm) → SiteApplies s 5 3
+  s1-mce : NotListed (40 ∷ 45 ∷ 50 ∷ 55 ∷ []) (s .s1m) → SiteApplies s 5 4
+  na : OutOf 100 150 (s .na) → SiteApplies s 6 1
+  nv : OutOf 100 200 (s .nv) → SiteApplies s 6 2
+  class : NotListed (1 ∷ 2 ∷ 3 ∷ []) (s .class) → SiteApplies s 7 0
+
+pub data FrameApplies (f : FrameValues) : ℕ → ℕ → Type 0 where
+  r : OutOf 100 600 (f .r) → FrameApplies f 8 0
+  i : NotListed (100 ∷ 125 ∷ 150 ∷ []) (f .i) → FrameApplies f 9 0
+  alpha : OutOf 100 200 (f .alpha) → FrameApplies f 10 0
+  kind : NotListed (1 ∷ 2 ∷ 3 ∷ 4 ∷ []) (f .kind) → FrameApplies f 11 0
+  period : (f .calculated ≡ 0 → ⊥) → OutOf 1 60_000 (f .calculated) → FrameApplies f 12 0
+
+pub data Applies (s : SiteValues) (f : FrameValues) (ws hs : List ℕ) (room n p : ℕ) : Type 0 where
+  of-levels : LevelsApply ws hs room n p → Applies s f ws hs room n p
+  of-site : SiteApplies s n p → Applies s f ws hs room n p
+  of-frame : FrameApplies f n p → Applies s f ws hs room n p
