@@ -7,6 +7,7 @@ use Rattle.limits.specs.declared.frame.FrameValues.{FrameValues}
 use Rattle.limits.specs.declared.refusal.Refusal.{Refusal}
 use Rattle.limits.specs.declared.site.SiteValues.{SiteValues}
 use Rattle.limits.specs.Applies.{Applies}
+use Rattle.limits.specs.Order.{rank}
 use Rattle.limits.proofs.Refusing as judging
 use Rattle.limits.proofs.Foremost as order
 use Rattle.base_shear.specs.declared.Figures.{Figures}
@@ -39,6 +40,10 @@ module _ (s : SiteValues) (f : FrameValues) (ws hs : List ℕ) (b : Buffers) whe
     pub refused-applies : Wrong (r .number) (r .place)
     refused-applies =
         judging.refused-applies s f ws hs (shortest b) (r .number) (r .place) (refused-judged s f ws hs b r b′ a)
+
+    pub first-number : (m q : ℕ) → Wrong m q → rank (r .number) ≤ rank m
+    first-number m q w =
+        order.first-number s f ws hs (shortest b) (r .number) (r .place) m q (refused-judged s f ws hs b r b′ a) w
 
     pub lowest-number : (m q : ℕ) → Wrong m q → r .number ≤ m
     lowest-number m q w =

@@ -1,4 +1,5 @@
--- For 1 to 12, the refusals of a job, to be judged no later is to have no higher number: 'the lowest number that applies is given'.
+-- For 1 to 15, the refusals of a job and of a log, to be judged no later is to have no higher number: 'the lowest number that applies is
+-- given'.
 -- Assumes nothing.
 use mathlib.Core.Bool.{Bool, true}
 use Prim.Native.Nat.{ℕ, _+_, _≤_}
@@ -12,9 +13,9 @@ use Rattle.limits.specs.Order.{rank}
 lower : ℕ → ℕ → Bool
 lower n m = pick (leb (rank n) (rank m)) (leb n m) true
 
-pub lowest-first : (n m : ℕ) → (1 ≤ n) × (n ≤ 12) → (1 ≤ m) × (m ≤ 12) → rank n ≤ rank m → n ≤ m
+pub lowest-first : (n m : ℕ) → (1 ≤ n) × (n ≤ 15) → (1 ≤ m) × (m ≤ 15) → rank n ≤ rank m → n ≤ m
 unfolding lower allBelow
 lowest-first n m hn hm h =
-    let row = all-from (λ k. allBelow (λ i. lower k (1 + i)) 12) 1 12 tt n (hn .0) (omega arith) in
-    let cell = all-from (lower n) 1 12 row m (hm .0) (omega arith) in
+    let row = all-from (λ k. allBelow (λ i. lower k (1 + i)) 15) 1 15 tt n (hn .0) (omega arith) in
+    let cell = all-from (lower n) 1 15 row m (hm .0) (omega arith) in
     leb→le n m (rw (le-leb _ _ h) at cell)

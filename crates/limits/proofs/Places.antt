@@ -1,4 +1,4 @@
--- The refusals of a job are 1 to 12; which of them name a place: 3 to 6 do, the others have place 0.
+-- The refusals of a job are among 1 to 15; which of them name a place: 3 to 6 do, the others have place 0.
 -- Assumes nothing.
 use mathlib.Core.Path.{_≡_, refl}
 use mathlib.Core.List.{List}
@@ -41,7 +41,7 @@ named (of-levels a) = named-levels a
 named (of-site a) = named-site a
 named (of-frame a) = named-frame a
 
-pub numbered : {s : SiteValues} {f : FrameValues} {ws hs : List ℕ} {room n p : ℕ} → Applies s f ws hs room n p → (1 ≤ n) × (n ≤ 12)
+pub numbered : {s : SiteValues} {f : FrameValues} {ws hs : List ℕ} {room n p : ℕ} → Applies s f ws hs room n p → (1 ≤ n) × (n ≤ 15)
 numbered (of-levels (of-count (count o))) = omega arith
 numbered (of-levels (of-room (lists o))) = omega arith
 numbered (of-levels (of-room (buffer o))) = omega arith

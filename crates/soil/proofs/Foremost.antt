@@ -14,6 +14,7 @@ use Rattle.whole.specs.Cells.{sum}
 use Rattle.whole.proofs.Choice.{by-test}
 use Rattle.limits.specs.declared.site.Class.{Class}
 use Rattle.limits.specs.Levels.{paired}
+use Rattle.limits.specs.Order.{rank, Before}
 use Rattle.limits.specs.Outcome.{accepted, refused, require, _>>=_, _>>_}
 use Rattle.limits.specs.Ranges.{within}
 use Rattle.soil.specs.declared.class.ClassLimits.{ClassLimits}
@@ -22,7 +23,9 @@ use Rattle.soil.specs.Log.{counted, thick, deep, judgedLog, siteClass}
 use Rattle.soil.specs.Times.{judgedTimes, times}
 use Rattle.soil.specs.Velocity.{measured as measuredAt, byCount, velocity, velocities}
 use Rattle.limits.proofs.Passed.{require-passed}
+use Rattle.soil.proofs.Refusing.{refused-applies}
 use Rattle.soil.proofs.Sound.{log-sound}
+use Rattle.limits.proofs.Ascending.{lowest-first}
 use Rattle.limits.proofs.Ahead.{Ahead, Stops, Yields, stopped-number, stopped-place, first-stops, later-stops, bound-stops, value-stops, both-yield, require-yields, require-stops, within-yields, within-stops}
 
 -- ---- layers, one by one
@@ -81,7 +84,7 @@ velocities-stops q p (k ∷ ls) (x ∷ ys) (suc j) h e l s w =
 
 -- ---- all stages
 module _ (ds ks xs : List ℕ) where
-  two : (n q : ℕ) → 2 < n → (r : ℕ) → Yields n q (paired (length ds) r)
+  two : (n q : ℕ) → Before 2 n → (r : ℕ) → Yields n q (paired (length ds) r)
   two n q h r = require-yields n q (eqb r (length ds)) 2 0 (inl h)
 
   log-yields : (q : ℕ) → Yields 15 q (judgedLog ds (length ks) (length xs))
@@ -130,10 +133,22 @@ module _ (ds ks xs : List ℕ) where
       (bound-stops 15 (1 + i) (velocities 1 ks xs) _
       (velocities-stops (1 + i) 1 ks xs i (omega arith) refl (omega arith) (omega arith) w)))
 
+numbered : {ds ks xs : List ℕ} {n p : ℕ} → Applies ds ks xs n p → (1 ≤ n) × (n ≤ 15)
+numbered (lists o) = omega arith
+numbered (layers o) = omega arith
+numbered (thickness i h z) = omega arith
+numbered (depth o) = omega arith
+numbered (layer i h w) = omega arith
+
 module _ (l : ClassLimits) (ds ks xs : List ℕ) where
-  -- the lowest number that applies is given
+  -- the first number that applies is given
+  pub first-number : (n p m q : ℕ) → siteClass l ds ks xs ≡ refused n p → Applies ds ks xs m q → rank n ≤ rank m
+  first-number n p m q e a = stopped-number m q n p (subst (Stops m q) e (stops ds ks xs l m q a))
+
+  -- which is the lowest
   pub lowest-number : (n p m q : ℕ) → siteClass l ds ks xs ≡ refused n p → Applies ds ks xs m q → n ≤ m
-  lowest-number n p m q e a = stopped-number m q n p (subst (Stops m q) e (stops ds ks xs l m q a))
+  lowest-number n p m q e a =
+      lowest-first n m (numbered (refused-applies l ds ks xs n p e)) (numbered a) (first-number n p m q e a)
 
   -- at its lowest place: where it applies at a layer, it is given at a layer, and at no higher one
   pub lowest-layer : (n p i : ℕ) → siteClass l ds ks xs ≡ refused n p → Applies ds ks xs n (1 + i) → (1 ≤ p) × (p ≤ 1 + i)
