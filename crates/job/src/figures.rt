@@ -58,10 +58,7 @@ pub fn figures(site: SiteValues, frame: FrameValues, weights: &[u64], heights: &
 {
     let g = judged(site, frame, weights, heights, weights.len());
     let GivenAnswer::Taken(given) = g else {
-        let GivenAnswer::Refused(r) = g else {
-            return JobAnswer::Refused(Refusal::none());
-        };
-        return JobAnswer::Refused(r);
+        return JobAnswer::Refused(g.refusal());
     };
     JobAnswer::Taken(given_figures(given, weights, heights))
 }

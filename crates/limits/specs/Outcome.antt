@@ -1,6 +1,7 @@
 -- What comes back: document 01's number and place, with values where data is accepted.
 --   Outcome A             accepted with a value, or refused with a number and a place
 --   number, place         0 on success
+--   refusalOf o           what is refused: number and place, zeros where data is accepted
 --   values f n            the values f of what is accepted; n zeros where data is refused
 --   do a; b               judgments taken one after the other: the first that refuses is the outcome
 --   require t n p         passes where the test t holds, else refused with number n at place p
@@ -8,6 +9,7 @@
 use mathlib.Core.Bool.{Bool, true, false}
 use mathlib.Core.List.{List, [], _∷_}
 use Prim.Native.Nat.{ℕ, zero, suc}
+use Rattle.limits.specs.declared.refusal.Refusal.{Refusal}
 use Rattle.limits.specs.declared.refusal.Verdict.{Verdict}
 use Rattle.limits.specs.declared.refusal.Verdict.the-variants.{Passed, Refused}
 
@@ -22,6 +24,10 @@ number (refused n p) = n
 abbrev pub place : {A : Type 0} → Outcome A → ℕ
 place (accepted a) = 0
 place (refused n p) = p
+
+abbrev pub refusalOf : {A : Type 0} → Outcome A → Refusal
+refusalOf (accepted a) = record { number = 0; place = 0 }
+refusalOf (refused n p) = record { number = n; place = p }
 
 abbrev pub zeros : ℕ → List ℕ
 zeros zero = []

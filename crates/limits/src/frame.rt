@@ -5,7 +5,7 @@ use crate::refusal::Refusal;
 use crate::refusal::Verdict;
 ghost use mathlib.Core.Path.{_≡_};
 ghost use Rattle.limits.specs.Frame.{judgedKind, kindOutcome, judgedPeriod, judgedFrame, frameOutcome};
-ghost use Rattle.limits.specs.Outcome.{verdictOutcome};
+ghost use Rattle.limits.specs.Outcome.{refusalOf, verdictOutcome};
 
 // The frame kind: steel frame, RC or SRC frame, eccentric brace, other.
 pub enum Kind {
@@ -18,6 +18,18 @@ pub enum Kind {
 pub enum KindAnswer {
     Taken(Kind),
     Refused(Refusal),
+}
+
+impl KindAnswer {
+    // What it refuses with; where it refuses nothing, zeros.
+    pub fn refusal(self) -> Refusal
+        ensures { λ r. ⌜ r ≡ refusalOf (kindOutcome self) ⌝ }
+    {
+        match self {
+            KindAnswer::Taken(_) => Refusal::none(),
+            KindAnswer::Refused(r) => r,
+        }
+    }
 }
 
 impl Kind {
@@ -74,6 +86,18 @@ pub enum FrameAnswer {
     Refused(Refusal),
 }
 
+impl FrameAnswer {
+    // What it refuses with; where it refuses nothing, zeros.
+    pub fn refusal(self) -> Refusal
+        ensures { λ r. ⌜ r ≡ refusalOf (frameOutcome self) ⌝ }
+    {
+        match self {
+            FrameAnswer::Taken(_) => Refusal::none(),
+            FrameAnswer::Refused(r) => r,
+        }
+    }
+}
+
 impl Frame {
     pub const R_LEAST: u64 = 100;
 
@@ -120,17 +144,11 @@ impl Frame {
             Refusal::NOWHERE,
         );
         let Verdict::Passed = ductility else {
-            let Verdict::Refused(r) = ductility else {
-                return FrameAnswer::Refused(Refusal::none());
-            };
-            return FrameAnswer::Refused(r);
+            return FrameAnswer::Refused(ductility.refusal());
         };
         let importance = listed(&Self::I_VALUES, v.i, Refusal::I, Refusal::NOWHERE);
         let Verdict::Passed = importance else {
-            let Verdict::Refused(r) = importance else {
-                return FrameAnswer::Refused(Refusal::none());
-            };
-            return FrameAnswer::Refused(r);
+            return FrameAnswer::Refused(importance.refusal());
         };
         let alpha = within(
             Self::ALPHA_LEAST,
@@ -140,24 +158,15 @@ impl Frame {
             Refusal::NOWHERE,
         );
         let Verdict::Passed = alpha else {
-            let Verdict::Refused(r) = alpha else {
-                return FrameAnswer::Refused(Refusal::none());
-            };
-            return FrameAnswer::Refused(r);
+            return FrameAnswer::Refused(alpha.refusal());
         };
         let k = Kind::judged(v.kind);
         let KindAnswer::Taken(kind) = k else {
-            let KindAnswer::Refused(r) = k else {
-                return FrameAnswer::Refused(Refusal::none());
-            };
-            return FrameAnswer::Refused(r);
+            return FrameAnswer::Refused(k.refusal());
         };
         let period = Self::judged_period(v.calculated);
         let Verdict::Passed = period else {
-            let Verdict::Refused(r) = period else {
-                return FrameAnswer::Refused(Refusal::none());
-            };
-            return FrameAnswer::Refused(r);
+            return FrameAnswer::Refused(period.refusal());
         };
         FrameAnswer::Taken(Frame {
             kind,

@@ -10,6 +10,7 @@ use crate::site::SiteAnswer;
 use crate::site::SiteValues;
 ghost use mathlib.Core.Path.{_≡_};
 ghost use Rattle.limits.specs.Judging.{judgedJob, givenOutcome};
+ghost use Rattle.limits.specs.Outcome.{refusalOf};
 
 // A judged site and frame.
 pub struct Given {
@@ -20,6 +21,18 @@ pub struct Given {
 pub enum GivenAnswer {
     Taken(Given),
     Refused(Refusal),
+}
+
+impl GivenAnswer {
+    // What it refuses with; where it refuses nothing, zeros.
+    pub fn refusal(self) -> Refusal
+        ensures { λ r. ⌜ r ≡ refusalOf (givenOutcome self) ⌝ }
+    {
+        match self {
+            GivenAnswer::Taken(_) => Refusal::none(),
+            GivenAnswer::Refused(r) => r,
+        }
+    }
 }
 
 // All judgments of a job, one after the other: levels, site, frame.
@@ -34,24 +47,15 @@ pub fn judged(
 {
     let v = judged_levels(weights, heights, room);
     let Verdict::Passed = v else {
-        let Verdict::Refused(r) = v else {
-            return GivenAnswer::Refused(Refusal::none());
-        };
-        return GivenAnswer::Refused(r);
+        return GivenAnswer::Refused(v.refusal());
     };
     let s = Site::judged(site);
     let SiteAnswer::Taken(site) = s else {
-        let SiteAnswer::Refused(r) = s else {
-            return GivenAnswer::Refused(Refusal::none());
-        };
-        return GivenAnswer::Refused(r);
+        return GivenAnswer::Refused(s.refusal());
     };
     let f = Frame::judged(frame);
     let FrameAnswer::Taken(frame) = f else {
-        let FrameAnswer::Refused(r) = f else {
-            return GivenAnswer::Refused(Refusal::none());
-        };
-        return GivenAnswer::Refused(r);
+        return GivenAnswer::Refused(f.refusal());
     };
     GivenAnswer::Taken(Given { site, frame })
 }

@@ -1,5 +1,6 @@
 // What comes back when data is bad: a refusal, the numbers it may have, and the answer of a judgment.
 ghost use mathlib.Core.Path.{_≡_};
+ghost use Rattle.limits.specs.Outcome.{refusalOf, verdictOutcome};
 
 // A refusal: document 01's number, and its place.
 pub struct Refusal {
@@ -61,4 +62,16 @@ impl Refusal {
 pub enum Verdict {
     Passed,
     Refused(Refusal),
+}
+
+impl Verdict {
+    // What it refuses with; where it refuses nothing, zeros.
+    pub fn refusal(self) -> Refusal
+        ensures { λ r. ⌜ r ≡ refusalOf (verdictOutcome self) ⌝ }
+    {
+        match self {
+            Verdict::Passed => Refusal::none(),
+            Verdict::Refused(r) => r,
+        }
+    }
 }

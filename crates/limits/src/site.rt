@@ -5,7 +5,7 @@ use crate::refusal::Refusal;
 use crate::refusal::Verdict;
 ghost use mathlib.Core.Path.{_≡_};
 ghost use Rattle.limits.specs.Site.{judgedClass, classOutcome, judgedMapped, judgedNearFault, judgedSite, siteOutcome};
-ghost use Rattle.limits.specs.Outcome.{verdictOutcome};
+ghost use Rattle.limits.specs.Outcome.{refusalOf, verdictOutcome};
 ghost use Rattle.limits.specs.Ranges.{listed};
 
 // The site class of Table 3.
@@ -18,6 +18,18 @@ pub enum Class {
 pub enum ClassAnswer {
     Taken(Class),
     Refused(Refusal),
+}
+
+impl ClassAnswer {
+    // What it refuses with; where it refuses nothing, zeros.
+    pub fn refusal(self) -> Refusal
+        ensures { λ r. ⌜ r ≡ refusalOf (classOutcome self) ⌝ }
+    {
+        match self {
+            ClassAnswer::Taken(_) => Refusal::none(),
+            ClassAnswer::Refused(r) => r,
+        }
+    }
 }
 
 impl Class {
@@ -71,6 +83,18 @@ pub struct Site {
 pub enum SiteAnswer {
     Taken(Site),
     Refused(Refusal),
+}
+
+impl SiteAnswer {
+    // What it refuses with; where it refuses nothing, zeros.
+    pub fn refusal(self) -> Refusal
+        ensures { λ r. ⌜ r ≡ refusalOf (siteOutcome self) ⌝ }
+    {
+        match self {
+            SiteAnswer::Taken(_) => Refusal::none(),
+            SiteAnswer::Refused(r) => r,
+        }
+    }
 }
 
 impl Site {
@@ -157,24 +181,15 @@ impl Site {
     {
         let m = Self::judged_mapped(v);
         let Verdict::Passed = m else {
-            let Verdict::Refused(r) = m else {
-                return SiteAnswer::Refused(Refusal::none());
-            };
-            return SiteAnswer::Refused(r);
+            return SiteAnswer::Refused(m.refusal());
         };
         let n = Self::judged_near_fault(v);
         let Verdict::Passed = n else {
-            let Verdict::Refused(r) = n else {
-                return SiteAnswer::Refused(Refusal::none());
-            };
-            return SiteAnswer::Refused(r);
+            return SiteAnswer::Refused(n.refusal());
         };
         let c = Class::judged(v.class);
         let ClassAnswer::Taken(class) = c else {
-            let ClassAnswer::Refused(r) = c else {
-                return SiteAnswer::Refused(Refusal::none());
-            };
-            return SiteAnswer::Refused(r);
+            return SiteAnswer::Refused(c.refusal());
         };
         SiteAnswer::Taken(Site {
             ssd: v.ssd,

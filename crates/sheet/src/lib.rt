@@ -26,17 +26,11 @@ pub fn put_sheet(out: &mut [u8], s: &[u8]) -> usize
     let read = read_sheet(s);
     let a = read.answer;
     let SheetAnswer::Taken(site, frame, levels) = a else {
-        let SheetAnswer::Refused(r) = a else {
-            return put_refusal(out, Refusal::none());
-        };
-        return put_refusal(out, r);
+        return put_refusal(out, a.refusal());
     };
     let count = counted(levels);
     let Verdict::Passed = count else {
-        let Verdict::Refused(r) = count else {
-            return put_refusal(out, Refusal::none());
-        };
-        return put_refusal(out, r);
+        return put_refusal(out, count.refusal());
     };
     let weights = read.weights;
     let heights = read.heights;

@@ -93,10 +93,7 @@ pub fn put_job(
         &mut overturnings,
     );
     let JobAnswer::Taken(figures) = a else {
-        let JobAnswer::Refused(r) = a else {
-            return put_refusal(out, Refusal::none());
-        };
-        return put_refusal(out, r);
+        return put_refusal(out, a.refusal());
     };
     let n = weights.len();
     put_results(out, figures, &forces[..n], &shears[..n], &overturnings[..n])

@@ -98,17 +98,11 @@ pub fn site_class(thicknesses: &[u64], kinds: &[u64], values: &[u64]) -> ClassAn
 {
     let v = judged_log(thicknesses, kinds.len(), values.len());
     let Verdict::Passed = v else {
-        let Verdict::Refused(r) = v else {
-            return ClassAnswer::Refused(Refusal::none());
-        };
-        return ClassAnswer::Refused(r);
+        return ClassAnswer::Refused(v.refusal());
     };
     let t = timed(thicknesses, kinds, values);
     let TimesAnswer::Taken(times) = t else {
-        let TimesAnswer::Refused(r) = t else {
-            return ClassAnswer::Refused(Refusal::none());
-        };
-        return ClassAnswer::Refused(r);
+        return ClassAnswer::Refused(t.refusal());
     };
     ClassAnswer::Taken(class_of(ClassLimits::table_3(), times))
 }

@@ -40,10 +40,7 @@ fn timed_by(
     while i < thicknesses.len() {
         let a = velocity_by(cohesive, cohesionless, kinds[i], values[i], i as u64 + 1);
         let VelocityAnswer::Taken(v) = a else {
-            let VelocityAnswer::Refused(r) = a else {
-                return TimesAnswer::Refused(Refusal::none());
-            };
-            return TimesAnswer::Refused(r);
+            return TimesAnswer::Refused(a.refusal());
         };
         let ns = NS_AT_UNIT * thicknesses[i];
         up += quotients::up(ns, v);

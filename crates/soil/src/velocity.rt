@@ -28,10 +28,7 @@ fn measured(value: u64, place: u64) -> VelocityAnswer
         place,
     );
     let Verdict::Passed = v else {
-        let Verdict::Refused(r) = v else {
-            return VelocityAnswer::Refused(Refusal::none());
-        };
-        return VelocityAnswer::Refused(r);
+        return VelocityAnswer::Refused(v.refusal());
     };
     VelocityAnswer::Taken(value)
 }
@@ -43,10 +40,7 @@ fn by_count(least: u64, most: u64, velocities: &[u64], n: u64, place: u64) -> Ve
 {
     let v = within(least, most, n, Refusal::LAYER, place);
     let Verdict::Passed = v else {
-        let Verdict::Refused(r) = v else {
-            return VelocityAnswer::Refused(Refusal::none());
-        };
-        return VelocityAnswer::Refused(r);
+        return VelocityAnswer::Refused(v.refusal());
     };
     VelocityAnswer::Taken(velocities[(n - least) as usize])
 }
