@@ -11,13 +11,26 @@ use storeys::storey::fill_storeys;
 pub mod figures;
 
 ghost use mathlib.Core.Path.{_≡_};
+ghost use Rattle.limits.specs.Outcome.{refusalOf};
 ghost use Prim.Native.Nat.{min};
-ghost use Rattle.job.specs.Job.{Answers};
+ghost use Rattle.job.specs.Job.{answerOutcome, Answers};
 
 // What a job answers: V, V_M, V*, V_D and T, or why not.
 pub enum JobAnswer {
     Taken(Figures),
     Refused(Refusal),
+}
+
+impl JobAnswer {
+    // What it refuses with; where it refuses nothing, zeros.
+    pub fn refusal(self) -> Refusal
+        ensures { λ r. ⌜ r ≡ refusalOf (answerOutcome self) ⌝ }
+    {
+        match self {
+            JobAnswer::Taken(_) => Refusal::none(),
+            JobAnswer::Refused(r) => r,
+        }
+    }
 }
 
 fn shorter(a: usize, b: usize) -> usize
@@ -44,9 +57,7 @@ pub fn job(
     let room = shorter(shorter(forces.len(), shears.len()), overturnings.len());
     let g = judged(site, frame, weights, heights, room);
     let GivenAnswer::Taken(given) = g else {
-        let GivenAnswer::Refused(r) = g else {
-            return JobAnswer::Refused(Refusal::none());
-        };
+        let r = g.refusal();
         // By its fields: handed on whole, it makes every answer of a job be copied once more.
         return JobAnswer::Refused(Refusal {
             number: r.number,

@@ -80,10 +80,7 @@ pub fn read_lines(s: &[u8]) -> SheetCells
     let last = level_lines(s, third);
     let l = last.answer;
     let LevelsAnswer::Taken(count) = l else {
-        let LevelsAnswer::Refused(r) = l else {
-            let none = Refusal::none();
-            return SheetCells::stopped(none.number, none.place);
-        };
+        let r = l.refusal();
         return SheetCells::stopped(r.number, r.place);
     };
     let of_site = first.numbers;

@@ -6,6 +6,7 @@ use crate::velocity::velocity_by;
 use limits::refusal::Refusal;
 use whole::quotients;
 ghost use mathlib.Core.Path.{_≡_};
+ghost use Rattle.limits.specs.Outcome.{refusalOf};
 ghost use Rattle.soil.specs.Times.{Matched, judgedTimes, timesOutcome};
 ghost use Rattle.soil.specs.Velocity.{Tables};
 
@@ -18,6 +19,18 @@ pub struct Times {
 pub enum TimesAnswer {
     Taken(Times),
     Refused(Refusal),
+}
+
+impl TimesAnswer {
+    // What it refuses with; where it refuses nothing, zeros.
+    pub fn refusal(self) -> Refusal
+        ensures { λ r. ⌜ r ≡ refusalOf (timesOutcome self) ⌝ }
+    {
+        match self {
+            TimesAnswer::Taken(_) => Refusal::none(),
+            TimesAnswer::Refused(r) => r,
+        }
+    }
 }
 
 // The ns that 1 cm takes at 1 dm/s.

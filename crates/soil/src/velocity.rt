@@ -6,6 +6,7 @@ use limits::ranges::within;
 use limits::refusal::Refusal;
 use limits::refusal::Verdict;
 ghost use mathlib.Core.Path.{_≡_};
+ghost use Rattle.limits.specs.Outcome.{refusalOf};
 ghost use Prim.Native.Nat.{_+_, _<_};
 ghost use lib.ListN.{length};
 ghost use Rattle.soil.specs.Velocity.{measured, fromTable, Tables, velocity, velocityOutcome};
@@ -14,6 +15,18 @@ ghost use Rattle.soil.specs.Velocity.{measured, fromTable, Tables, veloc
 pub enum VelocityAnswer {
     Taken(u64),
     Refused(Refusal),
+}
+
+impl VelocityAnswer {
+    // What it refuses with; where it refuses nothing, zeros.
+    pub fn refusal(self) -> Refusal
+        ensures { λ r. ⌜ r ≡ refusalOf (velocityOutcome self) ⌝ }
+    {
+        match self {
+            VelocityAnswer::Taken(_) => Refusal::none(),
+            VelocityAnswer::Refused(r) => r,
+        }
+    }
 }
 
 // A measured velocity.

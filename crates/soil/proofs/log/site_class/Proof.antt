@@ -1,9 +1,9 @@
 -- `soil::log::site_class` meets its contract: the stages of the code are the lines of `siteClass`. Assumes nothing.
 use borrow.Author.Needs.{needs}
-use mathlib.Core.Path.{ap, _∙_}
+use mathlib.Core.Path.{refl, ap, _∙_}
 use native.Mathlib.Omega.{arith}
 use lib.ListN.{length}
-use Rattle.limits.proofs.Stages.{says}
+use Rattle.limits.proofs.Stages.{says, stopped}
 use Rattle.limits.specs.Outcome.{accepted, verdictOutcome}
 use Rattle.soil.proofs.Sound.{log-sound, times-most}
 use Rattle.soil.specs.Class.{classOf}
@@ -19,25 +19,15 @@ judged-log-requires c κs = search needs
 enum-told : tie.Need-enum-told
 enum-told c = search needs
 
-enum-known-v : tie.Need-enum-known-v
-enum-known-v c = search needs
-
-enum-known-v-2 : tie.Need-enum-known-v-2
-enum-known-v-2 c = search needs
-
 enum-told-2 : tie.Need-enum-told-2
 enum-told-2 c = search needs
 
-none-requires : tie.Need-none-requires
-none-requires c κs = search needs
+refusal-requires : tie.Need-refusal-requires
+refusal-requires c κs = search needs
 
 returns : tie.Need-returns
-returns c = search needs
-
-returns-2 : tie.Need-returns-2
 unfolding siteClass
-returns-2 c =
-    simp (says verdictOutcome (c .before .before .before .before .before .before .judged-log .ensures) (c .before .before .before .before .v .given .1 ∙ c .before .v2 .given .1))
+returns c = simp (stopped verdictOutcome _ _ (c .before .before .before .judged-log .ensures) (c .before .enum-told2 .given .1) refl (c .refusal .ensures))
 
 timed-requires : tie.Need-timed-requires
 timed-requires c κs =
@@ -48,25 +38,19 @@ timed-requires c κs =
 enum-known-t : tie.Need-enum-known-t
 enum-known-t c = search needs
 
-enum-known-t-2 : tie.Need-enum-known-t-2
-enum-known-t-2 c = search needs
-
-enum-known-t-3 : tie.Need-enum-known-t-3
-enum-known-t-3 c = search needs
-
 enum-told-3 : tie.Need-enum-told-3
 enum-told-3 c = search needs
 
-none-requires-2 : tie.Need-none-requires-2
-none-requires-2 c κs = search needs
+refusal-requires-2 : tie.Need-refusal-requires-2
+refusal-requires-2 c κs = search needs
 
-returns-3 : tie.Need-returns-3
-returns-3 c = search needs
-
-returns-4 : tie.Need-returns-4
+returns-2 : tie.Need-returns-2
 unfolding siteClass
-returns-4 c =
-    simp (says verdictOutcome (c .before .before .before .before .before .before .before .before .before .judged-log .ensures) (c .before .before .before .before .before .before .before .enum-told .given .1), says timesOutcome (c .before .before .before .before .before .before .timed .ensures) (c .before .before .before .before .t2 .given .1 ∙ c .before .t3 .given .1))
+returns-2 c =
+    simp (
+      says verdictOutcome (c .before .before .before .before .before .before .judged-log .ensures) (c .before .before .before .before .enum-told .given .1),
+      stopped timesOutcome _ _ (c .before .before .before .timed .ensures) (c .before .enum-told3 .given .1) refl (c .refusal2 .ensures),
+    )
 
 table-3-requires : tie.Need-table-3-requires
 table-3-requires c κs = search needs
@@ -78,9 +62,9 @@ class-of-requires c κs =
     let m = times-most (a .thicknesses .now) (a .kinds .now) (a .values .now) (c .before .before .t .given .0 .0) (says timesOutcome (c .before .before .before .before .timed .ensures) (c .before .before .t .given .1)) in
     rw (c .table-3 .ensures) (omega arith, omega arith)
 
-returns-5 : tie.Need-returns-5
+returns-3 : tie.Need-returns-3
 unfolding siteClass
-returns-5 c =
+returns-3 c =
     simp (says verdictOutcome (c .before .before .before .before .before .before .before .before .judged-log .ensures) (c .before .before .before .before .before .before .enum-told .given .1), says timesOutcome (c .before .before .before .before .before .timed .ensures) (c .before .before .before .t .given .1))
     (ap accepted (c .class-of .ensures ∙ ap (λ (l : ClassLimits). classOf l (c .before .before .before .t .given .0 .0)) (c .before .table-3 .ensures)))
 
@@ -90,20 +74,14 @@ site-class-spec =
     (tie.spec
     judged-log-requires
     enum-told
-    enum-known-v
-    enum-known-v-2
     enum-told-2
-    none-requires
+    refusal-requires
     returns
-    returns-2
     timed-requires
     enum-known-t
-    enum-known-t-2
-    enum-known-t-3
     enum-told-3
-    none-requires-2
-    returns-3
-    returns-4
+    refusal-requires-2
+    returns-2
     table-3-requires
     class-of-requires
-    returns-5)
+    returns-3)

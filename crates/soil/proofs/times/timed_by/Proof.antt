@@ -1,11 +1,11 @@
 -- `soil::times::timed_by` meets its contract. The invariant: the whole log is timed as what is added and what is left of it from the
 -- i-th layer on, and no time is more than its ns at 1 dm/s. Assumes nothing.
 use borrow.Author.Needs.{needs}
-use mathlib.Core.Path.{_≡_, sym, _∙_}
+use mathlib.Core.Path.{_≡_, refl, sym, _∙_}
 use Prim.Native.Nat.{_+_, _-_, _≤_, _<_}
 use native.Mathlib.Omega.{arith}
 use lib.ListN.{length, drop}
-use Rattle.limits.proofs.Stages.{says}
+use Rattle.limits.proofs.Stages.{says, stopped}
 use Rattle.soil.proofs.Adding.{up-most, down-most, Small, small-next, left, left-all, left-none, left-refused, left-next}
 use Rattle.soil.proofs.Speeds.{velocity-least}
 use Rattle.whole.proofs.Sums.{sum-step}
@@ -49,29 +49,21 @@ velocity-by-requires c κs = search needs
 enum-known-a : tie.Need-enum-known-a Inv-loop μ-loop
 enum-known-a c = search needs
 
-enum-known-a-2 : tie.Need-enum-known-a-2 Inv-loop μ-loop
-enum-known-a-2 c = search needs
-
-enum-known-a-3 : tie.Need-enum-known-a-3 Inv-loop μ-loop
-enum-known-a-3 c = search needs
-
 enum-told : tie.Need-enum-told Inv-loop μ-loop
 enum-told c = search needs
 
-none-requires : tie.Need-none-requires Inv-loop μ-loop
-none-requires c κs = search needs
+refusal-requires : tie.Need-refusal-requires Inv-loop μ-loop
+refusal-requires c κs = search needs
 
 returns : tie.Need-returns Inv-loop μ-loop
-returns c = search needs
-
-returns-2 : tie.Need-returns-2 Inv-loop μ-loop
-returns-2 c =
-    let at = c .before .before .before .before .before .before .before .before .before .before .loop in
-    let a = c .before .before .before .before .before .before .before .before .before .before .before .before .before .before .before .before .args in
+returns c =
+    let at = c .before .before .before .before .before .before .before .loop in
+    let a = c .before .before .before .before .before .before .before .before .before .before .before .before .before .args in
     let ds = a .thicknesses .now in
     let ks = a .kinds .now in
     let xs = a .values .now in
-    sym (at .inv .3 ∙ left-refused ds ks xs (at .i) (at .up) (at .down) (omega arith) (omega arith) (omega arith) _ _ (says velocityOutcome (c .before .before .before .before .before .before .velocity-by .ensures) (c .before .before .before .before .a2 .given .1 ∙ c .before .a3 .given .1)))
+    let refused = stopped velocityOutcome _ _ (c .before .before .before .velocity-by .ensures) (c .before .enum-told .given .1) refl (c .refusal .ensures) in
+    sym (at .inv .3 ∙ left-refused ds ks xs (at .i) (at .up) (at .down) (omega arith) (omega arith) (omega arith) _ _ refused)
 
 mul-ns : tie.Need-mul-ns Inv-loop μ-loop
 mul-ns c = search needs
@@ -132,8 +124,8 @@ loop-again c =
           ∙ rw (c .before .up .ensures, c .down .ensures),
     )
 
-returns-3 : tie.Need-returns-3 Inv-loop μ-loop
-returns-3 c =
+returns-2 : tie.Need-returns-2 Inv-loop μ-loop
+returns-2 c =
     let at = c .before .loop in
     let a = c .before .before .before .before .before .before .before .args in
     let ds = a .thicknesses .now in
@@ -155,12 +147,9 @@ timed-by-spec =
     add-velocity-by
     velocity-by-requires
     enum-known-a
-    enum-known-a-2
-    enum-known-a-3
     enum-told
-    none-requires
+    refusal-requires
     returns
-    returns-2
     mul-ns
     shared-slice-read-ns
     mul-ns-2
@@ -171,4 +160,4 @@ timed-by-spec =
     add-i
     loop-less
     loop-again
-    returns-3)
+    returns-2)

@@ -1,9 +1,9 @@
 -- `soil::velocity::by_count` meets its contract: N that passes is from least to most, so the table has a cell for it. Assumes nothing.
 use borrow.Author.Needs.{needs}
-use mathlib.Core.Path.{_∙_}
+use mathlib.Core.Path.{refl}
 use native.Mathlib.Omega.{arith}
 use Rattle.limits.proofs.Passed.{within-passed}
-use Rattle.limits.proofs.Stages.{says}
+use Rattle.limits.proofs.Stages.{says, stopped}
 use Rattle.limits.specs.Outcome.{verdictOutcome}
 use Rattle.soil.specs.Velocity.{fromTable}
 use Rattle.soil.proofs.velocity.by_count.Statement.{statement}
@@ -15,44 +15,34 @@ within-requires c κs = search needs
 enum-told : tie.Need-enum-told
 enum-told c = search needs
 
-enum-known-v : tie.Need-enum-known-v
-enum-known-v c = search needs
-
-enum-known-v-2 : tie.Need-enum-known-v-2
-enum-known-v-2 c = search needs
-
 enum-told-2 : tie.Need-enum-told-2
 enum-told-2 c = search needs
 
-none-requires : tie.Need-none-requires
-none-requires c κs = search needs
+refusal-requires : tie.Need-refusal-requires
+refusal-requires c κs = search needs
 
 returns : tie.Need-returns
-returns c = search needs
-
-returns-2 : tie.Need-returns-2
 unfolding fromTable
-returns-2 c =
-    simp (says verdictOutcome (c .before .before .before .before .before .before .within .ensures) (c .before .before .before .before .v .given .1 ∙ c .before .v2 .given .1))
+returns c = simp (stopped verdictOutcome _ _ (c .before .before .before .within .ensures) (c .before .enum-told2 .given .1) refl (c .refusal .ensures))
 
-sub-t9 : tie.Need-sub-t9
-sub-t9 c =
+sub-t8 : tie.Need-sub-t8
+sub-t8 c =
     let a = c .before .before .before .before .args in
     omega (arith, within-passed (a .least) (a .most) (a .n) 15 (a .place) (says verdictOutcome (c .before .before .within .ensures) (c .enum-told .given .1)))
 
-mul-t11 : tie.Need-mul-t11
-mul-t11 c =
+mul-t10 : tie.Need-mul-t10
+mul-t10 c =
     let a = c .before .before .before .before .args in
     omega (arith, within-passed (a .least) (a .most) (a .n) 15 (a .place) (says verdictOutcome (c .before .before .within .ensures) (c .enum-told .given .1)))
 
-shared-slice-read-t13 : tie.Need-shared-slice-read-t13
-shared-slice-read-t13 c =
+shared-slice-read-t12 : tie.Need-shared-slice-read-t12
+shared-slice-read-t12 c =
     let a = c .before .before .before .before .before .args in
     omega (arith, within-passed (a .least) (a .most) (a .n) 15 (a .place) (says verdictOutcome (c .before .before .before .within .ensures) (c .before .enum-told .given .1)))
 
-returns-3 : tie.Need-returns-3
+returns-2 : tie.Need-returns-2
 unfolding fromTable
-returns-3 c = simp (says verdictOutcome (c .before .before .before .within .ensures) (c .before .enum-told .given .1))
+returns-2 c = simp (says verdictOutcome (c .before .before .before .within .ensures) (c .before .enum-told .given .1))
 
 pub by-count-spec : {M : Type 1} → statement M
 by-count-spec =
@@ -60,13 +50,10 @@ by-count-spec =
     (tie.spec
     within-requires
     enum-told
-    enum-known-v
-    enum-known-v-2
     enum-told-2
-    none-requires
+    refusal-requires
     returns
-    returns-2
-    sub-t9
-    mul-t11
-    shared-slice-read-t13
-    returns-3)
+    sub-t8
+    mul-t10
+    shared-slice-read-t12
+    returns-2)
