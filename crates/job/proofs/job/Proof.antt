@@ -1,11 +1,11 @@
 -- `job::job` meets its contract. Assumes nothing.
 use borrow.Author.Needs.{needs}
-use mathlib.Core.Path.{sym, ap, subst, _∙_}
+use mathlib.Core.Path.{refl, sym, ap, subst, _∙_}
 use Prim.Native.Nat.{ℕ, min}
 use native.Mathlib.Omega.{arith}
 use lib.ListN.{length}
 use Rattle.limits.proofs.Accepted.{given-allowed}
-use Rattle.limits.proofs.Stages.{says}
+use Rattle.limits.proofs.Stages.{says, stopped}
 use Rattle.limits.specs.Judging.{givenOutcome}
 use Rattle.base_shear.specs.declared.Figures.{Figures}
 use Rattle.storeys.specs.Reach.{Load}
@@ -26,26 +26,18 @@ judged-requires c κs = search needs
 enum-known-g : tie.Need-enum-known-g
 enum-known-g c = search needs
 
-enum-known-g-2 : tie.Need-enum-known-g-2
-enum-known-g-2 c = search needs
-
-enum-known-g-3 : tie.Need-enum-known-g-3
-enum-known-g-3 c = search needs
-
 enum-told : tie.Need-enum-told
 enum-told c = search needs
 
-none-requires : tie.Need-none-requires
-none-requires c κs = search needs
+refusal-requires : tie.Need-refusal-requires
+refusal-requires c κs = search needs
 
 returns : tie.Need-returns
-returns c = absurd (let b : ⊥ = search needs in b)
-
-returns-2 : tie.Need-returns-2
-returns-2 c =
-    let a = c .before .before .before .before .before .before .before .before .before .before .before .before .before .before .args in
-    let e = says givenOutcome (c .before .before .before .before .before .before .judged .ensures) (c .before .before .before .before .g2 .given .1 ∙ c .before .g3 .given .1) in
-    refused-answers (a .site) (a .frame) (a .weights .now) (a .heights .now) _ _ (c .before .before .before .before .before .before .before .shorter2 .ensures ∙ ap (λ (n : ℕ). min n (length (a .overturnings .now))) (c .before .before .before .before .before .before .before .before .shorter .ensures)) _ e
+returns c =
+    let a = c .before .before .before .before .before .before .before .before .before .before .before .args in
+    let e = stopped givenOutcome _ _ (c .before .before .before .judged .ensures) (c .before .enum-told .given .1) refl (c .refusal .ensures) in
+    let room = c .before .before .before .before .shorter2 .ensures ∙ ap (λ (n : ℕ). min n (length (a .overturnings .now))) (c .before .before .before .before .before .shorter .ensures) in
+    refused-answers (a .site) (a .frame) (a .weights .now) (a .heights .now) _ _ room _ e
 
 given-figures-requires : tie.Need-given-figures-requires
 given-figures-requires c κs =
@@ -79,8 +71,8 @@ same-length-2 c = search needs
 same-length-3 : tie.Need-same-length-3
 same-length-3 c = search needs
 
-returns-3 : tie.Need-returns-3
-returns-3 c =
+returns-2 : tie.Need-returns-2
+returns-2 c =
     let a = c .before .before .before .before .before .before .before .before .before .before .before .before .before .before .before .before .before .before .before .before .before .before .args in
     let e = says givenOutcome (c .before .before .before .before .before .before .before .before .before .before .before .before .before .before .judged .ensures) (c .before .before .before .before .before .before .before .before .before .before .before .before .g .given .1) in
     let short = c .before .before .before .before .before .before .before .before .before .before .before .before .before .before .before .shorter2 .ensures ∙ ap (λ (n : ℕ). min n (length (a .overturnings .now))) (c .before .before .before .before .before .before .before .before .before .before .before .before .before .before .before .before .shorter .ensures) in
@@ -95,15 +87,12 @@ job-spec =
     shorter-requires-2
     judged-requires
     enum-known-g
-    enum-known-g-2
-    enum-known-g-3
     enum-told
-    none-requires
+    refusal-requires
     returns
-    returns-2
     given-figures-requires
     fill-storeys-requires
     same-length
     same-length-2
     same-length-3
-    returns-3)
+    returns-2)
