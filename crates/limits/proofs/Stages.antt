@@ -8,9 +8,12 @@ use Rattle.limits.specs.Outcome.{Outcome, refused, refusalOf}
 pub says : {A B : Type 0} {a b : A} {o : Outcome B} (f : A → Outcome B) → f a ≡ o → a ≡ b → o ≡ f b
 says f e t = sym e ∙ ap f t
 
--- a judgment that is known to refuse, handed on by its refusal
+-- ---- a judgment that is known to refuse, handed on by its refusal: what that is, and what it says
+pub yielded : {A B : Type 0} (f : B → Outcome A) {a b : B} {r : Refusal} (n p : ℕ) → a ≡ b → f b ≡ refused n p → r ≡ refusalOf (f a)
+    → r ≡ record { number = n; place = p }
+yielded f n p t q s = s ∙ ap refusalOf (ap f t ∙ q)
+
 pub stopped : {A B : Type 0} (f : B → Outcome A) {a b : B} {o : Outcome A} {r : Refusal} (n p : ℕ) → f a ≡ o → a ≡ b
     → f b ≡ refused n p → r ≡ refusalOf (f a) → o ≡ refused (r .number) (r .place)
 stopped f n p e t q s =
-    let l = ap f t ∙ q in
-    sym e ∙ l ∙ sym (ap (λ (x : Refusal). refused (x .number) (x .place)) (s ∙ ap refusalOf l))
+    sym e ∙ ap f t ∙ q ∙ sym (ap (λ (x : Refusal). refused (x .number) (x .place)) (yielded f n p t q s))

@@ -11,6 +11,7 @@
 --   cellsOf l                     the first 50 of a list in 50 cells, zeros in the rest
 --   levelAnswer c o               the code's answer to the reading o of a level line from c on: weight, height, where the next begins
 --   levelsRead o, sheetRead o     the code's answer to the outcome o, its weights and heights in 50 cells each
+--   levelsOutcome a, sheetOutcome a    what the code's answer a says: how many level lines there are, or the refusal
 -- A sheet without level lines is read: 1 is refused by the job. A line that lacks its LF, or that is not there, is otherwise.
 use mathlib.Core.List.{List, [], _∷_}
 use Prim.Native.Nat.{ℕ, zero, suc, _+_}
@@ -26,8 +27,10 @@ use Rattle.text.specs.Reading.{Reading, found, otherwise, after}
 use Rattle.text.specs.declared.reading.Cursor.{Cursor}
 use Rattle.sheet.specs.declared.levels.LevelAnswer.{LevelAnswer}
 use Rattle.sheet.specs.declared.levels.LevelAnswer.the-variants.{Found, Otherwise}
+use Rattle.sheet.specs.declared.levels.LevelsAnswer.{LevelsAnswer}
 use Rattle.sheet.specs.declared.levels.LevelsAnswer.the-variants.{Taken as TakenLevels, Refused as RefusedLevels}
 use Rattle.sheet.specs.declared.levels.LevelsRead.{LevelsRead}
+use Rattle.sheet.specs.declared.reader.SheetAnswer.{SheetAnswer}
 use Rattle.sheet.specs.declared.reader.SheetAnswer.the-variants.{Taken, Refused}
 use Rattle.sheet.specs.declared.reader.SheetCells.{SheetCells}
 
@@ -122,3 +125,11 @@ sheetRead (accepted r) =
     }
 sheetRead (refused n p) =
     record { answer = Refused (record { number = n; place = p }); weights = zeros 50; heights = zeros 50 }
+
+abbrev pub levelsOutcome : LevelsAnswer → Outcome ℕ
+levelsOutcome (TakenLevels n) = accepted n
+levelsOutcome (RefusedLevels r) = refused (r .number) (r .place)
+
+abbrev pub sheetOutcome : SheetAnswer → Outcome ℕ
+sheetOutcome (Taken s f n) = accepted n
+sheetOutcome (Refused r) = refused (r .number) (r .place)

@@ -8,10 +8,10 @@ use text::reading::ReadAnswer;
 use text::reading::word;
 ghost use mathlib.Core.Path.{_≡_};
 ghost use lib.ListN.{set, drop};
-ghost use Rattle.limits.specs.Outcome.{refused};
+ghost use Rattle.limits.specs.Outcome.{refused, refusalOf};
 ghost use Rattle.text.specs.Bytes.{bytes};
 ghost use Rattle.text.specs.Line.{line};
-ghost use Rattle.sheet.specs.Reading.{levelAnswer, levelLines, levelsRead};
+ghost use Rattle.sheet.specs.Reading.{levelAnswer, levelLines, levelsRead, levelsOutcome};
 
 // What a level line holds, weight and height, and where the next line begins; or it is otherwise.
 pub enum LevelAnswer {
@@ -46,6 +46,18 @@ fn level_line(s: &[u8], c: Cursor) -> LevelAnswer
 pub enum LevelsAnswer {
     Taken(usize),
     Refused(Refusal),
+}
+
+impl LevelsAnswer {
+    // What it refuses with; where it refuses nothing, zeros.
+    pub fn refusal(self) -> Refusal
+        ensures { λ r. ⌜ r ≡ refusalOf (levelsOutcome self) ⌝ }
+    {
+        match self {
+            LevelsAnswer::Taken(_) => Refusal::none(),
+            LevelsAnswer::Refused(r) => r,
+        }
+    }
 }
 
 // The answer, and the weights and heights of the first 50 levels beside it: an enum holds no array.

@@ -9,13 +9,25 @@ use text::line::line;
 use text::reading::Cursor;
 use text::reading::ReadAnswer;
 ghost use mathlib.Core.Path.{_≡_};
-ghost use Rattle.limits.specs.Outcome.{refused};
-ghost use Rattle.sheet.specs.Reading.{siteValues, frameValues, readLines, readSheet, sheetRead};
+ghost use Rattle.limits.specs.Outcome.{refused, refusalOf};
+ghost use Rattle.sheet.specs.Reading.{siteValues, frameValues, readLines, readSheet, sheetRead, sheetOutcome};
 
 // What the site line and the frame line hold, and how many level lines there are; or the refusal.
 pub enum SheetAnswer {
     Taken(SiteValues, FrameValues, usize),
     Refused(Refusal),
+}
+
+impl SheetAnswer {
+    // What it refuses with; where it refuses nothing, zeros.
+    pub fn refusal(self) -> Refusal
+        ensures { λ r. ⌜ r ≡ refusalOf (sheetOutcome self) ⌝ }
+    {
+        match self {
+            SheetAnswer::Taken(_, _, _) => Refusal::none(),
+            SheetAnswer::Refused(r) => r,
+        }
+    }
 }
 
 // The answer, and the weights and heights of the first 50 levels beside it.

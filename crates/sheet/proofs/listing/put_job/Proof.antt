@@ -1,12 +1,13 @@
 -- `sheet::listing::put_job` meets its contract. Assumes nothing.
 use borrow.Author.Needs.{needs}
-use mathlib.Core.Path.{_≡_, sym, subst, _∙_}
-use Prim.Native.Nat.{ℕ}
-use native.Mathlib.Omega.{arith}
+use mathlib.Core.Path.{refl, sym, ap, subst, _∙_}
+use Rattle.limits.specs.declared.refusal.Refusal.{Refusal}
+use Rattle.limits.proofs.Stages.{yielded}
 use Rattle.job.specs.declared.JobAnswer.{JobAnswer}
 use Rattle.job.specs.declared.JobAnswer.the-variants.{Taken}
-use Rattle.job.specs.Job.{Buffers, Answers}
+use Rattle.job.specs.Job.{answerOutcome, Buffers, Answers}
 use Rattle.sheet.proofs.Joining.{lent, refused-listing, forces-cut, shears-cut, overturnings-cut, cut-levelled, taken-listing}
+use Rattle.sheet.specs.Listing.{refusal}
 use Rattle.sheet.proofs.Listings.{written-as}
 use Rattle.sheet.proofs.listing.put_job.Statement.{statement}
 use Rattle.sheet.proofs.listing.put_job.Tie as tie
@@ -36,17 +37,11 @@ job-requires c κs = search needs
 enum-known-a : tie.Need-enum-known-a
 enum-known-a c = search needs
 
-enum-known-a-2 : tie.Need-enum-known-a-2
-enum-known-a-2 c = search needs
-
-enum-known-a-3 : tie.Need-enum-known-a-3
-enum-known-a-3 c = search needs
-
 enum-told : tie.Need-enum-told
 enum-told c = search needs
 
-none-requires : tie.Need-none-requires
-none-requires c κs = search needs
+refusal-requires : tie.Need-refusal-requires
+refusal-requires c κs = search needs
 
 put-refusal-requires : tie.Need-put-refusal-requires
 put-refusal-requires c κs = search needs
@@ -56,22 +51,13 @@ same-length c = search needs
 
 returns : tie.Need-returns
 returns c =
-    let never = c .before .before .before .before .before .enum-told .given .1 in
-    absurd (let z : _≡_ {A = ℕ} 0 1 = cc in let b : ⊥ = omega arith in b)
-
-put-refusal-requires-2 : tie.Need-put-refusal-requires-2
-put-refusal-requires-2 c κs = search needs
-
-same-length-2 : tie.Need-same-length-2
-same-length-2 c = search needs
-
-returns-2 : tie.Need-returns-2
-returns-2 c =
-    let b = c .before .before .before .before .before .before .before .before .before .before .before .before .before .before .before .before .before .before .before .before in
+    let b = c .before .before .before .before .before .before .before .before .before .before .before .before .before .before .before .before .before in
     let g = b .args in
-    let h = held (c .before .before .before .before .before .before .before .before .before .before .before .before .before) in
-    let answer = subst (λ (x : JobAnswer). Answers (g .site) (g .frame) (g .weights .now) (g .heights .now) lent x h) (c .before .before .before .before .before .before .before .before .a2 .given .1 ∙ c .before .before .before .before .before .a3 .given .1) (c .before .before .before .before .before .before .before .before .before .before .before .before .before .job .ensures) in
-    written-as (refused-listing (g .site) (g .frame) (g .weights .now) (g .heights .now) (b .pre .0) _ h answer) (c .before .before .put-refusal2 .ensures)
+    let h = held (c .before .before .before .before .before .before .before .before .before .before) in
+    let told = c .before .before .before .before .before .enum-told .given .1 in
+    let answer = subst (λ (x : JobAnswer). Answers (g .site) (g .frame) (g .weights .now) (g .heights .now) lent x h) told (c .before .before .before .before .before .before .before .before .before .before .job .ensures) in
+    let same = ap (λ (x : Refusal). refusal (x .number) (x .place)) (yielded answerOutcome _ _ told refl (c .before .before .before .refusal .ensures)) in
+    written-as (same ∙ refused-listing (g .site) (g .frame) (g .weights .now) (g .heights .now) (b .pre .0) _ h answer) (c .before .before .put-refusal .ensures)
 
 array-share-prefix-forces : tie.Need-array-share-prefix-forces
 array-share-prefix-forces c = search needs
@@ -102,11 +88,11 @@ put-results-requires c κs =
     let b = c .before .before .before .before .before .before .before .before .before .before .before .before .before .before .before .before .before in
     (cut-levelled (b .args .site) (b .args .frame) (b .args .weights .now) (b .args .heights .now) (b .pre .0) _ _ (taken (c .before .before .before .before .before)), b .pre .1)
 
-same-length-3 : tie.Need-same-length-3
-same-length-3 c = search needs
+same-length-2 : tie.Need-same-length-2
+same-length-2 c = search needs
 
-returns-3 : tie.Need-returns-3
-returns-3 c =
+returns-2 : tie.Need-returns-2
+returns-2 c =
     let b = c .before .before .before .before .before .before .before .before .before .before .before .before .before .before .before .before .before .before .before .before in
     written-as (taken-listing (b .args .site) (b .args .frame) (b .args .weights .now) (b .args .heights .now) (b .pre .0) _ _ (taken (c .before .before .before .before .before .before .before .before))) (c .before .before .put-results .ensures)
 
@@ -119,16 +105,11 @@ put-job-spec =
     slice-aggregate-job-3
     job-requires
     enum-known-a
-    enum-known-a-2
-    enum-known-a-3
     enum-told
-    none-requires
+    refusal-requires
     put-refusal-requires
     same-length
     returns
-    put-refusal-requires-2
-    same-length-2
-    returns-2
     array-share-prefix-forces
     slice-aggregate-put-results
     array-share-prefix-shears
@@ -136,5 +117,5 @@ put-job-spec =
     array-share-prefix-overturnings
     slice-aggregate-put-results-3
     put-results-requires
-    same-length-3
-    returns-3)
+    same-length-2
+    returns-2)

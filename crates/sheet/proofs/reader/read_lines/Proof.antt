@@ -1,12 +1,14 @@
 -- `sheet::reader::read_lines` meets its contract: the stages of the code are the lines of `readLines`. Assumes nothing.
 use borrow.Author.Needs.{needs}
-use mathlib.Core.Path.{sym, ap, _∙_}
+use mathlib.Core.Path.{refl, sym, ap, _∙_}
+use Rattle.limits.specs.declared.refusal.Refusal.{Refusal}
+use Rattle.limits.specs.Outcome.{refused}
+use Rattle.limits.proofs.Stages.{yielded}
 use Rattle.text.proofs.Readings.{line-missed, line-went}
 use Rattle.sheet.proofs.Stages.{levels-refused, levels-taken, lines-first, lines-second, lines-later, lines-all}
-use Rattle.sheet.specs.Reading.{sheetRead}
+use Rattle.sheet.specs.Reading.{sheetRead, levelsOutcome}
 use Rattle.sheet.proofs.reader.read_lines.Statement.{statement}
 use Rattle.sheet.proofs.reader.read_lines.Tie as tie
-use Rattle.text.proofs.line.line.Reads as line-reads
 
 slice-aggregate-line : tie.Need-slice-aggregate-line
 slice-aggregate-line c = search needs
@@ -56,34 +58,26 @@ level-lines-requires c κs = search needs
 enum-known-l : tie.Need-enum-known-l
 enum-known-l c = search needs
 
-enum-known-l-2 : tie.Need-enum-known-l-2
-enum-known-l-2 c = search needs
-
-enum-known-l-3 : tie.Need-enum-known-l-3
-enum-known-l-3 c = search needs
-
 enum-told-3 : tie.Need-enum-told-3
 enum-told-3 c = search needs
 
-none-requires : tie.Need-none-requires
-none-requires c κs = search needs
+refusal-requires : tie.Need-refusal-requires
+refusal-requires c κs = search needs
 
 stopped-requires-3 : tie.Need-stopped-requires-3
 stopped-requires-3 c κs = search needs
 
 returns-3 : tie.Need-returns-3
-returns-3 c = search needs
-
-stopped-requires-4 : tie.Need-stopped-requires-4
-stopped-requires-4 c κs = search needs
-
-returns-4 : tie.Need-returns-4
-returns-4 c =
-    let s = c .before .before .before .before .before .before .before .before .before .before .before .before .before .before .before .before .before .before .before .args .s .now in
-    let first = line-went (record { at = 0 }) _ _ _ (c .before .before .before .before .before .before .before .before .before .before .before .before .before .before .before .before .line .ensures) (c .before .before .before .before .before .before .before .before .before .before .before .before .before .before .a .given .1) in
-    let middle = line-went (c .before .before .before .before .before .before .before .before .before .before .before .before .before .before .a .given .0 .0) _ _ _ (c .before .before .before .before .before .before .before .before .before .before .before .line2 .ensures) (c .before .before .before .before .before .before .before .before .before .b .given .1) in
-    let later = levels-refused _ _ _ (c .before .before .before .before .before .before .before .level-lines .ensures) (c .before .before .before .before .before .l2 .given .1 ∙ c .before .before .l3 .given .1) in
-    c .stopped4 .ensures ∙ ap sheetRead (sym (lines-later s first middle _ _ later))
+returns-3 c =
+    let b = c .before .before .before .before .before .before in
+    let a = b .before .before .before .before .before in
+    let s = a .before .before .before .before .before .args .s .now in
+    let first = line-went (record { at = 0 }) _ _ _ (a .before .before .line .ensures) (a .a .given .1) in
+    let middle = line-went (a .a .given .0 .0) _ _ _ (b .before .before .line2 .ensures) (b .b .given .1) in
+    let told = c .before .before .enum-told3 .given .1 in
+    let later = levels-refused _ _ _ (c .before .before .before .before .level-lines .ensures) told in
+    let same = ap (λ (x : Refusal). refused (x .number) (x .place)) (yielded levelsOutcome _ _ told refl (c .before .refusal .ensures)) in
+    c .stopped3 .ensures ∙ ap sheetRead (same ∙ sym (lines-later s first middle _ _ later))
 
 site-values-requires : tie.Need-site-values-requires
 site-values-requires c κs = search needs
@@ -91,8 +85,8 @@ site-values-requires c κs = search needs
 frame-values-requires : tie.Need-frame-values-requires
 frame-values-requires c κs = search needs
 
-returns-5 : tie.Need-returns-5
-returns-5 c =
+returns-4 : tie.Need-returns-4
+returns-4 c =
     let s = c .before .before .before .before .before .before .before .before .before .before .before .before .before .before .before .before .before .before .before .before .before .args .s .now in
     let first = line-went (record { at = 0 }) _ _ _ (c .before .before .before .before .before .before .before .before .before .before .before .before .before .before .before .before .before .before .line .ensures) (c .before .before .before .before .before .before .before .before .before .before .before .before .before .before .before .before .a .given .1) in
     let middle = line-went (c .before .before .before .before .before .before .before .before .before .before .before .before .before .before .before .before .a .given .0 .0) _ _ _ (c .before .before .before .before .before .before .before .before .before .before .before .before .before .line2 .ensures) (c .before .before .before .before .before .before .before .before .before .before .before .b .given .1) in
@@ -117,14 +111,10 @@ read-lines-spec =
     returns-2
     level-lines-requires
     enum-known-l
-    enum-known-l-2
-    enum-known-l-3
     enum-told-3
-    none-requires
+    refusal-requires
     stopped-requires-3
     returns-3
-    stopped-requires-4
-    returns-4
     site-values-requires
     frame-values-requires
-    returns-5)
+    returns-4)
