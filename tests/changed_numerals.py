@@ -1,7 +1,7 @@
 """Numerals of the model, each changed by one: are they seen by what the gate holds the definitions and the code to?
 
-The numerals of the chain are tried on the jobs of crates/vectors, those of the soil log on the logs of crates/logs, those of the
-ranges and refusals on the changed jobs of crates/refusals and the jobs of crates/vectors: the files that stand there, which the unchanged model must meet first.
+The numerals of the chain are tried on the jobs of crates/vectors, those of the soil log on the logs of crates/run_logs, those of the
+ranges and refusals on the changed jobs of crates/run_refusals and the jobs of crates/vectors: the files that stand there, which the unchanged model must meet first.
 What they do not see is tried on the figures of tests/check_model.py. A numeral of an assertion is left alone, and so are the
 names of LEFT, each with its reason.
 
@@ -96,12 +96,12 @@ def answers(stored):
 
 
 def judged(*case):
-    """What the program `refusals` says of a changed job, or a job's stages, which are there where it is accepted."""
+    """What the program `run_refusals` says of a changed job, or a job's stages, which are there where it is accepted."""
     return refusal_cases.outcome(*case) if len(case) == 1 else vector(*case)
 
 
 def log_or_velocity(*case):
-    """What the program `logs` says of three lists, or of a kind and its N."""
+    """What the program `run_logs` says of three lists, or of a kind and its N."""
     return log_cases.outcome(*case) if len(case) == 3 else str(log_cases.velocity(*case))
 
 
@@ -130,9 +130,9 @@ def suites():
     rows = list(vector_rows())
     yield (site, response, shears, storeys, exact), vector, rows, [vector(*row) for row in rows]
     logs = [*(log_cases.lists(*case) for case in log_cases.all_cases()), *log_cases.blow_counts()]
-    yield (soil,), log_or_velocity, logs, answers(CRATES / 'logs' / 'stdout')
+    yield (soil,), log_or_velocity, logs, answers(CRATES / 'run_logs' / 'stdout')
     jobs = [(changes,) for changes in refusal_cases.all_cases()]
-    yield (limits,), judged, [*jobs, *rows], answers(CRATES / 'refusals' / 'stdout') + [vector(*row) for row in rows]
+    yield (limits,), judged, [*jobs, *rows], answers(CRATES / 'run_refusals' / 'stdout') + [vector(*row) for row in rows]
 
 
 def by_figures():

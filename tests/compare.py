@@ -151,7 +151,7 @@ def run_systematic_logs(library, tally, seed, count):
     for lists in drawn_logs.systematic():
         compare_log(tally, library, 'systematic', lists)
     for case in log_cases.all_cases():
-        compare_log(tally, library, 'of the program logs', log_cases.lists(*case))
+        compare_log(tally, library, 'of the program run_logs', log_cases.lists(*case))
 
 
 def run_logs(library, tally, seed, count):
@@ -171,8 +171,8 @@ def compare_sheet(tally, library, data):
 
 
 def run_stored_sheets(library, tally, seed, count):
-    """The sheets of the program `sheets`."""
-    for path in sorted((core.ROOT / 'crates' / 'sheets' / 'data').iterdir()):
+    """The sheets of the program `run_sheets`."""
+    for path in sorted((core.ROOT / 'crates' / 'run_sheets' / 'data').iterdir()):
         compare_sheet(tally, library, path.read_bytes())
 
 

@@ -1,6 +1,6 @@
-"""Prints what the program `exhausted` must write, by the model.
+"""Prints what the program `run_exhausted` must write, by the model.
 
-usage: python3 tests/exhausted.py > crates/exhausted/stdout
+usage: python3 tests/exhausted.py > crates/run_exhausted/stdout
 """
 
 from fractions import Fraction

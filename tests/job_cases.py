@@ -1,6 +1,6 @@
-"""Writes the cases of the program `jobs` and what the model says of them.
+"""Writes the cases of the program `run_jobs` and what the model says of them.
 
-usage: python3 tests/job_cases.py        rewrites crates/jobs/stdin and crates/jobs/stdout
+usage: python3 tests/job_cases.py        rewrites crates/run_jobs/stdin and crates/run_jobs/stdout
 """
 
 import pathlib
@@ -10,7 +10,7 @@ from typing import NamedTuple
 from model.job import job
 from sample import all_strata, draw_in
 
-HERE = pathlib.Path(__file__).resolve().parent.parent / 'crates' / 'jobs'
+HERE = pathlib.Path(__file__).resolve().parent.parent / 'crates' / 'run_jobs'
 ROW, WEIGHTS, HEIGHTS, LISTED, MOST_BYTES = 140, 20, 80, 60, 65_536
 OLD, SEED, LARGEST = (7, 8, 9), 1, 2**64 - 1
 

@@ -1,6 +1,6 @@
-"""Writes the cases of the program `logs` and what the model says of them.
+"""Writes the cases of the program `run_logs` and what the model says of them.
 
-usage: python3 tests/log_cases.py        rewrites crates/logs/src/cases.rt and crates/logs/stdout
+usage: python3 tests/log_cases.py        rewrites crates/run_logs/src/cases.rt and crates/run_logs/stdout
 """
 
 import itertools
@@ -8,7 +8,7 @@ import pathlib
 
 from model import soil
 
-HERE = pathlib.Path(__file__).resolve().parent.parent / 'crates' / 'logs'
+HERE = pathlib.Path(__file__).resolve().parent.parent / 'crates' / 'run_logs'
 COUNTS = ('thicknesses', 'kinds', 'values')
 FIRST = {'thickness': 10, 'kind': 60, 'value': 110}
 LISTED, NONE = 41, 999

@@ -1,13 +1,13 @@
-"""Writes the cases of the program `refusals` and what the model says of them.
+"""Writes the cases of the program `run_refusals` and what the model says of them.
 
-usage: python3 tests/refusal_cases.py        rewrites crates/refusals/src/cases.rt and crates/refusals/stdout
+usage: python3 tests/refusal_cases.py        rewrites crates/run_refusals/src/cases.rt and crates/run_refusals/stdout
 """
 
 import pathlib
 
 from model import limits
 
-HERE = pathlib.Path(__file__).resolve().parent.parent / 'crates' / 'refusals'
+HERE = pathlib.Path(__file__).resolve().parent.parent / 'crates' / 'run_refusals'
 NAMES = ('S_S D', 'S_1 D', 'S_S M', 'S_1 M', 'N_A', 'N_V', 'class', 'kind', 'period', 'R', 'I', 'alpha-y',
          'weights', 'heights', 'room')
 FIELD = {name: place for place, name in enumerate(NAMES)}

@@ -1,6 +1,6 @@
-"""Writes the sheets of the program `sheets`, and the listings that the model gives them.
+"""Writes the sheets of the program `run_sheets`, and the listings that the model gives them.
 
-usage: python3 tests/sheet_cases.py        rewrites crates/sheets/data and crates/sheets/stdout
+usage: python3 tests/sheet_cases.py        rewrites crates/run_sheets/data and crates/run_sheets/stdout
 """
 
 import pathlib
@@ -10,7 +10,7 @@ import shutil
 from model import sheet
 from sample import all_strata, draw_in
 
-HERE = pathlib.Path(__file__).resolve().parent.parent / 'crates' / 'sheets'
+HERE = pathlib.Path(__file__).resolve().parent.parent / 'crates' / 'run_sheets'
 SEED = 1
 WORKED = sheet.write((80, 45, 100, 55, 100, 100, 1), (2, 1000, 480, 100, 150), [5000] * 3, [100, 200, 300])
 LINES = WORKED.splitlines(keepends=True)

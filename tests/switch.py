@@ -1,6 +1,6 @@
-"""Prints what the program `switch` must write, by a fresh run of the model for each class.
+"""Prints what the program `run_switch` must write, by a fresh run of the model for each class.
 
-usage: python3 tests/switch.py > crates/switch/stdout
+usage: python3 tests/switch.py > crates/run_switch/stdout
 """
 
 from model.job import job
