@@ -1,22 +1,23 @@
 // Runs the job call on the cases of standard input, and says what comes back: the answer, and every cell of the three buffers.
+use fields::BUFFERS;
+use fields::FRAME;
+use fields::HEIGHT_COUNT;
+use fields::HEIGHTS;
+use fields::LISTED;
+use fields::OLD;
+use fields::ROW;
+use fields::SITE;
+use fields::WEIGHT_COUNT;
+use fields::WEIGHTS;
 use job::JobAnswer;
 use libc::STDIN_FILENO;
 use libc::STDOUT_FILENO;
 use limits::frame::FrameValues;
 use limits::site::SiteValues;
-use row::BUFFERS;
-use row::FRAME;
-use row::HEIGHT_COUNT;
-use row::HEIGHTS;
-use row::LISTED;
-use row::OLD;
-use row::SITE;
-use row::WEIGHT_COUNT;
-use row::WEIGHTS;
-use row::number;
-use row::row;
+use rows::number;
+use rows::row;
 
-mod row;
+mod fields;
 
 ghost use Prim.Native.Nat.{_≤_};
 ghost use lib.ListN.{length};
@@ -154,7 +155,7 @@ fn run(s: &[u8]) {
     let mut left = count.value;
     let mut at = count.next;
     while 0 < left {
-        let r = row(s, at);
+        let r = row(s, at, ROW);
         let values = r.values;
         case(values);
         at = r.next;
