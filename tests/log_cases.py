@@ -1,6 +1,6 @@
 """Writes the cases of the program `run_logs` and what the model says of them.
 
-usage: python3 tests/log_cases.py        rewrites crates/run_logs/src/cases.rt and crates/run_logs/stdout
+usage: python3 tests/log_cases.py        rewrites crates/run_logs/stdin and crates/run_logs/stdout
 """
 
 import itertools
@@ -145,11 +145,8 @@ def main():
              + outcome(*lists(log, changes)) for log, changes in cases]
     lines += [f'kind {kind}, N {N}: {velocity(kind, N)}' for kind, N in blow_counts()]
     (HERE / 'stdout').write_text(''.join(line + '\n' for line in lines))
-    flat = [n for log, changes in cases for n in (*log, *itertools.chain(*(changes + 3 * [(NONE, 0)])[:3]))]
-    table = '\n'.join(f'    {number},' for number in flat)
-    (HERE / 'src' / 'cases.rt').write_text(
-        '// The cases, as tests/log_cases.py writes them: nine numbers a row, a plain log and up to three changes.\n'
-        f'pub const CASES: [u64; {len(flat)}] = [\n{table}\n];\n')
+    rows = [[len(cases)], *((*log, *itertools.chain(*(changes + 3 * [(NONE, 0)])[:3])) for log, changes in cases)]
+    (HERE / 'stdin').write_text(''.join(' '.join(map(str, row)) + '\n' for row in rows))
     print(len(cases), 'cases')
 
 

@@ -1,6 +1,6 @@
 """Writes the cases of the program `run_refusals` and what the model says of them.
 
-usage: python3 tests/refusal_cases.py        rewrites crates/run_refusals/src/cases.rt and crates/run_refusals/stdout
+usage: python3 tests/refusal_cases.py        rewrites crates/run_refusals/stdin and crates/run_refusals/stdout
 """
 
 import pathlib
@@ -11,7 +11,7 @@ HERE = pathlib.Path(__file__).resolve().parent.parent / 'crates' / 'run_refusals
 NAMES = ('S_S D', 'S_1 D', 'S_S M', 'S_1 M', 'N_A', 'N_V', 'class', 'kind', 'period', 'R', 'I', 'alpha-y',
          'weights', 'heights', 'room')
 FIELD = {name: place for place, name in enumerate(NAMES)}
-WEIGHTS, HEIGHTS, LISTED, NONE = 20, 80, 51, 999
+WEIGHTS, HEIGHTS, LISTED, FIELDS, NONE = 20, 80, 51, 140, 999
 MOST = 2**64 - 1
 GOOD = {**dict(enumerate((80, 45, 100, 55, 100, 100, 1, 2, 1000, 480, 100, 150, 5, 5, 5))),
         **{WEIGHTS + i: 5000 for i in range(LISTED)}, **{HEIGHTS + i: 38 * (i + 1) for i in range(LISTED)}}
@@ -102,11 +102,9 @@ def main():
     cases = all_cases()
     (HERE / 'stdout').write_text(''.join(
         ''.join(said(*change) for change in changes) + outcome(changes) + '\n' for changes in cases))
-    flat = [n for changes in cases for change in (changes + 4 * [(NONE, 0)])[:4] for n in change]
-    table = '\n'.join(f'    {number},' for number in flat)
-    (HERE / 'src' / 'cases.rt').write_text(
-        '// The cases, as tests/refusal_cases.py writes them: eight numbers a row, up to four changes, each a field and its\n'
-        f'// value.\npub const CASES: [u64; {len(flat)}] = [\n{table}\n];\n')
+    changed = [[n for change in (changes + 4 * [(NONE, 0)])[:4] for n in change] for changes in cases]
+    rows = [[len(cases)], [GOOD.get(place, 0) for place in range(FIELDS)], *changed]
+    (HERE / 'stdin').write_text(''.join(' '.join(map(str, row)) + '\n' for row in rows))
     print(len(cases), 'cases')
 
 

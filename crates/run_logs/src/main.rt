@@ -1,5 +1,5 @@
-// Runs the entry on changed copies of plain logs and says what comes back of each, then the velocity of every N.
-use cases::CASES;
+// Runs the entry on changed copies of plain logs, as standard input gives them, and says what comes back of each; then the
+// velocity of every N.
 use fields::FIELDS;
 use fields::KIND_COUNT;
 use fields::KINDS;
@@ -9,19 +9,25 @@ use fields::THICKNESSES;
 use fields::VALUE_COUNT;
 use fields::VALUES;
 use fields::plain;
+use libc::STDIN_FILENO;
 use libc::STDOUT_FILENO;
 use limits::layer::Layer;
 use limits::refusal::Refusal;
 use limits::site::Class;
 use limits::site::ClassAnswer;
+use rows::number;
+use rows::row;
 use soil::velocity::VelocityAnswer;
 use soil::velocity::velocity;
 
-mod cases;
 mod fields;
 
-ghost use Prim.Native.Nat.{_+_, _≤_};
+ghost use Prim.Native.Nat.{_≤_};
 ghost use lib.ListN.{length};
+
+// The numbers of a case: a plain log by its layers, their thickness and velocity; up to three changes, each a field and its
+// value.
+const CASE: usize = 9;
 
 // The log with one field changed; a field that there is none of changes nothing.
 fn changed(log: [u64; 160], field: u64, value: u64) -> [u64; 160] {
@@ -94,32 +100,31 @@ fn say_refusal(r: Refusal) {
     io::write_all(STDOUT_FILENO, b"\n");
 }
 
-// One row of cases: a plain log by its layers, their thickness and velocity; up to three changes, each a field and its
-// value.
-fn row(cases: &[u64], at: usize)
-    requires { ⌜ at + 9 ≤ length (now cases) ⌝ }
-{
-    io::print_decimal(STDOUT_FILENO, cases[at]);
+fn case(row: [u64; 140]) {
+    io::print_decimal(STDOUT_FILENO, row[0]);
     io::write_all(STDOUT_FILENO, b" of ");
-    io::print_decimal(STDOUT_FILENO, cases[at + 1]);
+    io::print_decimal(STDOUT_FILENO, row[1]);
     io::write_all(STDOUT_FILENO, b" cm at ");
-    io::print_decimal(STDOUT_FILENO, cases[at + 2]);
+    io::print_decimal(STDOUT_FILENO, row[2]);
     io::write_all(STDOUT_FILENO, b" dm/s; ");
-    let log = plain(cases[at], cases[at + 1], cases[at + 2]);
-    let a = changed(log, cases[at + 3], cases[at + 4]);
-    let b = changed(a, cases[at + 5], cases[at + 6]);
-    let c = changed(b, cases[at + 7], cases[at + 8]);
+    let log = plain(row[0], row[1], row[2]);
+    let a = changed(log, row[3], row[4]);
+    let b = changed(a, row[5], row[6]);
+    let c = changed(b, row[7], row[8]);
     say(answer(c));
 }
 
-fn run(cases: &[u64]) {
-    let mut at = 0;
-    while at < cases.len() {
-        if cases.len() - at < 9 {
-            return;
-        }
-        row(cases, at);
-        at += 9;
+// The first number says how many cases follow.
+fn run(s: &[u8]) {
+    let count = number(s, 0);
+    let mut left = count.value;
+    let mut at = count.next;
+    while 0 < left {
+        let r = row(s, at, CASE);
+        let values = r.values;
+        case(values);
+        at = r.next;
+        left -= 1;
     }
 }
 
@@ -152,7 +157,9 @@ fn say_velocity(a: VelocityAnswer) {
 }
 
 fn main() {
-    run(&CASES);
+    let mut input = io::large_buffer();
+    let n = io::read_full(STDIN_FILENO, &mut input);
+    run(&input[..n]);
     velocities(Layer::COHESIVE);
     velocities(Layer::COHESIONLESS);
 }

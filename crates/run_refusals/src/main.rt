@@ -1,5 +1,4 @@
-// Runs the judgments on changed copies of one good job, and says what comes back of each.
-use cases::CASES;
+// Runs the judgments on changed copies of one good job, as standard input gives them, and says what comes back of each.
 use fields::FIELDS;
 use fields::FRAME;
 use fields::HEIGHT_COUNT;
@@ -9,17 +8,21 @@ use fields::ROOM;
 use fields::SITE;
 use fields::WEIGHT_COUNT;
 use fields::WEIGHTS;
-use fields::good;
+use libc::STDIN_FILENO;
 use libc::STDOUT_FILENO;
 use limits::frame::FrameValues;
 use limits::judging::GivenAnswer;
 use limits::site::SiteValues;
+use rows::number;
+use rows::row;
 
-mod cases;
 mod fields;
 
-ghost use Prim.Native.Nat.{_+_, _≤_};
+ghost use Prim.Native.Nat.{_≤_};
 ghost use lib.ListN.{length};
+
+// The numbers of a case: up to four changes, each a field and its value.
+const CHANGES: usize = 8;
 
 // The job with one field changed; a field that there is none of changes nothing.
 fn changed(job: [u64; 140], field: u64, value: u64) -> [u64; 140] {
@@ -102,28 +105,32 @@ fn say(a: GivenAnswer) {
     }
 }
 
-// One row of cases: up to four changes, each a field and its value.
-fn row(cases: &[u64], at: usize)
-    requires { ⌜ at + 8 ≤ length (now cases) ⌝ }
-{
-    let a = changed(good(), cases[at], cases[at + 1]);
-    let b = changed(a, cases[at + 2], cases[at + 3]);
-    let c = changed(b, cases[at + 4], cases[at + 5]);
-    let d = changed(c, cases[at + 6], cases[at + 7]);
+fn case(good: [u64; 140], changes: [u64; 140]) {
+    let a = changed(good, changes[0], changes[1]);
+    let b = changed(a, changes[2], changes[3]);
+    let c = changed(b, changes[4], changes[5]);
+    let d = changed(c, changes[6], changes[7]);
     say(answer(d));
 }
 
-fn run(cases: &[u64]) {
-    let mut at = 0;
-    while at < cases.len() {
-        if cases.len() - at < 8 {
-            return;
-        }
-        row(cases, at);
-        at += 8;
+// The first number says how many cases follow the good job.
+fn run(s: &[u8]) {
+    let count = number(s, 0);
+    let good = row(s, count.next, FIELDS);
+    let job = good.values;
+    let mut left = count.value;
+    let mut at = good.next;
+    while 0 < left {
+        let r = row(s, at, CHANGES);
+        let changes = r.values;
+        case(job, changes);
+        at = r.next;
+        left -= 1;
     }
 }
 
 fn main() {
-    run(&CASES);
+    let mut input = io::large_buffer();
+    let n = io::read_full(STDIN_FILENO, &mut input);
+    run(&input[..n]);
 }
