@@ -1,5 +1,5 @@
 -- 520 jobs with what the model of tests/ makes of them: data.
--- `python3 tests/vectors.py 2005 520` writes it. A line a row: the unit; the site; the frame; weights; heights; three
+-- `python3 -m tests.writes.vectors 2005 520` writes it. A line a row: the unit; the site; the frame; weights; heights; three
 -- fractions for the roots; the printed stages; the exact figures.
 use mathlib.Core.List.{List, [], _∷_}
 use Rattle.whole.specs.Fraction.{over}

@@ -1,0 +1,165 @@
+// Runs the entry on changed copies of plain logs, as standard input gives them, and says what comes back of each; then the
+// velocity of every N.
+use fields::FIELDS;
+use fields::KIND_COUNT;
+use fields::KINDS;
+use fields::LISTED;
+use fields::THICKNESS_COUNT;
+use fields::THICKNESSES;
+use fields::VALUE_COUNT;
+use fields::VALUES;
+use fields::plain;
+use libc::STDIN_FILENO;
+use libc::STDOUT_FILENO;
+use limits::layer::Layer;
+use limits::refusal::Refusal;
+use limits::site::Class;
+use limits::site::ClassAnswer;
+use rows::number;
+use rows::row;
+use soil::velocity::VelocityAnswer;
+use soil::velocity::velocity;
+
+mod fields;
+
+ghost use Prim.Native.Nat.{_≤_};
+ghost use lib.ListN.{length};
+
+// The numbers of a case: a plain log by its layers, their thickness and velocity; up to three changes, each a field and its
+// value.
+const CASE: usize = 9;
+
+// The log with one field changed; a field that there is none of changes nothing.
+fn changed(log: [u64; 160], field: u64, value: u64) -> [u64; 160] {
+    let mut next = log;
+    let at = field as usize;
+    if at < FIELDS {
+        next[at] = value;
+        fields::say(at, value);
+    }
+    next
+}
+
+fn answer(log: [u64; 160]) -> ClassAnswer {
+    let thicknesses = least(log[THICKNESS_COUNT]);
+    let kinds = least(log[KIND_COUNT]);
+    let values = least(log[VALUE_COUNT]);
+    classed(&log, thicknesses, kinds, values)
+}
+
+// So many layers, or as many as the array has.
+fn least(count: u64) -> usize
+    ensures { λ r. ⌜ r ≤ 41 ⌝ }
+{
+    let layers = count as usize;
+    if layers < LISTED {
+        return layers;
+    }
+    LISTED
+}
+
+fn classed(log: &[u64], thicknesses: usize, kinds: usize, values: usize) -> ClassAnswer
+    requires { ⌜ (thicknesses ≤ 41) × (kinds ≤ 41) × (values ≤ 41) × (151 ≤ length (now log)) ⌝ }
+{
+    let thicknesses_end = THICKNESSES + thicknesses;
+    let kinds_end = KINDS + kinds;
+    let values_end = VALUES + values;
+    soil::log::site_class(
+        &log[THICKNESSES..thicknesses_end],
+        &log[KINDS..kinds_end],
+        &log[VALUES..values_end],
+    )
+}
+
+fn say(a: ClassAnswer) {
+    match a {
+        ClassAnswer::Taken(c) => say_class(c),
+        ClassAnswer::Refused(r) => say_refusal(r),
+    }
+}
+
+fn say_class(c: Class) {
+    match c {
+        Class::Hard => {
+            io::write_all(STDOUT_FILENO, b"hard\n");
+        }
+        Class::Normal => {
+            io::write_all(STDOUT_FILENO, b"normal\n");
+        }
+        Class::Soft => {
+            io::write_all(STDOUT_FILENO, b"soft\n");
+        }
+    }
+}
+
+fn say_refusal(r: Refusal) {
+    io::write_all(STDOUT_FILENO, b"refused ");
+    io::print_decimal(STDOUT_FILENO, r.number);
+    io::write_all(STDOUT_FILENO, b" at ");
+    io::print_decimal(STDOUT_FILENO, r.place);
+    io::write_all(STDOUT_FILENO, b"\n");
+}
+
+fn case(row: [u64; 140]) {
+    io::print_decimal(STDOUT_FILENO, row[0]);
+    io::write_all(STDOUT_FILENO, b" of ");
+    io::print_decimal(STDOUT_FILENO, row[1]);
+    io::write_all(STDOUT_FILENO, b" cm at ");
+    io::print_decimal(STDOUT_FILENO, row[2]);
+    io::write_all(STDOUT_FILENO, b" dm/s; ");
+    let log = plain(row[0], row[1], row[2]);
+    let a = changed(log, row[3], row[4]);
+    let b = changed(a, row[5], row[6]);
+    let c = changed(b, row[7], row[8]);
+    say(answer(c));
+}
+
+// The first number says how many cases follow.
+fn run(s: &[u8]) {
+    let count = number(s, 0);
+    let mut left = count.value;
+    let mut at = count.next;
+    while 0 < left {
+        let r = row(s, at, CASE);
+        let values = r.values;
+        case(values);
+        at = r.next;
+        left -= 1;
+    }
+}
+
+// The velocity of each N from 0 to 51, or its refusal.
+fn velocities(kind: u64) {
+    let mut n = 0;
+    while n <= 51 {
+        say_count(kind, n);
+        n += 1;
+    }
+}
+
+fn say_count(kind: u64, n: u64) {
+    io::write_all(STDOUT_FILENO, b"kind ");
+    io::print_decimal(STDOUT_FILENO, kind);
+    io::write_all(STDOUT_FILENO, b", N ");
+    io::print_decimal(STDOUT_FILENO, n);
+    io::write_all(STDOUT_FILENO, b": ");
+    say_velocity(velocity(kind, n, 1));
+}
+
+fn say_velocity(a: VelocityAnswer) {
+    match a {
+        VelocityAnswer::Taken(v) => {
+            io::print_decimal(STDOUT_FILENO, v);
+            io::write_all(STDOUT_FILENO, b"\n");
+        }
+        VelocityAnswer::Refused(r) => say_refusal(r),
+    }
+}
+
+fn main() {
+    let mut input = io::large_buffer();
+    let n = io::read_full(STDIN_FILENO, &mut input);
+    run(&input[..n]);
+    velocities(Layer::COHESIVE);
+    velocities(Layer::COHESIONLESS);
+}

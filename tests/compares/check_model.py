@@ -1,0 +1,42 @@
+"""Holds the model to the figures, refusals, listing and demand 3; exits with 1 on any wrong one.
+
+usage: python3 -m tests.compares.check_model
+"""
+
+import sys
+
+from tests.compares.checks import demand_3, errors, figures, logs, refusals, sheets
+
+
+def answer(function):
+    """What a check gives, or the error that stopped it."""
+    try:
+        return function()
+    except Exception as error:
+        return f'{type(error).__name__}: {error}'
+
+
+def answers(module):
+    """Yield (label, got, wanted) of each check; an error between two checks is a wrong one."""
+    try:
+        for label, function, wanted in module.checks():
+            yield label, answer(function), wanted
+    except Exception as error:
+        yield module.__name__, f'{type(error).__name__}: {error}', 'no error'
+
+
+def main():
+    """Run every check and print the wrong ones and one line of counts."""
+    count = wrong = 0
+    for module in (figures, errors, refusals, logs, sheets, demand_3):
+        for label, got, wanted in answers(module):
+            count += 1
+            if got != wanted:
+                wrong += 1
+                print(f'{module.__name__}: {label}: {str(got)[:300]}, wanted {wanted}')
+    print(f'{count} checks, {wrong} wrong')
+    return 1 if wrong else 0
+
+
+if __name__ == '__main__':
+    sys.exit(main())

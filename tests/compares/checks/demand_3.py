@@ -1,0 +1,35 @@
+"""Demand 3 on random accepted jobs, in either unit, and what ties the storeys together."""
+
+from tests.draws.sample import accepted_jobs
+from tests.model import exact
+from tests.model.job import job
+
+SEED, COUNT = 20, 300
+FINER = 10**7
+FEW_DIGITS = 2
+
+
+def held(inputs, s):
+    """True where no shear breaks demand 3; raises at the first that does."""
+    result = job(*inputs, s=s)
+    exact.check(result)
+    exact.check(result, FEW_DIGITS)
+    return True
+
+
+def tied(inputs):
+    """Shear under level 1, sum of forces, forces below none, moment as the sum of shears by storey."""
+    result = job(*inputs)
+    storeys = [high - low for high, low in zip(result.heights, [0] + result.heights)]
+    moments = [sum(shear * height for shear, height in zip(result.shears[x:], storeys[x:]))
+               for x in range(len(storeys))]
+    return (result.shears[0] == result.V_D == sum(result.forces), min(result.forces) >= 0,
+            result.moments == moments)
+
+
+def checks():
+    """Demand 3 on the sample."""
+    for number, (name, *inputs) in enumerate(accepted_jobs(SEED, COUNT)):
+        yield f'demand 3, job {number}, {name}', lambda inputs=inputs: held(inputs, 10**6), True
+        yield f'demand 3 in 10^-7, job {number}, {name}', lambda inputs=inputs: held(inputs, FINER), True
+        yield f'storeys, job {number}, {name}', lambda inputs=inputs: tied(inputs), (True, True, True)

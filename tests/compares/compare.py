@@ -1,0 +1,225 @@
+"""Compares the compiled core with the model: jobs, bad jobs, soil logs, sheets.
+
+usage: python3 -m tests.compares.compare [JOBS [BAD [LOGS [SHEETS [SEED]]]]]
+
+It prints the count of each stratum, the largest excess over the exact figure of demand 3, and the number of differences.
+"""
+
+import random
+import sys
+from collections import Counter
+from concurrent import futures
+
+from tests.compares import core
+from tests.compares.excess import SHARP, Largest
+from tests.draws import damage, faults, soil_logs
+from tests.draws.plain_jobs import draw
+from tests.draws.rare import rare_strata
+from tests.draws.sample import all_strata, draw_in
+from tests.model import job as jobs, sheet, soil
+from tests.writes import log_cases
+
+JOBS, BAD, LOGS, SHEETS, SEED = 1_000_000, 120_000, 100_000, 120_000, 1
+A_STRATUM, CHUNK, SHOWN = 500, 2_500, 5
+WITHOUT = 'the same without buffers'
+MEASURED_EACH = 10      # of the jobs drawn from all that is allowed, the exact figure of every tenth is worked out
+OLD = (7_000_000, 8_000_000, 9_000_000)       # what the buffers held: all cells differ
+
+
+class Tally:
+    """What was compared, by stratum, what differed, and the largest excess."""
+
+    def __init__(self):
+        self.counts, self.compared, self.differences, self.largest = Counter(), 0, [], Largest()
+
+    def compare(self, stratum, call, got, expected):
+        """Count one comparison."""
+        self.counts[stratum] += 1
+        self.compared += 1
+        if got != expected:
+            self.differences.append((stratum, call, got, expected))
+
+    def add(self, other):
+        """Count another's."""
+        self.counts.update(other.counts)
+        self.compared += other.compared
+        self.differences += other.differences
+        self.largest.add(other.largest)
+
+
+def held(lengths):
+    """What three buffers of these lengths hold before a call."""
+    return [list(range(mark, mark + length)) for mark, length in zip(OLD, lengths)]
+
+
+def answer_of(result, lengths):
+    """The reply that the model's result stands for, what the buffers hold after, and that the lists are as they were."""
+    old = held(lengths)
+    if result[0] == 'refused':
+        return (*result[1:], 0, 0, 0, 0, 0), old, True
+    cells = (result.forces, result.shears, result.moments)
+    return ((0, 0, result.V, result.V_M, result.V_star, result.V_D, result.T),
+            [written + rest[len(written):] for written, rest in zip(cells, old)], True)
+
+
+def expected_job(site, frame, weights, heights, lengths):
+    """The model's answer."""
+    return answer_of(jobs.job(site, frame, weights, heights, lengths), lengths)
+
+
+def got_job(library, site, frame, weights, heights, lengths):
+    """The core's answer."""
+    return core.job(library, site, frame, weights, heights, held(lengths))
+
+
+def compare_job(tally, library, stratum, call, measured):
+    """One accepted call, with buffers and without."""
+    result = jobs.job(*call)
+    expected = answer_of(result, call[4])
+    tally.compare(stratum, call, got_job(library, *call), expected)
+    tally.compare(WITHOUT, call, core.figures(library, *call[:4]), expected[0])
+    if measured:
+        tally.largest.measure(result)
+
+
+def lengths(rng, weights):
+    """Buffers as long as the list, or longer."""
+    return tuple(len(weights) + (rng.choice((0, 0, 1)) if rng.random() < 0.99 else rng.randrange(1_000)) for _ in OLD)
+
+
+def with_buffers(rng, inputs):
+    """Inputs as a call."""
+    return (*inputs, lengths(rng, inputs[2]))
+
+
+def run_stratum(library, tally, seed, name, count):
+    """Jobs drawn for a stratum."""
+    rng = random.Random(seed)
+    stratum = next(each for each, _ in strata() if each.name == name)
+    for _ in range(count):
+        compare_job(tally, library, name, with_buffers(rng, draw_in(rng, stratum)), True)
+
+
+def run_sharp(library, tally, seed, count):
+    """The jobs that show how sharp the margin is."""
+    rng = random.Random(seed)
+    for inputs in SHARP:
+        compare_job(tally, library, 'the jobs of Sharp.antt', with_buffers(rng, inputs), True)
+
+
+def run_plain(library, tally, seed, count):
+    """Jobs drawn from all that is allowed."""
+    rng = random.Random(seed)
+    for number in range(count):
+        call = with_buffers(rng, draw(rng))
+        compare_job(tally, library, 'drawn from all that is allowed', call, number % MEASURED_EACH == 0)
+
+
+def run_faults(library, tally, calls):
+    """Bad calls, with and without buffers; counted by the refusal that the model gives."""
+    for call in calls:
+        expected = expected_job(*call)
+        stratum = f'refusal {expected[0][0]:2}' if expected[0][0] else 'changed, and accepted'
+        tally.compare(stratum, call, got_job(library, *call), expected)
+        plain = expected_job(*call[:4], (len(call[2]),) * 3)[0]
+        tally.compare(WITHOUT, call, core.figures(library, *call[:4]), plain)
+
+
+def run_bad(library, tally, seed, count):
+    """Random bad calls."""
+    rng = random.Random(seed)
+    run_faults(library, tally, (faults.random_call(rng) for _ in range(count)))
+
+
+def run_systematic(library, tally, seed, count):
+    """Both sides of every limit at every place."""
+    run_faults(library, tally, faults.systematic())
+
+
+def compare_log(tally, library, name, lists):
+    """One log, counted by its stratum and by the refusal that the model gives."""
+    answer = soil.log(*lists)
+    expected = (0, 0, answer.cls) if isinstance(answer, soil.Log) else (*answer[1:], 0)
+    tally.compare(f'log, {name}', lists, core.site_class(library, *lists), expected)
+    tally.counts[f'of the logs, refusal {expected[0]}' if expected[0] else 'of the logs, classed'] += 1
+
+
+def run_systematic_logs(library, tally, seed, count):
+    """Every refusal of a log at every layer, both sides of each limit, and the stored logs."""
+    for lists in soil_logs.systematic():
+        compare_log(tally, library, 'systematic', lists)
+    for case in log_cases.all_cases():
+        compare_log(tally, library, 'of the program run_logs', log_cases.lists(*case))
+
+
+def run_logs(library, tally, seed, count):
+    """Soil logs of every stratum in turn."""
+    rng = random.Random(seed)
+    for number in range(count):
+        name = list(soil_logs.STRATA)[number % len(soil_logs.STRATA)]
+        compare_log(tally, library, name, soil_logs.STRATA[name](rng))
+
+
+def compare_sheet(tally, library, data):
+    """One sheet; counted by what the model prints first."""
+    expected = sheet.shear(data)
+    first = expected.split(b'\t')
+    stratum = 'sheet listed' if first[0] == b'base' else f'sheet refused {int(first[1]):2}'
+    tally.compare(stratum, data, core.sheet(library, data), expected)
+
+
+def run_stored_sheets(library, tally, seed, count):
+    """The sheets of the program `run_sheets`."""
+    for path in sorted((core.ROOT / 'crates' / 'run_sheets' / 'data').iterdir()):
+        compare_sheet(tally, library, path.read_bytes())
+
+
+def run_sheets(library, tally, seed, count):
+    """Sheets, sound and damaged."""
+    rng = random.Random(seed)
+    for _ in range(count):
+        compare_sheet(tally, library, damage.drawn(rng))
+
+
+def run(task):
+    """One task in a process of its own."""
+    function, *rest = task
+    tally = Tally()
+    function(core.load(), tally, *rest)
+    return tally
+
+
+def chunks(function, seed, count):
+    """A count in parts, each with its seed."""
+    return [(function, f'{function.__name__} {seed} {start}', min(CHUNK, count - start)) for start in range(0, count, CHUNK)]
+
+
+def strata():
+    """Every stratum with the jobs drawn for it."""
+    return [*((each, A_STRATUM) for each in all_strata()), *rare_strata()]
+
+
+def main(job_count=JOBS, bad=BAD, logs=LOGS, sheets=SHEETS, seed=SEED):
+    """Run all, print all; 1 where anything differs. No fewer jobs are drawn than the strata ask for."""
+    core.build()
+    tasks = [(run_stratum, f'stratum {seed} {each.name}', each.name, count) for each, count in strata()]
+    tasks += [(run_sharp, seed, 0)]
+    tasks += chunks(run_plain, seed, job_count - sum(count for _, count in strata()) - len(SHARP))
+    tasks += [(run_systematic, seed, 0), *chunks(run_bad, seed, bad)]
+    tasks += [(run_systematic_logs, seed, 0), *chunks(run_logs, seed, logs)]
+    tasks += [(run_stored_sheets, seed, 0), *chunks(run_sheets, seed, sheets)]
+    total = Tally()
+    with futures.ProcessPoolExecutor() as pool:     # a core that crashes ends this with an error
+        for tally in pool.map(run, tasks):
+            total.add(tally)
+    for name, count in sorted(total.counts.items()):
+        print(f'{count:9}  {name}')
+    print(*total.largest.lines(), sep='\n')
+    for stratum, call, got, expected in total.differences[:SHOWN]:
+        print('DIFFERS', stratum, call, got, expected)
+    print(f'seed {seed}: {total.compared} comparisons, {len(total.differences)} differences')
+    return 1 if total.differences else 0
+
+
+if __name__ == '__main__':
+    sys.exit(main(*(int(word) for word in sys.argv[1:])))

@@ -1,0 +1,99 @@
+"""01's 'Errors that look right', each put into the model: how many of the comparisons with the compiled core show it.
+
+usage: python3 -m tests.compares.wrong_models [JOBS [SEED]]        after tests/compares/compare.py has built the archive
+"""
+
+import random
+import sys
+from contextlib import contextmanager
+from fractions import Fraction
+from math import ceil
+from unittest import mock
+
+from tests.compares import core
+from tests.compares.compare import expected_job, got_job, lengths
+from tests.draws.plain_jobs import draw
+from tests.model import response, site as sites, storeys
+
+JOBS, SEED = 10_000, 1
+
+
+def rounded_corner(A, B):
+    """T0 to a whole millisecond."""
+    return Fraction(round(Fraction(1000 * B, A)))
+
+
+def rounded_spectrum(A, B, T):
+    """The branches chosen by the rounded corner."""
+    T0 = rounded_corner(A, B)
+    if T <= T0 / 5:
+        return Fraction(A, 10**8) * (Fraction(4, 10) + 3 * T / T0)
+    if T <= T0:
+        return Fraction(A, 10**8)
+    if T <= Fraction(5, 2) * T0:
+        return Fraction(B, 10**8) / Fraction(T, 1000)
+    return Fraction(4, 10) * Fraction(A, 10**8)
+
+
+def draft_ratio(q, s=response.UNIT):
+    """Thresholds 0.4 and 0.9."""
+    if q <= Fraction(4 * s, 10):
+        return q
+    return ceil(Fraction(52 * q, 100) + Fraction(144 * s, 1000)) if q <= Fraction(9 * s, 10) else ceil(Fraction(7 * q, 10))
+
+
+def draft_p(Sa, F):
+    """The same of p."""
+    if 10 * Sa <= 4 * F:
+        return Sa
+    return ceil(Fraction(52 * Sa, 100) + Fraction(144 * F, 1000)) if 10 * Sa <= 9 * F else ceil(Fraction(7 * Sa, 10))
+
+
+def alone(V_D, top, weights, heights):
+    """Each storey force rounded alone, the shears added up from them."""
+    products = [weight * height for weight, height in zip(weights, heights)]
+    each = [ceil(Fraction((V_D - top) * product, sum(products))) for product in products]
+    each[-1] += top
+    return [sum(each[x:]) for x in range(len(each))]
+
+
+ERRORS = {
+    'the lower factor used in V*': [(response, 'upper_factor', response.lower_factor)],
+    'near-fault factors left in V*': [(sites, 'star', sites.design)],
+    'T0 rounded to a millisecond': [(response, 'corner', rounded_corner), (response, 'spectrum_in_g', rounded_spectrum)],
+    'thresholds 0.4 and 0.9': [(response, 'modified_ratio', draft_ratio), (response, 'p_of_star', draft_p)],
+    'each storey force rounded alone': [(storeys, 'shears', alone)],
+}
+
+
+@contextmanager
+def made(patches):
+    """The model with an error in it."""
+    made_of = [mock.patch.object(*patch) for patch in patches]
+    for patch in made_of:
+        patch.start()
+    try:
+        yield
+    finally:
+        for patch in made_of:
+            patch.stop()
+
+
+def main(jobs=JOBS, seed=SEED):
+    """Print how many jobs show each error; 1 where one is not seen at all."""
+    rng, library, unseen = random.Random(seed), core.load(), 0
+    calls = []
+    for _ in range(jobs):
+        site, frame, weights, heights = draw(rng)
+        calls.append((site, frame, weights, heights, lengths(rng, weights)))
+    answers = [got_job(library, *call) for call in calls]
+    for name, patches in {'nothing, the model as it is': [], **ERRORS}.items():
+        with made(patches):
+            shown = sum(expected_job(*call) != answer for call, answer in zip(calls, answers))
+        unseen += (shown == 0) == bool(patches)
+        print(f'{shown:7} of {jobs} show: {name}')
+    return 1 if unseen else 0
+
+
+if __name__ == '__main__':
+    sys.exit(main(*(int(word) for word in sys.argv[1:])))

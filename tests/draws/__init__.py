@@ -1,0 +1,1 @@
+"""Jobs, soil logs and sheets drawn from a seed, sound and bad."""

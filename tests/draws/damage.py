@@ -1,0 +1,39 @@
+"""Sheets damaged byte by byte."""
+
+from tests.draws.plain_jobs import draw
+from tests.model import sheet
+
+OWN = b'\t\n0123456789sitefrmlv'
+
+
+def damaged(rng, data):
+    """One byte taken away, put in or changed, or the sheet cut off."""
+    place = rng.randrange(len(data) + 1)
+    what = rng.randrange(5)
+    byte = bytes([rng.choice(OWN) if rng.random() < 0.8 else rng.randrange(256)])
+    if what == 0:
+        return data[:place] + data[place + 1:]
+    if what == 1:
+        return data[:place] + byte + data[place:]
+    if what == 2:
+        return data[:place] + byte + data[place + 1:]
+    if what == 3:
+        return data[:place]
+    other = rng.randrange(len(data) + 1)
+    return data[:place] + data[min(place, other):max(place, other)] + data[place:]
+
+
+def long(rng, data):
+    """Level lines put behind until the sheet has 4,094 to 4,099 bytes; the last may be cut."""
+    length = sheet.MOST_BYTES + rng.randint(-2, 3)
+    return (data + b'level\t20000\t2000\n' * 300)[:length]
+
+
+def drawn(rng):
+    """A sheet of a drawn job, sound or with one to three damages; one in fifty as long as a sheet may be, or a little longer."""
+    data = sheet.write(*draw(rng))
+    if rng.random() < 0.02:
+        data = long(rng, data)
+    for _ in range(rng.choice((0, 1, 1, 1, 1, 2, 3))):
+        data = damaged(rng, data)
+    return data

@@ -1,0 +1,46 @@
+"""Random inputs of a job, every number within its range."""
+
+from typing import NamedTuple
+
+from tests.model import limits
+
+
+class Inputs(NamedTuple):
+    """The four inputs of a job, lowest level first."""
+
+    site: limits.Site
+    frame: limits.Frame
+    weights: list
+    heights: list
+
+
+def draw_site(rng):
+    """Listed mapped values; near-fault factors at their ends and between."""
+    return limits.Site(
+        rng.choice(limits.S_S_DESIGN), rng.choice(limits.S_1_DESIGN),
+        rng.choice(limits.S_S_MCE), rng.choice(limits.S_1_MCE),
+        rng.choice((100, 150, rng.randint(100, 150), rng.randint(100, 150))),
+        rng.choice((100, 200, rng.randint(100, 200), rng.randint(100, 200))),
+        rng.choice(limits.CLASS),
+    )
+
+
+def draw_frame(rng):
+    """Any R, I, alpha-y and kind; a calculated period of none, short, middling or any length."""
+    period = rng.choice((0, rng.randint(1, 1_000), rng.randint(1, 6_000), rng.randint(1, 60_000)))
+    return limits.Frame(rng.choice(limits.KIND), period, rng.randint(100, 600),
+                        rng.choice(limits.I_VALUES), rng.randint(100, 200))
+
+
+def draw_heights(rng, count):
+    """Heights rising strictly to a top that is low, middling or anywhere up to 2,000 dm."""
+    top = rng.randint(count, rng.choice((100, 500, 2_000)))
+    return sorted(rng.sample(range(1, top), count - 1)) + [top]
+
+
+def draw(rng):
+    """Inputs of 1 to 50 levels, light or heavy."""
+    count = rng.choice((1, rng.randint(1, 6), rng.randint(1, 50), 50, rng.randint(1, 50)))
+    heaviest = rng.choice((3, 1_000, 20_000))
+    weights = [rng.randint(1, heaviest) for _ in range(count)]
+    return Inputs(draw_site(rng), draw_frame(rng), weights, draw_heights(rng, count))

@@ -1,0 +1,39 @@
+"""Prints what the program `run_exhausted` must write, by the model.
+
+usage: python3 -m tests.writes.exhausted > crates/run_exhausted/stdout
+"""
+
+from fractions import Fraction
+from math import ceil, floor
+
+from tests.model import limits, response, site as sites
+
+UNIT = response.UNIT
+
+
+def both(capacity):
+    """Rounded down and up to millionths."""
+    return floor(Fraction(capacity) * UNIT), ceil(Fraction(capacity) * UNIT)
+
+
+def ductility(R):
+    """Both roots and both roundings of the capacity, design and MCE."""
+    (design, design_square), (mce, mce_square) = response.design_capacity(R), response.mce_capacity(R)
+    roots = (root(square) for square in (design_square, mce_square) for root in (response.lower_root, response.upper_root))
+    return ('R', R, *roots, *both(design), *both(mce))
+
+
+def lines():
+    """Every line."""
+    yield from (ductility(R) for R in limits.R_RANGE)
+    yield from (('h', h, *(response.approximate_period(kind, h) for kind in limits.KIND)) for h in limits.HEIGHT)
+    mapped = (('S_S', limits.S_S_DESIGN, limits.S_S_MCE, limits.N_A, sites.F_a),
+              ('S_1', limits.S_1_DESIGN, limits.S_1_MCE, limits.N_V, sites.F_v))
+    for name, design, mce, factors, coefficient in mapped:
+        for value in sorted({*design, *mce}):
+            yield from ((name, value * N, *(coefficient(cls, value * N) for cls in limits.CLASS)) for N in factors)
+
+
+if __name__ == '__main__':
+    for line in lines():
+        print(*line)

@@ -1,0 +1,112 @@
+"""Writes the cases of the program `run_refusals` and what the model says of them.
+
+usage: python3 -m tests.writes.refusal_cases        rewrites crates/run_refusals/stdin and crates/run_refusals/stdout
+"""
+
+import pathlib
+
+from tests.model import limits
+
+HERE = pathlib.Path(__file__).resolve().parents[2] / 'crates' / 'run_refusals'
+NAMES = ('S_S D', 'S_1 D', 'S_S M', 'S_1 M', 'N_A', 'N_V', 'class', 'kind', 'period', 'R', 'I', 'alpha-y',
+         'weights', 'heights', 'room')
+FIELD = {name: place for place, name in enumerate(NAMES)}
+WEIGHTS, HEIGHTS, LISTED, FIELDS, NONE = 20, 80, 51, 140, 999
+MOST = 2**64 - 1
+GOOD = {**dict(enumerate((80, 45, 100, 55, 100, 100, 1, 2, 1000, 480, 100, 150, 5, 5, 5))),
+        **{WEIGHTS + i: 5000 for i in range(LISTED)}, **{HEIGHTS + i: 38 * (i + 1) for i in range(LISTED)}}
+
+
+def both_sides(allowed):
+    """Each end of each run of allowed numbers, and the number beyond it."""
+    among = set(allowed)
+    values = {value + step for value in allowed for step in (-1, 0, 1)}
+    near = {value: {value - 1, value, value + 1} for value in values}
+    ends = {value for value in values if not near[value] <= among and not near[value].isdisjoint(among)}
+    return sorted(value for value in ends if value >= 0) + [MOST]
+
+
+def number_cases():
+    """Both sides of every limit of the site and frame lines."""
+    ranges = zip(NAMES, (limits.S_S_DESIGN, limits.S_1_DESIGN, limits.S_S_MCE, limits.S_1_MCE, limits.N_A,
+                         limits.N_V, limits.CLASS, limits.KIND, limits.CALCULATED_PERIOD, limits.R_RANGE,
+                         limits.I_VALUES, limits.ALPHA_Y))
+    for name, allowed in ranges:
+        yield from ([(FIELD[name], value)] for value in both_sides(allowed))
+    yield from ([(FIELD['period'], value)] for value in (1, 2))
+
+
+def levels(count):
+    """So many weights and heights, and room for them."""
+    return [(FIELD['weights'], count), (FIELD['heights'], count), (FIELD['room'], count)]
+
+
+def level_cases():
+    """Counts, lengths and room; both sides of weight and height at the first, a middle and the last level of 1 and of 50."""
+    yield from (levels(count) for count in (0, 1, 2, 49, 50, 51))
+    yield from ([(FIELD[name], value)] for name in ('weights', 'heights', 'room') for value in (0, 4, 5, 6, 51))
+    yield [(FIELD['weights'], 0), (FIELD['heights'], 3)]
+    yield [(FIELD['weights'], 3), (FIELD['heights'], 51)]
+    yield [(FIELD['weights'], 0), (FIELD['heights'], 0), (FIELD['room'], 0)]
+    yield [(FIELD['room'], MOST)]
+    for level in (0, 2, 4):
+        yield from ([(WEIGHTS + level, value)] for value in both_sides(limits.WEIGHT))
+        yield from ([(HEIGHTS + level, value)] for value in both_sides(limits.HEIGHT))
+        beside = {38 * level, 38 * level + 1, 38 * (level + 2) - 1, 38 * (level + 2)}
+        yield from ([(HEIGHTS + level, value)] for value in sorted(beside))
+    for level in (0, 24, 49):
+        yield from (levels(50) + [(WEIGHTS + level, value)] for value in (0, 1, 20_000, 20_001))
+        yield from (levels(50) + [(HEIGHTS + level, value)] for value in (0, 38 * level, 38 * level + 1, 2_001))
+    yield from ([(base, 0), (base + 3, 0)] for base in (WEIGHTS, HEIGHTS))
+    yield [(WEIGHTS + 4, 0), (HEIGHTS, 0)]
+    yield [(HEIGHTS + 2, 3_000), (HEIGHTS + 3, 100)]
+
+
+WRONG = {1: (FIELD['weights'], 0), 2: (FIELD['room'], 1), 3: (WEIGHTS + 1, 0), 4: (HEIGHTS + 1, 0), 5: (FIELD['S_1 M'], 41),
+         6: (FIELD['N_V'], 201), 7: (FIELD['class'], 4), 8: (FIELD['R'], 601), 9: (FIELD['I'], 110),
+         10: (FIELD['alpha-y'], 99), 11: (FIELD['kind'], 0), 12: (FIELD['period'], 60_001)}
+
+
+def pair_cases():
+    """Every ordered pair of refusals 1 to 12 at once: the one that comes first is given."""
+    yield from ([WRONG[first], WRONG[second]] for first in WRONG for second in WRONG if first != second)
+    yield from ([(FIELD[a], 0), (FIELD[b], 0)] for a, b in zip(NAMES[:4], NAMES[1:4]))
+    yield [(FIELD['N_A'], 99), (FIELD['N_V'], 99)]
+
+
+def said(field, value):
+    """A change as the program writes it."""
+    if field < len(NAMES):
+        return f'{NAMES[field]:8}{value}; '
+    name, first = ('weight', WEIGHTS) if field < HEIGHTS else ('height', HEIGHTS)
+    return f'{name:8}{field - first + 1}: {value}; '
+
+
+def outcome(changes):
+    """What the model says of the good job so changed."""
+    job = {**GOOD, **dict(changes)}
+    numbers = [job[place] for place in range(len(NAMES))]
+    weights = [job[WEIGHTS + i] for i in range(min(numbers[12], LISTED))]
+    heights = [job[HEIGHTS + i] for i in range(min(numbers[13], LISTED))]
+    refusal = limits.judge(tuple(numbers[:7]), tuple(numbers[7:12]), weights, heights, (numbers[14],))
+    return 'taken' if refusal is None else 'refused {} at {}'.format(*refusal)
+
+
+def all_cases():
+    """Every list of changes to the good job."""
+    return [*number_cases(), *level_cases(), *pair_cases()]
+
+
+def main():
+    """Write both files."""
+    cases = all_cases()
+    (HERE / 'stdout').write_text(''.join(
+        ''.join(said(*change) for change in changes) + outcome(changes) + '\n' for changes in cases))
+    changed = [[n for change in (changes + 4 * [(NONE, 0)])[:4] for n in change] for changes in cases]
+    rows = [[len(cases)], [GOOD.get(place, 0) for place in range(FIELDS)], *changed]
+    (HERE / 'stdin').write_text(''.join(' '.join(map(str, row)) + '\n' for row in rows))
+    print(len(cases), 'cases')
+
+
+if __name__ == '__main__':
+    main()

@@ -1,0 +1,102 @@
+"""Writes the jobs that the definitions are put through: crates/vectors/specs/Rows.antt, from a seed.
+
+usage: python3 -m tests.writes.vectors [SEED [COUNT]] > crates/vectors/specs/Rows.antt
+"""
+
+import random
+import sys
+from fractions import Fraction
+
+from tests.draws.sample import accepted_jobs
+from tests.model import exact
+from tests.model.job import job
+from tests.model.response import UNIT
+
+SEED, COUNT = 2005, 520
+FINER = 10  # every so many rows the unit is ten-millionths
+FEW_LEVELS = 4
+CLASSES = {1: 'Hard', 2: 'Normal', 3: 'Soft'}
+KINDS = {1: 'Steel', 2: 'Concrete', 3: 'Braced', 4: 'Other'}
+
+HEAD = """-- {count} jobs with what the model of tests/ makes of them: data.
+-- `python3 -m tests.writes.vectors {seed} {count}` writes it. A line a row: the unit; the site; the frame; weights; heights; three
+-- fractions for the roots; the printed stages; the exact figures.
+use mathlib.Core.List.{{List, [], _∷_}}
+use Rattle.whole.specs.Fraction.{{over}}
+use Rattle.limits.specs.declared.site.Class.the-variants.{{Hard, Normal, Soft}}
+use Rattle.limits.specs.declared.frame.Kind.the-variants.{{Steel, Concrete, Braced, Other}}
+use Rattle.vectors.specs.Vector.{{Vector, vector, siteOf, frameOf, rootsOf}}
+
+unfoldable pub rows : List Vector
+rows ="""
+
+
+def fewer(rng, stratum, weights, heights):
+    """The upper levels only, which keep the period; all of them where the stratum is about levels."""
+    if stratum.startswith(('levels', 'every weight', 'one level', 'top at')):
+        return weights, heights
+    count = rng.randint(1, FEW_LEVELS)
+    return weights[-count:], heights[-count:]
+
+
+def some_root(rng, low, high, s):
+    """A fraction of at least 1: a printed root, or any other."""
+    other = 1 + Fraction(rng.randint(0, 999), rng.randint(1, 400))
+    return rng.choice((Fraction(low, s), Fraction(high, s), other))
+
+
+def numbers(values):
+    """A list of whole numbers."""
+    return '(' + ''.join(f'{value} ∷ ' for value in values) + '[])'
+
+
+def fractions(values):
+    """A list of fractions."""
+    return '(' + ''.join(f'over {value.numerator} {value.denominator} ∷ ' for value in values) + '[])'
+
+
+def printed(result):
+    """The printed stages in the order of `printed` of specs/Vector.antt."""
+    design, mce, star = result.design, result.mce, result.star
+    return [
+        design.A, design.B, mce.A, mce.B, star.A, star.B, result.t, result.T,
+        design.spectrum, design.lower_root, design.lower_factor, result.q, result.m,
+        mce.spectrum, mce.lower_root, mce.lower_factor, result.q_M, result.m_M,
+        star.spectrum, star.upper_root, star.upper_factor, result.p,
+        result.V, result.V_M, result.V_star, result.V_D,
+        *result.shears, *result.forces, *result.moments,
+    ]
+
+
+def row(rng, s, stratum, site, frame, weights, heights):
+    """One row: the job, and what the model makes of it."""
+    weights, heights = fewer(rng, stratum, weights, heights)
+    result = job(site, frame, weights, heights, s=s)
+    roots = [some_root(rng, each.lower_root, each.upper_root, result.s)
+             for each in (result.design, result.mce, result.star)]
+    chain = exact.chain(result, roots)
+    values = [*chain[:4], *chain.storeys]
+    *mapped, number = site
+    kind, *frame_values = frame
+    return ' '.join((
+        f'vector {s} (siteOf {" ".join(map(str, mapped))} {CLASSES[number]}) '
+        f'(frameOf {KINDS[kind]} {" ".join(map(str, frame_values))})',
+        f'{numbers(weights)} {numbers(heights)}',
+        '(rootsOf ' + ' '.join(f'{root.numerator} {root.denominator}' for root in roots) + ')',
+        numbers(printed(result)),
+        fractions(values),
+    ))
+
+
+def main(seed=SEED, count=COUNT):
+    """Write the file."""
+    rng = random.Random(seed)
+    print(HEAD.format(seed=seed, count=count))
+    for number, each in enumerate(accepted_jobs(seed, count)):
+        s = 10 * UNIT if number % FINER == 0 else UNIT
+        print('    ' + row(rng, s, *each) + ' ∷')
+    print('    []')
+
+
+if __name__ == '__main__':
+    main(*(int(word) for word in sys.argv[1:]))
