@@ -1,4 +1,4 @@
--- How large the base shear comes: at most 1,125,000,000 N, of W up to 1,000,000 kN.
+-- How large the base shear comes: at most 1,125,000,000 N, of W up to the largest.
 -- Assumes nothing.
 use Prim.Native.Nat.{ℕ, _*_, _≤_, _<_}
 use native.Mathlib.Nat.{mul-le-mul, mul-le-mul-right, mul-pos, max-le}
@@ -7,6 +7,7 @@ use Rattle.whole.specs.declared.Fraction.{Fraction}
 use Rattle.whole.proofs.Choice.{by-leb}
 use Rattle.whole.proofs.Rounding.{up-most}
 use Rattle.limits.specs.Allowed.{AllowedSite, AllowedFrame}
+use Rattle.limits.specs.Levels.{totalMost}
 use Rattle.limits.specs.declared.frame.Frame.{Frame}
 use Rattle.limits.specs.declared.site.Class.{Class}
 use Rattle.limits.specs.declared.site.Site.{Site}
@@ -48,7 +49,7 @@ p-most Sa F =
     (λ a. by-leb (λ (z : ℕ). z ≤ 1000 * Sa) (1000 * Sa) (800 * F) _ _ (λ b. omega arith) (λ b. omega arith)))
 
 -- ---- a shear of x millionths
-newtons-most : (n : ℕ) (f : Frame) (W x r : ℕ) → AllowedFrame f → W ≤ 1_000_000 → 0 < n → 15_000 * x ≤ n * r
+newtons-most : (n : ℕ) (f : Frame) (W x r : ℕ) → AllowedFrame f → W ≤ totalMost → 0 < n → 15_000 * x ≤ n * r
     → newtons unit n f W x ≤ r
 unfolding newtons
 newtons-most n f W x r b w p h =
@@ -58,7 +59,7 @@ newtons-most n f W x r b w p h =
     up-most (10_000 * (f .i * x * W)) (n * unit * f .alpha) r (mul-pos (mul-pos p (omega arith)) (omega (arith, b .alpha)))
     (omega (arith, ixw, small, h))
 
-module _ (site : Site) (f : Frame) (W T : ℕ) (b : AllowedFrame f) (w : W ≤ 1_000_000) (k : Shearing unit (hazardsOf site (f .r)) T) where
+module _ (site : Site) (f : Frame) (W T : ℕ) (b : AllowedFrame f) (w : W ≤ totalMost) (k : Shearing unit (hazardsOf site (f .r)) T) where
   shear-small : (h : Hazard) → Ready unit h T → h .a ≤ 150_000_000 → shear unit (hazardsOf site (f .r)) h f W T ≤ 1_125_000_000
   unfolding shear
   shear-small h y a =
@@ -83,7 +84,7 @@ a-most c ss na h n =
     let s = s-s-bounds ss na (h .0) (h .1) (n .0) (n .1) in
     a-bounds c (factored ss na) (s .0) (s .1) .1
 
-pub base-most : (site : Site) (f : Frame) (W h : ℕ) → AllowedSite site → AllowedFrame f → W ≤ 1_000_000 → 1 ≤ h → h ≤ 2000
+pub base-most : (site : Site) (f : Frame) (W h : ℕ) → AllowedSite site → AllowedFrame f → W ≤ totalMost → 1 ≤ h → h ≤ 2000
     → base unit (hazardsOf site (f .r)) f W (periodOf (f .kind) (f .calculated) h) ≤ 1_125_000_000
 unfolding base star
 base-most site f W h a b w lo hi =

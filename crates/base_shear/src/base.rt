@@ -12,6 +12,7 @@ use site::hazards::hazards_of;
 ghost use mathlib.Core.Path.{_≡_};
 ghost use Prim.Native.Nat.{_≤_, max};
 ghost use Rattle.limits.specs.Allowed.{AllowedFrame, AllowedSite};
+ghost use Rattle.limits.specs.Levels.{totalMost};
 ghost use Rattle.base_shear.specs.Ready.{Shearing};
 ghost use Rattle.base_shear.specs.Shears.{figures, figuresOf};
 
@@ -26,7 +27,7 @@ fn larger(a: u64, b: u64) -> u64
 
 // The figures of three hazards, whatever made them: s is the unit.
 pub fn figures_of(s: u64, k: Hazards, f: Frame, w: u64, t: u64) -> Figures
-    requires { ⌜ Shearing s k t × AllowedFrame f × (w ≤ 1_000_000) ⌝ }
+    requires { ⌜ Shearing s k t × AllowedFrame f × (w ≤ totalMost) ⌝ }
     ensures { λ r. ⌜ r ≡ figures s k f w t ⌝ }
 {
     let lines = k.lines;
@@ -42,7 +43,7 @@ pub fn figures_of(s: u64, k: Hazards, f: Frame, w: u64, t: u64) -> Figures
 
 // The five figures of a judged site and frame, a total weight in kN and a top height in dm.
 pub fn base_figures(site: Site, frame: Frame, weight: u64, height: u64) -> Figures
-    requires { ⌜ AllowedSite site × AllowedFrame frame × (weight ≤ 1_000_000) × (1 ≤ height) × (height ≤ 2000) ⌝ }
+    requires { ⌜ AllowedSite site × AllowedFrame frame × (weight ≤ totalMost) × (1 ≤ height) × (height ≤ 2000) ⌝ }
     ensures { λ r. ⌜ r ≡ figuresOf site frame weight height ⌝ }
 {
     let kind = frame.kind;

@@ -10,14 +10,14 @@ use Rattle.whole.specs.Cells.{sum}
 use Rattle.whole.proofs.Sums.{sum-most}
 use Rattle.limits.specs.declared.judging.Given.{Given}
 use Rattle.limits.specs.Allowed.{AllowedLevels, AllowedGiven}
-use Rattle.limits.specs.Levels.{topHeight}
+use Rattle.limits.specs.Levels.{topHeight, totalMost}
 use Rattle.response.proofs.Periods.{period-bounds}
 use Rattle.base_shear.specs.Shears.{figures, figuresOf}
 use Rattle.base_shear.proofs.Largest.{base-most}
 use Rattle.storeys.specs.Reach.{Load, Standing}
 use Rattle.storeys.proofs.Chain.{load-of, standing-of}
 
-pub weight-most : (ws hs : List ℕ) → AllowedLevels ws hs → sum ws ≤ 1_000_000
+pub weight-most : (ws hs : List ℕ) → AllowedLevels ws hs → sum ws ≤ totalMost
 weight-most ws hs l =
     omega (arith, sum-most 20_000 ws (λ x h. l .weights x h .1), mul-le-mul-right 20_000 (l .few))
 

@@ -13,13 +13,13 @@ ghost use Rattle.whole.specs.Cells.{sum};
 ghost use Prim.Native.Nat.{_≤_, _<_};
 ghost use lib.ListN.{length};
 ghost use Rattle.limits.specs.Allowed.{AllowedGiven};
-ghost use Rattle.limits.specs.Levels.{topHeight};
+ghost use Rattle.limits.specs.Levels.{topHeight, totalMost};
 ghost use Rattle.base_shear.specs.Shears.{figuresOf};
 ghost use Rattle.job.specs.Job.{Figured};
 
 // W: the weights of all levels.
 pub fn total_weight(weights: &[u64]) -> u64
-    requires { ⌜ sum (now weights) ≤ 1_000_000 ⌝ }
+    requires { ⌜ sum (now weights) ≤ totalMost ⌝ }
     ensures { λ r. ⌜ r ≡ sum (now (weights .entry)) ⌝ }
 {
     let mut w = 0;

@@ -14,7 +14,7 @@ use Rattle.response.proofs.Bent.{Meeting}
 use Rattle.base_shear.specs.Exact.{exactBase}
 use Rattle.base_shear.specs.Ready.{Shearing}
 use Rattle.base_shear.specs.Shears.{base}
-use Rattle.storeys.specs.Storeys.{roofPart, roofForce, weightHeight, shearUnder}
+use Rattle.storeys.specs.Storeys.{RoofAtMostOne, roofPart, roofForce, weightHeight, shearUnder}
 use Rattle.storeys.proofs.Roof.{roof-most}
 use Rattle.storeys.proofs.Sums.{part-sum}
 use Rattle.margin.specs.Demand3.{allowed, Demand3}
@@ -23,7 +23,7 @@ use Rattle.margin.proofs.Bound.{margin-positive}
 use Rattle.margin.proofs.Storey.{shared-positive, storey-above, storey-over}
 
 module _ (s : ℕ) (k : Hazards) (f : Frame) (ws hs : List ℕ) (T : ℕ) where
-  pub demand3 : Shearing s k T → Meeting (k .lines) → 0 < f .alpha → k .divisor ≤ k .stardivisor → 7 * T ≤ 100_000
+  pub demand3 : Shearing s k T → Meeting (k .lines) → 0 < f .alpha → k .divisor ≤ k .stardivisor → RoofAtMostOne T
       → 0 < weightHeight ws hs
       → Demand3 s k f ws hs T (base s k f (sum ws) T) (shearUnder T (base s k f (sum ws) T) ws hs)
   demand3 g m pa more roof p =

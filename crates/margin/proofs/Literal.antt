@@ -14,7 +14,7 @@ use Rattle.site.specs.declared.hazard.Hazards.{Hazards}
 use Rattle.response.specs.Ratio.{bent, exactModified}
 use Rattle.base_shear.specs.Exact.{exactNewtons}
 use Rattle.storeys.specs.Exact.{exactRoofForce, rest}
-use Rattle.storeys.specs.Storeys.{roofPart}
+use Rattle.storeys.specs.Storeys.{RoofAtMostOne, roofPart}
 use Rattle.margin.specs.Demand3.{allowed}
 
 -- 'Up to 300,000: q.'
@@ -66,7 +66,7 @@ pub allowed-is : (s : ℕ) (k : Hazards) (f : Frame) (W : ℕ)
 allowed-is s k f W = omega arith
 
 -- V − F_t, as the storeys have it: what is left of V beside F_t
-pub rest-beside-roof-force : (T : ℕ) (v : Fraction) → 7 * T ≤ 100_000
+pub rest-beside-roof-force : (T : ℕ) (v : Fraction) → RoofAtMostOne T
     → Same (plus (exactRoofForce T v) (times (rest (roofPart T)) v)) v
 rest-beside-roof-force T v h =
     let e : 7 * T + (100_000 - 7 * T) ≡ 100_000 = omega arith in

@@ -19,33 +19,33 @@ abbrev pub Positive : List ℕ → Type 0
 Positive [] = Unit {0}
 Positive (v ∷ vs) = (0 < v) × Positive vs
 
-measured-least : (x p v : ℕ) → measured x p ≡ accepted v → 500 ≤ v
+measured-positive : (x p v : ℕ) → measured x p ≡ accepted v → 0 < v
 unfolding measured
-measured-least x p v e =
+measured-positive x p v e =
     let s = then-passed (within 500 30_000 x 15 p) (accepted x) e in
     omega (arith, within-passed 500 30_000 x 15 p (s .0) .0, one-value (s .1))
 
 -- v³ ≤ s³·N from v = s on
-count-least : (least most s N p v : ℕ) → 1 ≤ least → most ≤ 50 → s ≤ 1_000 → 500 ≤ s
-    → byCount least most s N p ≡ accepted v → 500 ≤ v
+count-positive : (least most s N p v : ℕ) → 1 ≤ least → most ≤ 50 → s ≤ 1_000 → 0 < s
+    → byCount least most s N p ≡ accepted v → 0 < v
 unfolding byCount
-count-least least most s N p v h₁ h₂ h₃ h₄ e =
+count-positive least most s N p v h₁ h₂ h₃ h₄ e =
     let q = then-passed (within least most N 15 p) (accepted (cubeRoot s N)) e in
     let w = within-passed least most N 15 p (q .0) in
     let pos : 0 < N = omega arith in
     let at : s ≤ cubeRoot s N = cube-root-is s N h₃ (omega arith) .largest s (omega (arith, le-mul-of-pos-right (s ^ 3) pos)) in
     omega (arith, one-value (q .1))
 
-pub velocity-least : (k x p v : ℕ) → velocity k x p ≡ accepted v → 500 ≤ v
+pub velocity-positive : (k x p v : ℕ) → velocity k x p ≡ accepted v → 0 < v
 unfolding velocity
-velocity-least k x p v =
-    by-test P (eqb k 1) _ _ (λ _. measured-least x p v)
-    (λ _. by-test P (eqb k 2) _ _ (λ _. count-least 2 25 1_000 x p v (omega arith) (omega arith) (omega arith) (omega arith))
-    (λ _. by-test P (eqb k 3) _ _ (λ _. count-least 1 50 800 x p v (omega arith) (omega arith) (omega arith) (omega arith))
+velocity-positive k x p v =
+    by-test P (eqb k 1) _ _ (λ _. measured-positive x p v)
+    (λ _. by-test P (eqb k 2) _ _ (λ _. count-positive 2 25 1_000 x p v (omega arith) (omega arith) (omega arith) (omega arith))
+    (λ _. by-test P (eqb k 3) _ _ (λ _. count-positive 1 50 800 x p v (omega arith) (omega arith) (omega arith) (omega arith))
     (λ _. λ e. absurd (never e))))
   where
     P : Outcome ℕ → Type 0
-    P o = o ≡ accepted v → 500 ≤ v
+    P o = o ≡ accepted v → 0 < v
 
 pub velocities-positive : (p : ℕ) (ks xs vs : List ℕ) → velocities p ks xs ≡ accepted vs → Positive vs
 unfolding velocities
@@ -55,7 +55,7 @@ velocities-positive p (k ∷ ks) (x ∷ xs) vs e =
     let a = bind-passed (velocity k x p) _ e in
     let b = bind-passed (velocities (p + 1) ks xs) _ (a .2) in
     subst Positive (one-value (b .2))
-    (omega (arith, velocity-least k x p (a .0) (a .1)), velocities-positive (p + 1) ks xs (b .0) (b .1))
+    (omega (arith, velocity-positive k x p (a .0) (a .1)), velocities-positive (p + 1) ks xs (b .0) (b .1))
 
 pub velocities-length : (p : ℕ) (ks xs vs : List ℕ) → length xs ≡ length ks → velocities p ks xs ≡ accepted vs
     → length vs ≡ length ks

@@ -15,13 +15,13 @@ use Rattle.whole.specs.Rounding.{up}
 use Rattle.whole.proofs.Cells.{cells-at, cells-past, past-end, sum-cells-more}
 use Rattle.whole.proofs.Rounding.{up-exact, up-mono, up-most}
 use Rattle.storeys.specs.Reach.{Falling}
-use Rattle.storeys.specs.Storeys.{roofForce, weightHeight, shearUnder, shears, force, forces}
+use Rattle.storeys.specs.Storeys.{RoofAtMostOne, roofForce, weightHeight, shearUnder, shears, force, forces}
 use Rattle.storeys.proofs.Roof.{roof-most}
 use Rattle.storeys.proofs.Sums.{part-sum, sum-falls}
 
 -- ---- the shears
 -- the lowest is V
-pub shear-lowest : (T v : ℕ) (ws hs : List ℕ) → 0 < weightHeight ws hs → 7 * T ≤ 100_000 → shearUnder T v ws hs 0 ≡ v
+pub shear-lowest : (T v : ℕ) (ws hs : List ℕ) → 0 < weightHeight ws hs → RoofAtMostOne T → shearUnder T v ws hs 0 ≡ v
 shear-lowest T v ws hs p h =
     let P = weightHeight ws hs in
     let r = v - roofForce T v in
@@ -39,7 +39,7 @@ shear-falls T v ws hs x p =
     omega (arith, up-mono (r * a) P (r * b) P p (le-refl P) (mul-le-mul-left r (sum-falls ws hs x)))
 
 -- none is above V
-pub shear-most : (T v : ℕ) (ws hs : List ℕ) (x : ℕ) → 0 < weightHeight ws hs → 7 * T ≤ 100_000 → shearUnder T v ws hs x ≤ v
+pub shear-most : (T v : ℕ) (ws hs : List ℕ) (x : ℕ) → 0 < weightHeight ws hs → RoofAtMostOne T → shearUnder T v ws hs x ≤ v
 shear-most T v ws hs x p h =
     let P = weightHeight ws hs in
     let a = weightHeight (drop x ws) (drop x hs) in
@@ -78,7 +78,7 @@ pub forces-add-up : (us : List ℕ) → Falling us → sum (forces us) ≡ getD 
 forces-add-up us f = omega (arith, below us (length us) f, past-end us (length us) (le-refl (length us)))
 
 -- 'Each storey force rounded alone: the sum misses V_D': these hit it
-pub forces-sum : (T v : ℕ) (ws hs : List ℕ) → 0 < length ws → 0 < weightHeight ws hs → 7 * T ≤ 100_000
+pub forces-sum : (T v : ℕ) (ws hs : List ℕ) → 0 < length ws → 0 < weightHeight ws hs → RoofAtMostOne T
     → sum (forces (shears T v ws hs)) ≡ v
 forces-sum T v ws hs n p h =
     forces-add-up (shears T v ws hs) (shears-fall T v ws hs p)

@@ -11,10 +11,10 @@ use mathlib.Core.List.{List}
 use Prim.Native.Nat.{ℕ, _+_, _*_, _≤_, _<_}
 use lib.ListN.{length, getD}
 use Rattle.whole.specs.Cells.{sum}
-use Rattle.storeys.specs.Storeys.{weightHeight}
+use Rattle.storeys.specs.Storeys.{RoofAtMostOne, weightHeight}
 
 pub record Load (T v : ℕ) : Type 0 where
-  pub part : 7 * T ≤ 100_000
+  pub part : RoofAtMostOne T
   pub shear : v ≤ 1_400_000_000
 
 pub record Levels (ws hs : List ℕ) : Type 0 where

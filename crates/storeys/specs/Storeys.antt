@@ -1,5 +1,6 @@
 -- Storeys (21). V in N, T in ms, weights in kN, heights in dm, lowest level first; level x is counted from 0.
 --   roofPart T            0.07·(T in s)
+--   RoofAtMostOne T       the roof part is at most one, so that F_t is a part of V
 --   roofForce T v         F_t = 0.07·(T in s)·V, up
 --   weightHeight ws hs    P, the sum of weight times height; P_x is that of what stands from level x to the roof
 --   shearUnder T v ws hs x    the shear under level x: F_t + (V − F_t)·P_x/P, quotient up
@@ -15,7 +16,7 @@
 -- ℕ's subtraction stops at 0; that no difference here goes below it: `roof-most`, `force-whole`, `bottom-below` of proofs/.
 use mathlib.Core.Path.{_≡_}
 use mathlib.Core.List.{List, [], _∷_}
-use Prim.Native.Nat.{ℕ, zero, suc, _+_, _-_, _*_}
+use Prim.Native.Nat.{ℕ, zero, suc, _+_, _-_, _*_, _≤_}
 use lib.ListN.{length, drop, getD}
 use Rattle.whole.specs.declared.Fraction.{Fraction}
 use Rattle.whole.specs.Rounding.{up}
@@ -25,6 +26,9 @@ use Rattle.storeys.specs.declared.overturning.Borne.{Borne}
 
 abbrev pub roofPart : ℕ → Fraction
 roofPart T = over (7 * T) 100_000
+
+abbrev pub RoofAtMostOne : ℕ → Type 0
+RoofAtMostOne T = roofPart T .num ≤ roofPart T .den
 
 abbrev pub roofForce : ℕ → ℕ → ℕ
 roofForce T v = up (roofPart T .num * v) (roofPart T .den)

@@ -7,7 +7,7 @@ use native.Mathlib.Omega.{arith}
 use lib.ListN.{length, drop}
 use Rattle.limits.proofs.Stages.{says, stopped}
 use Rattle.soil.proofs.Adding.{up-most, down-most, Small, small-next, left, left-all, left-none, left-refused, left-next}
-use Rattle.soil.proofs.Speeds.{velocity-least}
+use Rattle.soil.proofs.Speeds.{velocity-positive}
 use Rattle.whole.proofs.Sums.{sum-step}
 use Rattle.soil.specs.Times.{judgedTimes}
 use Rattle.soil.specs.Velocity.{velocities, velocityOutcome}
@@ -78,7 +78,7 @@ mul-ns-2 c =
     omega (arith, sum-step ds (at .i) (omega arith))
 
 up-requires : tie.Need-up-requires Inv-loop μ-loop
-up-requires c κs = omega (arith, velocity-least _ _ _ _ (says velocityOutcome (c .before .before .before .before .velocity-by .ensures) (c .before .before .a .given .1)))
+up-requires c κs = omega (arith, velocity-positive _ _ _ _ (says velocityOutcome (c .before .before .before .before .velocity-by .ensures) (c .before .before .a .given .1)))
 
 add-up : tie.Need-add-up Inv-loop μ-loop
 add-up c =
@@ -86,11 +86,11 @@ add-up c =
     let ds = c .before .before .before .before .before .before .before .before .before .before .before .before .before .before .before .args .thicknesses .now in
     let v = c .before .before .before .a .given .0 .0 in
     let said = says velocityOutcome (c .before .before .before .before .before .velocity-by .ensures) (c .before .before .before .a .given .1) in
-    let pos : 0 < v = omega (arith, velocity-least _ _ _ _ said) in
+    let pos : 0 < v = omega (arith, velocity-positive _ _ _ _ said) in
     omega (arith, c .up .ensures, small-next up up-most ds (at .i) (at .up) v (omega arith) pos (at .inv .1))
 
 down-requires : tie.Need-down-requires Inv-loop μ-loop
-down-requires c κs = omega (arith, velocity-least _ _ _ _ (says velocityOutcome (c .before .before .before .before .before .velocity-by .ensures) (c .before .before .before .a .given .1)))
+down-requires c κs = omega (arith, velocity-positive _ _ _ _ (says velocityOutcome (c .before .before .before .before .before .velocity-by .ensures) (c .before .before .before .a .given .1)))
 
 add-down : tie.Need-add-down Inv-loop μ-loop
 add-down c =
@@ -98,7 +98,7 @@ add-down c =
     let ds = c .before .before .before .before .before .before .before .before .before .before .before .before .before .before .before .before .args .thicknesses .now in
     let v = c .before .before .before .before .a .given .0 .0 in
     let said = says velocityOutcome (c .before .before .before .before .before .before .velocity-by .ensures) (c .before .before .before .before .a .given .1) in
-    let pos : 0 < v = omega (arith, velocity-least _ _ _ _ said) in
+    let pos : 0 < v = omega (arith, velocity-positive _ _ _ _ said) in
     omega (arith, c .down .ensures, small-next down down-most ds (at .i) (at .down) v (omega arith) pos (at .inv .2))
 
 add-i : tie.Need-add-i Inv-loop μ-loop
@@ -116,7 +116,7 @@ loop-again c =
     let xs = a .values .now in
     let v = c .before .before .before .before .a .given .0 .0 in
     let said = says velocityOutcome (c .before .before .before .before .before .before .velocity-by .ensures) (c .before .before .before .before .a .given .1) in
-    let pos : 0 < v = omega (arith, velocity-least _ _ _ _ said) in (
+    let pos : 0 < v = omega (arith, velocity-positive _ _ _ _ said) in (
       omega arith,
       omega (arith, c .before .up .ensures, small-next up up-most ds (at .i) (at .up) v (omega arith) pos (at .inv .1)),
       omega (arith, c .down .ensures, small-next down down-most ds (at .i) (at .down) v (omega arith) pos (at .inv .2)),
