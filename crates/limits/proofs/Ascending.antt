@@ -1,14 +1,14 @@
--- For 1 to 15, the refusals of a job and of a log, to be judged no later is to have no higher number: 'the lowest number that applies is
--- given'.
+-- What the order comes to. For 1 to 15, the refusals of a job and of a log, to be judged no later is to have no higher number: 'the lowest
+-- number that applies is given'. And '17, then 16, precede everything for a sheet'.
 -- Assumes nothing.
 use mathlib.Core.Bool.{Bool, true}
 use Prim.Native.Nat.{ℕ, _+_, _≤_}
 use native.Mathlib.Omega.{arith}
-use lib.Dec.{T, leb, leb→le}
+use lib.Dec.{T, leb, leb→le, ltb, ltb→lt}
 use borrow.Author.Tests.{le-leb}
 use Rattle.whole.specs.Choice.{pick}
 use Rattle.whole.proofs.Range.{allBelow, all-from}
-use Rattle.limits.specs.Order.{rank}
+use Rattle.limits.specs.Order.{rank, Before}
 
 lower : ℕ → ℕ → Bool
 lower n m = pick (leb (rank n) (rank m)) (leb n m) true
@@ -19,3 +19,10 @@ lowest-first n m hn hm h =
     let row = all-from (λ k. allBelow (λ i. lower k (1 + i)) 15) 1 15 tt n (hn .0) (omega arith) in
     let cell = all-from (lower n) 1 15 row m (hm .0) (omega arith) in
     leb→le n m (rw (le-leb _ _ h) at cell)
+
+first : ℕ → Bool
+first n = ltb (rank 16) (rank n)
+
+pub sheet-first : Before 17 16 × ((n : ℕ) → (1 ≤ n) × (n ≤ 15) → Before 16 n)
+unfolding first allBelow
+sheet-first = (omega arith, λ n h. ltb→lt (rank 16) (rank n) (all-from first 1 15 tt n (h .0) (omega arith)))

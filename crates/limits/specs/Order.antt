@@ -3,7 +3,7 @@
 --   order         the numbers of every entry, those that are judged first in front
 --   rank n        how many of them are judged before n
 --   Before m n    m is judged before n
--- For 1 to 15 it comes to the lowest number: `lowest-first` (proofs/Ascending.antt).
+-- That these sentences hold of it: `lowest-first`, `sheet-first` (proofs/Ascending.antt).
 use mathlib.Core.List.{List, [], _∷_}
 use Prim.Native.Nat.{ℕ, suc, _<_}
 use lib.Dec.{eqb}
