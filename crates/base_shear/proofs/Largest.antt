@@ -1,4 +1,4 @@
--- How large the base shear comes: at most 1,125,000,000 N, of W up to the largest.
+-- How large the base shear comes: at most 1,125,000,000 N, of W up to `totalMost`.
 -- Assumes nothing.
 use Prim.Native.Nat.{ℕ, _*_, _≤_, _<_}
 use native.Mathlib.Nat.{mul-le-mul, mul-le-mul-right, mul-pos, max-le}
@@ -54,7 +54,7 @@ newtons-most : (n : ℕ) (f : Frame) (W x r : ℕ) → AllowedFrame f → W ≤ 
 unfolding newtons
 newtons-most n f W x r b w p h =
     let ix : f .i * x ≤ 150 * x = mul-le-mul-right x (b .i .1) in
-    let ixw : f .i * x * W ≤ 150 * x * 1_000_000 = mul-le-mul ix w in
+    let ixw : f .i * x * W ≤ 150 * x * totalMost = mul-le-mul ix w in
     let small : 100 * (n * r) ≤ f .alpha * (n * r) = mul-le-mul-right (n * r) (b .alpha .0) in
     up-most (10_000 * (f .i * x * W)) (n * unit * f .alpha) r (mul-pos (mul-pos p (omega arith)) (omega (arith, b .alpha)))
     (omega (arith, ixw, small, h))

@@ -12,6 +12,7 @@ use whole::quotients::up;
 ghost use mathlib.Core.Path.{_≡_};
 ghost use Prim.Native.Nat.{_+_, _*_, _/_, _≤_, _<_};
 ghost use Rattle.limits.specs.Allowed.{AllowedFrame};
+ghost use Rattle.limits.specs.Levels.{totalMost};
 ghost use Rattle.response.specs.Reach.{Unit, Thousandths};
 ghost use Rattle.response.specs.Ratio.{blended, modified};
 ghost use Rattle.base_shear.specs.Ready.{Ready};
@@ -22,7 +23,7 @@ const CANCELS: u64 = 10_000;
 
 // I x W / (n / 10 alpha-y), up, of x s-ths.
 pub fn newtons(s: u64, n: u64, f: Frame, w: u64, x: u64) -> u64
-    requires { ⌜ (s / 10_000 * 10_000 ≡ s) × (0 < s) × (s ≤ 10_000_000) × (0 < n) × (n ≤ 100) × AllowedFrame f × (w ≤ 1_000_000) × (x ≤ 100_000_000) ⌝ }
+    requires { ⌜ (s / 10_000 * 10_000 ≡ s) × (0 < s) × (s ≤ 10_000_000) × (0 < n) × (n ≤ 100) × AllowedFrame f × (w ≤ totalMost) × (x ≤ 100_000_000) ⌝ }
     ensures { λ r. ⌜ r ≡ newtons s n f w x ⌝ }
 {
     up(f.i * x * w, n * (s / CANCELS) * f.alpha)

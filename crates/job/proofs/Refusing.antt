@@ -7,7 +7,7 @@ use Rattle.limits.specs.declared.frame.FrameValues.{FrameValues}
 use Rattle.limits.specs.declared.refusal.Refusal.{Refusal}
 use Rattle.limits.specs.declared.site.SiteValues.{SiteValues}
 use Rattle.limits.specs.Applies.{Applies}
-use Rattle.limits.specs.Order.{rank}
+use Rattle.limits.specs.Order.{NoLater}
 use Rattle.limits.proofs.Refusing as judging
 use Rattle.limits.proofs.Foremost as order
 use Rattle.base_shear.specs.declared.Figures.{Figures}
@@ -41,7 +41,7 @@ module _ (s : SiteValues) (f : FrameValues) (ws hs : List ℕ) (b : Buffers) whe
     refused-applies =
         judging.refused-applies s f ws hs (shortest b) (r .number) (r .place) (refused-judged s f ws hs b r b′ a)
 
-    pub first-number : (m q : ℕ) → Wrong m q → rank (r .number) ≤ rank m
+    pub first-number : (m q : ℕ) → Wrong m q → NoLater (r .number) m
     first-number m q w =
         order.first-number s f ws hs (shortest b) (r .number) (r .place) m q (refused-judged s f ws hs b r b′ a) w
 

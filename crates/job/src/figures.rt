@@ -6,7 +6,6 @@ use limits::frame::FrameValues;
 use limits::judging::Given;
 use limits::judging::GivenAnswer;
 use limits::judging::judged;
-use limits::refusal::Refusal;
 use limits::site::SiteValues;
 ghost use mathlib.Core.Path.{_≡_};
 ghost use Rattle.whole.specs.Cells.{sum};

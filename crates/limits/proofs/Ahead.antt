@@ -7,11 +7,11 @@
 use mathlib.Core.Path.{_≡_, refl, ap}
 use mathlib.Core.Bool.{Bool, true, false, _&&_}
 use mathlib.Core.Logic.{_⊎_, inl, ⊎-elim}
-use Prim.Native.Nat.{ℕ, _+_, _≤_, _<_}
+use Prim.Native.Nat.{ℕ, _+_, _≤_}
 use native.Mathlib.Omega.{arith}
 use lib.Dec.{leb}
 use borrow.Author.Tests.{leb-true}
-use Rattle.limits.specs.Order.{rank, Before}
+use Rattle.limits.specs.Order.{rank, Before, NoLater}
 use Rattle.limits.specs.Outcome.{Outcome, accepted, refused, Done, require, _>>=_, _>>_}
 use Rattle.limits.specs.Ranges.{inRange, within}
 use Rattle.limits.proofs.Passed.{differ}
@@ -29,18 +29,18 @@ Yields n q (refused m p) = Ahead n q m p
 
 abbrev pub UpTo : {A : Type 0} → ℕ → Outcome A → Type 0
 UpTo m (accepted a) = Unit {0}
-UpTo m (refused k p) = rank k ≤ rank m
+UpTo m (refused k p) = NoLater k m
 
 pub up-to-yields : {A : Type 0} (m n q : ℕ) (o : Outcome A) → UpTo m o → Before m n → Yields n q o
 up-to-yields m n q (accepted a) u h = tt
 up-to-yields m n q (refused k p) u h = inl (omega arith)
 
-pub up-to-more : {A : Type 0} (m n : ℕ) (o : Outcome A) → UpTo m o → rank m ≤ rank n → UpTo n o
+pub up-to-more : {A : Type 0} (m n : ℕ) (o : Outcome A) → UpTo m o → NoLater m n → UpTo n o
 up-to-more m n (accepted a) u h = tt
 up-to-more m n (refused k p) u h = omega (arith, u, h)
 
 -- what a refusal that comes no later is: of a number judged no later than n, and where n is at a level, of n at a level not above it
-pub stopped-number : (n q m p : ℕ) → Ahead n q m p → rank m ≤ rank n
+pub stopped-number : (n q m p : ℕ) → Ahead n q m p → NoLater m n
 stopped-number n q m p a = ⊎-elim (λ h. omega arith) (λ h. omega (arith, ap rank (h .0))) a
 
 pub stopped-place : (n i p : ℕ) → Ahead n (1 + i) n p → (1 ≤ p) × (p ≤ 1 + i)
@@ -55,11 +55,11 @@ module _ (m : ℕ) where
   bound-up-to (accepted a) f u g = g a
   bound-up-to (refused n p) f u g = u
 
-  pub require-up-to : (t : Bool) (k p : ℕ) → rank k ≤ rank m → UpTo m (require t k p)
+  pub require-up-to : (t : Bool) (k p : ℕ) → NoLater k m → UpTo m (require t k p)
   require-up-to true k p h = tt
   require-up-to false k p h = h
 
-  pub within-up-to : (least most x k p : ℕ) → rank k ≤ rank m → UpTo m (within least most x k p)
+  pub within-up-to : (least most x k p : ℕ) → NoLater k m → UpTo m (within least most x k p)
   unfolding within
   within-up-to least most x k p h = require-up-to (inRange least most x) k p h
 

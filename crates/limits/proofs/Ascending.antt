@@ -4,16 +4,16 @@
 use mathlib.Core.Bool.{Bool, true}
 use Prim.Native.Nat.{ℕ, _+_, _≤_}
 use native.Mathlib.Omega.{arith}
-use lib.Dec.{T, leb, leb→le, ltb, ltb→lt}
+use lib.Dec.{leb, leb→le, ltb, ltb→lt}
 use borrow.Author.Tests.{le-leb}
 use Rattle.whole.specs.Choice.{pick}
 use Rattle.whole.proofs.Range.{allBelow, all-from}
-use Rattle.limits.specs.Order.{rank, Before}
+use Rattle.limits.specs.Order.{rank, Before, NoLater}
 
 lower : ℕ → ℕ → Bool
 lower n m = pick (leb (rank n) (rank m)) (leb n m) true
 
-pub lowest-first : (n m : ℕ) → (1 ≤ n) × (n ≤ 15) → (1 ≤ m) × (m ≤ 15) → rank n ≤ rank m → n ≤ m
+pub lowest-first : (n m : ℕ) → (1 ≤ n) × (n ≤ 15) → (1 ≤ m) × (m ≤ 15) → NoLater n m → n ≤ m
 unfolding lower allBelow
 lowest-first n m hn hm h =
     let row = all-from (λ k. allBelow (λ i. lower k (1 + i)) 15) 1 15 tt n (hn .0) (omega arith) in

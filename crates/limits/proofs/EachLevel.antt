@@ -12,14 +12,14 @@ use borrow.Author.Tests.{le-ltb}
 use Rattle.limits.specs.Allowed.{below}
 use Rattle.limits.specs.Applies.{OutOf}
 use Rattle.limits.specs.Levels.{judgedWeight, weighed, judgedHeight, raised}
-use Rattle.limits.specs.Order.{rank}
+use Rattle.limits.specs.Order.{NoLater}
 use Rattle.limits.specs.Outcome.{require}
 use Rattle.limits.specs.Ranges.{within}
 use Rattle.limits.proofs.Accepted.{below-more}
 use Rattle.limits.proofs.Ahead.{Stops, Yields, UpTo, both-up-to, require-up-to, within-up-to, first-stops, later-stops, both-yield, require-yields, require-stops, within-yields}
 use Rattle.limits.proofs.NotAllowed.{range-stops}
 
-pub weighed-up-to : (m : ℕ) → rank 3 ≤ rank m → (p : ℕ) (ws : List ℕ) → UpTo m (weighed p ws)
+pub weighed-up-to : (m : ℕ) → NoLater 3 m → (p : ℕ) (ws : List ℕ) → UpTo m (weighed p ws)
 unfolding weighed
 weighed-up-to m h p [] = tt
 weighed-up-to m h p (w ∷ ws) =

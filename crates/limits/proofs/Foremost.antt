@@ -1,5 +1,5 @@
--- The refusal that a job is given is the first that applies: 'the lowest number that applies is given, at its lowest place'. An
--- accepted job is one to which none applies.
+-- The refusal that a job is given is the first that applies, in the order in which they are judged (`order`), and so 'the lowest number
+-- that applies .., at its lowest place'. An accepted job is one to which none applies.
 -- Assumes nothing.
 use mathlib.Core.Path.{_≡_, subst}
 use mathlib.Core.List.{List}
@@ -12,7 +12,7 @@ use Rattle.limits.specs.Applies.{Applies, of-levels, of-site, of-frame}
 use Rattle.limits.specs.Frame.{judgedFrame}
 use Rattle.limits.specs.Judging.{judgedJob}
 use Rattle.limits.specs.Levels.{judgedLevels}
-use Rattle.limits.specs.Order.{rank}
+use Rattle.limits.specs.Order.{NoLater}
 use Rattle.limits.specs.Outcome.{accepted, refused}
 use Rattle.limits.specs.Site.{judgedSite}
 use Rattle.limits.proofs.Ahead.{Stops, up-to-yields, stopped-number, stopped-place, first-stops, later-stops, bound-stops, value-stops}
@@ -41,13 +41,15 @@ module _ (s : SiteValues) (f : FrameValues) (ws hs : List ℕ) (room : ℕ) wher
       (λ site. bound-stops n q (judgedFrame f) _ (frame-stops f n q a)))
 
   -- the first number that applies is given
-  pub first-number : (n p m q : ℕ) → judgedJob s f ws hs room ≡ refused n p → Applies s f ws hs room m q → rank n ≤ rank m
+  pub first-number : (n p m q : ℕ) → judgedJob s f ws hs room ≡ refused n p → Applies s f ws hs room m q → NoLater n m
   first-number n p m q e a = stopped-number m q n p (subst (Stops m q) e (stops m q a))
 
   -- which is the lowest
   pub lowest-number : (n p m q : ℕ) → judgedJob s f ws hs room ≡ refused n p → Applies s f ws hs room m q → n ≤ m
   lowest-number n p m q e a =
-      lowest-first n m (numbered (refused-applies s f ws hs room n p e)) (numbered a) (first-number n p m q e a)
+      let given = numbered (refused-applies s f ws hs room n p e) in
+      let other = numbered a in
+      lowest-first n m (omega arith) (omega arith) (first-number n p m q e a)
 
   -- at its lowest place
   pub lowest-place : (n p q : ℕ) → judgedJob s f ws hs room ≡ refused n p → Applies s f ws hs room n q → p ≤ q

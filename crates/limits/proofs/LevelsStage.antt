@@ -9,7 +9,7 @@ use lib.Dec.{leb, eqb}
 use lib.ListN.{length, getD}
 use borrow.Author.Tests.{ne-eqb, lt-leb}
 use Rattle.limits.specs.Allowed.{below}
-use Rattle.limits.specs.Applies.{OutOf, count, lists, buffer, weight, height, rising, LevelsApply, of-count, of-room, of-weights, of-heights}
+use Rattle.limits.specs.Applies.{OutOf, count, lists, buffer, weight, height, rising, LevelsApply, of-count, of-lengths, of-weights, of-heights}
 use Rattle.limits.specs.Levels.{counted, paired, roomy, weighed, raised, judgedLevels}
 use Rattle.limits.specs.Order.{Before}
 use Rattle.limits.specs.Outcome.{_>>_}
@@ -76,8 +76,8 @@ module _ (ws hs : List ℕ) (room : ℕ) where
   -- where one applies
   pub levels-stop : (n q : ℕ) → LevelsApply ws hs room n q → Stops n q (judgedLevels ws hs room)
   levels-stop n q (of-count (count o)) = count-stops o
-  levels-stop n q (of-room (lists o)) = lists-stop o
-  levels-stop n q (of-room (buffer o)) = buffer-stops o
+  levels-stop n q (of-lengths (lists o)) = lists-stop o
+  levels-stop n q (of-lengths (buffer o)) = buffer-stops o
   levels-stop n q (of-weights (weight x l o)) = weight-stops x l o
   levels-stop n q (of-heights (height x l o)) = height-stops x l (inl o)
   levels-stop n q (of-heights (rising x l o)) = height-stops x l (inr o)

@@ -8,7 +8,7 @@ use Prim.Native.Nat.{ℕ, _≤_}
 use native.Mathlib.Omega.{arith}
 use borrow.Author.Tests.{ne-eqb}
 use Rattle.limits.specs.Applies.{OutOf, NotListed}
-use Rattle.limits.specs.Order.{rank}
+use Rattle.limits.specs.Order.{NoLater}
 use Rattle.limits.specs.Ranges.{among, within, listed}
 use Rattle.limits.proofs.Ahead.{Ahead, Stops, Yields, UpTo, require-up-to, require-yields, require-stops, within-stops}
 
@@ -32,6 +32,6 @@ module _ (n q : ℕ) where
   unfolding listed
   listed-stops vs x m p o a = require-stops n q (among vs x) m p (not-among vs x o) a
 
-pub listed-up-to : (m : ℕ) (vs : List ℕ) (x k p : ℕ) → rank k ≤ rank m → UpTo m (listed vs x k p)
+pub listed-up-to : (m : ℕ) (vs : List ℕ) (x k p : ℕ) → NoLater k m → UpTo m (listed vs x k p)
 unfolding listed
 listed-up-to m vs x k p h = require-up-to m (among vs x) k p h

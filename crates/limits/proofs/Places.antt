@@ -1,4 +1,4 @@
--- The refusals of a job are among 1 to 15; which of them name a place: 3 to 6 do, the others have place 0.
+-- The refusals of a job are 1 to 12; which of them name a place: 3 to 6 do, the others have place 0.
 -- Assumes nothing.
 use mathlib.Core.Path.{_≡_, refl}
 use mathlib.Core.List.{List}
@@ -7,15 +7,15 @@ use Prim.Native.Nat.{ℕ, zero, suc, _+_, _≤_, _<_}
 use native.Mathlib.Omega.{arith}
 use Rattle.limits.specs.declared.frame.FrameValues.{FrameValues}
 use Rattle.limits.specs.declared.site.SiteValues.{SiteValues}
-use Rattle.limits.specs.Applies.{count, lists, buffer, weight, height, rising, LevelsApply, of-count, of-room, of-weights, of-heights, SiteApplies, ss-design, s1-design, ss-mce, s1-mce, na, nv, class, FrameApplies, r, i, alpha, kind, period, Applies, of-levels, of-site, of-frame}
+use Rattle.limits.specs.Applies.{count, lists, buffer, weight, height, rising, LevelsApply, of-count, of-lengths, of-weights, of-heights, SiteApplies, ss-design, s1-design, ss-mce, s1-mce, na, nv, class, FrameApplies, r, i, alpha, kind, period, Applies, of-levels, of-site, of-frame}
 
 abbrev pub Named : ℕ → ℕ → Type 0
 Named n p = ((3 ≤ n) × (n ≤ 6) × (1 ≤ p)) ⊎ (((n < 3) ⊎ (6 < n)) × (p ≡ 0))
 
 named-levels : {ws hs : List ℕ} {room n p : ℕ} → LevelsApply ws hs room n p → Named n p
 named-levels (of-count (count o)) = inr (inl (omega arith), refl)
-named-levels (of-room (lists o)) = inr (inl (omega arith), refl)
-named-levels (of-room (buffer o)) = inr (inl (omega arith), refl)
+named-levels (of-lengths (lists o)) = inr (inl (omega arith), refl)
+named-levels (of-lengths (buffer o)) = inr (inl (omega arith), refl)
 named-levels (of-weights (weight x l o)) = inl (omega arith)
 named-levels (of-heights (height x l o)) = inl (omega arith)
 named-levels (of-heights (rising x l o)) = inl (omega arith)
@@ -41,10 +41,10 @@ named (of-levels a) = named-levels a
 named (of-site a) = named-site a
 named (of-frame a) = named-frame a
 
-pub numbered : {s : SiteValues} {f : FrameValues} {ws hs : List ℕ} {room n p : ℕ} → Applies s f ws hs room n p → (1 ≤ n) × (n ≤ 15)
+pub numbered : {s : SiteValues} {f : FrameValues} {ws hs : List ℕ} {room n p : ℕ} → Applies s f ws hs room n p → (1 ≤ n) × (n ≤ 12)
 numbered (of-levels (of-count (count o))) = omega arith
-numbered (of-levels (of-room (lists o))) = omega arith
-numbered (of-levels (of-room (buffer o))) = omega arith
+numbered (of-levels (of-lengths (lists o))) = omega arith
+numbered (of-levels (of-lengths (buffer o))) = omega arith
 numbered (of-levels (of-weights (weight x l o))) = omega arith
 numbered (of-levels (of-heights (height x l o))) = omega arith
 numbered (of-levels (of-heights (rising x l o))) = omega arith

@@ -14,7 +14,7 @@ use Rattle.limits.specs.declared.frame.FrameValues.{FrameValues}
 use Rattle.limits.specs.declared.judging.Given.{Given}
 use Rattle.limits.specs.declared.site.SiteValues.{SiteValues}
 use Rattle.limits.specs.Allowed.{below}
-use Rattle.limits.specs.Applies.{OutOf, NotListed, count, lists, buffer, weight, height, rising, LevelsApply, of-count, of-room, of-weights, of-heights, SiteApplies, ss-design, s1-design, ss-mce, s1-mce, na, nv, class, FrameApplies, r, i, alpha, kind, period, Applies, of-levels, of-site, of-frame}
+use Rattle.limits.specs.Applies.{OutOf, NotListed, count, lists, buffer, weight, height, rising, LevelsApply, of-count, of-lengths, of-weights, of-heights, SiteApplies, ss-design, s1-design, ss-mce, s1-mce, na, nv, class, FrameApplies, r, i, alpha, kind, period, Applies, of-levels, of-site, of-frame}
 use Rattle.limits.specs.Frame.{judgedKind, judgedPeriod, judgedFrame}
 use Rattle.limits.specs.Judging.{judgedJob}
 use Rattle.limits.specs.Levels.{counted, paired, roomy, judgedWeight, weighed, judgedHeight, raised, judgedLevels}
@@ -74,9 +74,9 @@ module _ (ws hs : List ℕ) (room : ℕ) where
   levels-told =
       then-told A (counted (length ws)) _ (within-told A 1 50 (length ws) 1 0 (λ o. of-count (count o)))
       (λ _. then-told A (paired (length ws) (length hs)) _
-      (require-told A (eqb (length hs) (length ws)) 2 0 (λ e. of-room (lists (eqb-false _ _ e))))
+      (require-told A (eqb (length hs) (length ws)) 2 0 (λ e. of-lengths (lists (eqb-false _ _ e))))
       (λ _. then-told A (roomy (length ws) room) _
-      (require-told A (leb (length ws) room) 2 0 (λ e. of-room (buffer (leb-false _ _ e))))
+      (require-told A (leb (length ws) room) 2 0 (λ e. of-lengths (buffer (leb-false _ _ e))))
       (λ _. then-told A (weighed 1 ws) (raised 0 1 hs)
       (weighed-told A 1 ws (λ x l o. of-weights (weight x l o)))
       (λ _. raised-told A 0 1 hs (λ x l o. of-heights (height x l o)) (λ x l o. of-heights (rising x l o))))))

@@ -1,13 +1,14 @@
--- When each refusal of a job applies: 'What comes back when data is bad', 1 to 12, part by part. Level x, from 0, has place 1 + x.
+-- When each refusal of a job applies: 'What comes back when data is bad', 1 to 12, part by part. In each part refusal n applies at place p.
+-- Level x, from 0, has place 1 + x.
 --   OutOf least most x           x is not from least to most
 --   NotListed vs x               x is none of the values
---   CountApplies ws n p          refusal n applies at place p: 1, of weights ws
---   RoomApplies ws hs room n p   2, of heights hs beside them and a shortest result buffer of `room` cells
---   WeightApplies ws n p         3
---   HeightApplies hs n p         4
---   LevelsApply ws hs room n p   1 to 4, any of these
---   SiteApplies s n p            5 to 7, of a site s
---   FrameApplies f n p           8 to 12, of a frame f
+--   CountApplies ws n p          1: the list has no level, or over 50
+--   LengthsApply ws hs room n p  2: a list hs of another length, or a shortest result buffer of fewer cells, `room` of them
+--   WeightApplies ws n p         3: a weight
+--   HeightApplies hs n p         4: a height, or one that does not rise
+--   LevelsApply ws hs room n p   1 to 4: any of these
+--   SiteApplies s n p            5 to 7: of a site
+--   FrameApplies f n p           8 to 12: of a frame
 --   Applies s f ws hs room n p   of a job: of its levels, its site or its frame
 use mathlib.Core.Path.{_≡_}
 use mathlib.Core.List.{List, [], _∷_}
@@ -28,9 +29,9 @@ NotListed (v ∷ vs) x = (x ≡ v → ⊥) × NotListed vs x
 pub data CountApplies (ws : List ℕ) : ℕ → ℕ → Type 0 where
   count : OutOf 1 50 (length ws) → CountApplies ws 1 0
 
-pub data RoomApplies (ws hs : List ℕ) (room : ℕ) : ℕ → ℕ → Type 0 where
-  lists : (length hs ≡ length ws → ⊥) → RoomApplies ws hs room 2 0
-  buffer : room < length ws → RoomApplies ws hs room 2 0
+pub data LengthsApply (ws hs : List ℕ) (room : ℕ) : ℕ → ℕ → Type 0 where
+  lists : (length hs ≡ length ws → ⊥) → LengthsApply ws hs room 2 0
+  buffer : room < length ws → LengthsApply ws hs room 2 0
 
 pub data WeightApplies (ws : List ℕ) : ℕ → ℕ → Type 0 where
   weight : (x : ℕ) → x < length ws → OutOf 1 20_000 (getD ws x 0) → WeightApplies ws 3 (1 + x)
@@ -41,7 +42,7 @@ pub data HeightApplies (hs : List ℕ) : ℕ → ℕ → Type 0 where
 
 pub data LevelsApply (ws hs : List ℕ) (room n p : ℕ) : Type 0 where
   of-count : CountApplies ws n p → LevelsApply ws hs room n p
-  of-room : RoomApplies ws hs room n p → LevelsApply ws hs room n p
+  of-lengths : LengthsApply ws hs room n p → LevelsApply ws hs room n p
   of-weights : WeightApplies ws n p → LevelsApply ws hs room n p
   of-heights : HeightApplies hs n p → LevelsApply ws hs room n p
 

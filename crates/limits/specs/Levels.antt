@@ -9,7 +9,7 @@
 --   totalMost          the largest W, in kN: 50 levels of 20,000
 --   topHeight hs       h, the top height: the last of the heights
 use mathlib.Core.List.{List, [], _∷_}
-use Prim.Native.Nat.{ℕ, _+_}
+use Prim.Native.Nat.{ℕ, _+_, _*_}
 use lib.Dec.{leb, ltb, eqb}
 use lib.ListN.{length}
 use Rattle.limits.specs.Ranges.{within}
@@ -53,7 +53,7 @@ judgedLevels ws hs room = do
   raised 0 1 hs
 
 abbrev pub totalMost : ℕ
-totalMost = 1_000_000
+totalMost = 50 * 20_000
 
 abbrev pub topHeight : List ℕ → ℕ
 topHeight [] = 0

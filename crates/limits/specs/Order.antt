@@ -1,11 +1,14 @@
 -- The order in which refusals are judged, apart from their numbers: 'The lowest number that applies is given'; '17, then 16, precede
 -- everything for a sheet'; 'for a log 2 precedes 13'.
---   order         the numbers of every entry, those that are judged first in front
---   rank n        how many of them are judged before n
+--   order         the numbers, those that are judged first in front: of a sheet, of a job and of a soil log
+--   rank n        how many of them are judged before n; rankIn ms n    the same in a list ms. A number that is not in the list ranks after
+--                 all that are, so each number must stand there
 --   Before m n    m is judged before n
--- That these sentences hold of it: `lowest-first`, `sheet-first` (proofs/Ascending.antt).
+--   NoLater m n   m is judged no later than n
+-- That these sentences hold of it: `lowest-first`, `sheet-first` (proofs/Ascending.antt). That jobs and logs are judged in it: their
+-- `first-number`; a sheet's 17 and 16 come before its job by what `sheetListing` is.
 use mathlib.Core.List.{List, [], _∷_}
-use Prim.Native.Nat.{ℕ, suc, _<_}
+use Prim.Native.Nat.{ℕ, suc, _≤_, _<_}
 use lib.Dec.{eqb}
 use Rattle.whole.specs.Choice.{pick}
 
@@ -21,3 +24,6 @@ rank n = rankIn order n
 
 abbrev pub Before : ℕ → ℕ → Type 0
 Before m n = rank m < rank n
+
+abbrev pub NoLater : ℕ → ℕ → Type 0
+NoLater m n = rank m ≤ rank n

@@ -2,7 +2,8 @@
 --   goesOn v b              the byte b goes on with a number whose digits so far write v: a digit that keeps it within 64 bits
 --   numberFrom at v bytes   the number that the bytes, the first of them at place `at`, go on with, and where the next begins:
 --                           past the byte that ends it, or at the end
---   numberAt s at           the number that begins at place `at` of s
+--   numberAt s at           the number that begins at place `at` of s; where no digit stands there, 0. A digit past 64 bits ends a number,
+--                           as any other byte does
 --   start s at k            where the k-th number after the one at `at` begins
 --   Row s at count r        r is the row of `count` numbers from `at` on: they stand in the first cells, and the others hold 0
 -- ℕ's subtraction stops at 0; a digit is 48 or more.

@@ -11,7 +11,8 @@
 --   cellsOf l                     the first 50 of a list in 50 cells, zeros in the rest
 --   levelAnswer c o               the code's answer to the reading o of a level line from c on: weight, height, where the next begins
 --   levelsRead o, sheetRead o     the code's answer to the outcome o, its weights and heights in 50 cells each
---   levelsOutcome a, sheetOutcome a    what the code's answer a says: how many level lines there are, or the refusal
+--   levelsOutcome a, sheetOutcome a    what the code's answer a says: how many level lines there are, with site and frame of a sheet; or
+--                                 the refusal
 -- A sheet without level lines is read: 1 is refused by the job. A line that lacks its LF, or that is not there, is otherwise.
 use mathlib.Core.List.{List, [], _∷_}
 use Prim.Native.Nat.{ℕ, zero, suc, _+_}
@@ -130,6 +131,6 @@ abbrev pub levelsOutcome : LevelsAnswer → Outcome ℕ
 levelsOutcome (TakenLevels n) = accepted n
 levelsOutcome (RefusedLevels r) = refused (r .number) (r .place)
 
-abbrev pub sheetOutcome : SheetAnswer → Outcome ℕ
-sheetOutcome (Taken s f n) = accepted n
+abbrev pub sheetOutcome : SheetAnswer → Outcome (SiteValues × (FrameValues × ℕ))
+sheetOutcome (Taken s f n) = accepted (s, (f, n))
 sheetOutcome (Refused r) = refused (r .number) (r .place)

@@ -1,6 +1,5 @@
 // A sheet: how it is read, and the listing that it gets.
 use limits::levels::counted;
-use limits::refusal::Refusal;
 use limits::refusal::Verdict;
 use listing::Listing;
 use listing::put_job;

@@ -1,5 +1,5 @@
--- The refusal that is given is the first that applies: 'the lowest number that applies is given, at its lowest place, but
--- 14 at a layer of thickness 0 if there is one'. Accepted data is data to which none applies.
+-- The refusal that is given is the first that applies, in the order in which they are judged (`order`), and so 'the lowest number that
+-- applies .., at its lowest place, but 14 at a layer of thickness 0 if there is one'. Accepted data is data to which none applies.
 -- Assumes nothing.
 use mathlib.Core.Path.{_≡_, refl, subst}
 use mathlib.Core.Bool.{not}
@@ -14,7 +14,7 @@ use Rattle.whole.specs.Cells.{sum}
 use Rattle.whole.proofs.Choice.{by-test}
 use Rattle.limits.specs.declared.site.Class.{Class}
 use Rattle.limits.specs.Levels.{paired}
-use Rattle.limits.specs.Order.{rank, Before}
+use Rattle.limits.specs.Order.{Before, NoLater}
 use Rattle.limits.specs.Outcome.{accepted, refused, require, _>>=_, _>>_}
 use Rattle.limits.specs.Ranges.{within}
 use Rattle.soil.specs.declared.class.ClassLimits.{ClassLimits}
@@ -142,7 +142,7 @@ numbered (layer i h w) = omega arith
 
 module _ (l : ClassLimits) (ds ks xs : List ℕ) where
   -- the first number that applies is given
-  pub first-number : (n p m q : ℕ) → siteClass l ds ks xs ≡ refused n p → Applies ds ks xs m q → rank n ≤ rank m
+  pub first-number : (n p m q : ℕ) → siteClass l ds ks xs ≡ refused n p → Applies ds ks xs m q → NoLater n m
   first-number n p m q e a = stopped-number m q n p (subst (Stops m q) e (stops ds ks xs l m q a))
 
   -- which is the lowest

@@ -1,4 +1,4 @@
--- A layer's velocity is at least 500 dm/s, so that no time is a quotient by 0; there are as many velocities as layers.
+-- A layer's velocity is above 0, so that no time is a quotient by 0; there are as many velocities as layers.
 --   Positive vs    every velocity of the list is above 0
 -- Assumes nothing.
 use mathlib.Core.Path.{_≡_, sym, ap, subst}

@@ -8,7 +8,7 @@
 --   Standing ws hs  levels, at least one, whose P is above 0 and whose heights rise to at most 2,000 dm
 use mathlib.Core.Path.{_≡_}
 use mathlib.Core.List.{List}
-use Prim.Native.Nat.{ℕ, _+_, _*_, _≤_, _<_}
+use Prim.Native.Nat.{ℕ, _+_, _≤_, _<_}
 use lib.ListN.{length, getD}
 use Rattle.whole.specs.Cells.{sum}
 use Rattle.storeys.specs.Storeys.{RoofAtMostOne, weightHeight}
