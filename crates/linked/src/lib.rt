@@ -4,7 +4,7 @@ use limits::frame::FrameValues;
 use limits::site::Class;
 use limits::site::ClassAnswer;
 use limits::site::SiteValues;
-use sheet::put_sheet;
+use sheet::put_in_array;
 ghost use mathlib.Core.Path.{_≡_};
 ghost use Rattle.limits.specs.Site.{classOutcome};
 ghost use Rattle.job.specs.Job.{answerOutcome};
@@ -188,7 +188,11 @@ pub struct SheetReply {
 pub extern "C" fn rukeshomaji_sheet(sheet: &[u8]) -> SheetReply
     ensures { λ r. ⌜ r ≡ sheetReply (now (sheet .entry)) ⌝ }
 {
-    let mut bytes = [0; 4_610];
-    let length = put_sheet(&mut bytes, sheet);
-    SheetReply { bytes, length }
+    let mut reply = SheetReply {
+        bytes: [0; 4_610],
+        length: 0,
+    };
+    let length = put_in_array(&mut reply.bytes, sheet);
+    reply.length = length;
+    reply
 }

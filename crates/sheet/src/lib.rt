@@ -44,3 +44,10 @@ pub fn sheet_listing(s: &[u8]) -> Listing
     let length = put_sheet(&mut bytes, s);
     Listing { bytes, length }
 }
+
+// The same into a lent array, which holds every listing.
+pub fn put_in_array(out: &mut [u8; 4_610], s: &[u8]) -> usize
+    ensures { λ n. ⌜ Written (sheetListing (now (s .entry))) (now (out .entry)) (now (out .exit)) n ⌝ }
+{
+    put_sheet(out, s)
+}

@@ -6,15 +6,11 @@ use Rattle.sheet.proofs.Listings.{printed-is}
 use Rattle.linked.proofs.rukeshomaji_sheet.Statement.{statement}
 use Rattle.linked.proofs.rukeshomaji_sheet.Tie as tie
 
-slice-aggregate-put-sheet : tie.Need-slice-aggregate-put-sheet
-slice-aggregate-put-sheet c = search needs
-
-put-sheet-requires : tie.Need-put-sheet-requires
-put-sheet-requires c κs = search needs
+put-in-array-requires : tie.Need-put-in-array-requires
+put-in-array-requires c κs = search needs
 
 returns : tie.Need-returns
-returns c =
-    ap (λ (l : Listing). record { bytes = l .bytes; length = l .length }) (printed-is (c .before .put-sheet .ensures))
+returns c = ap (λ (l : Listing). record { bytes = l .bytes; length = l .length }) (printed-is (c .put-in-array .ensures))
 
 pub rukeshomaji-sheet-spec : {M : Type 1} → statement M
-rukeshomaji-sheet-spec = tie.close (tie.spec slice-aggregate-put-sheet put-sheet-requires returns)
+rukeshomaji-sheet-spec = tie.close (tie.spec put-in-array-requires returns)
