@@ -10,6 +10,9 @@ use Rattle.limits.specs.declared.frame.KindAnswer.the-variants.{Taken as
 use Rattle.limits.specs.declared.judging.Given.{Given}
 use Rattle.limits.specs.declared.judging.GivenAnswer.{GivenAnswer}
 use Rattle.limits.specs.declared.judging.GivenAnswer.the-variants.{Taken as TakenGiven, Refused as RefusedGiven}
+use Rattle.limits.specs.declared.level.Level.{Level}
+use Rattle.limits.specs.declared.level.LevelAnswer.{LevelAnswer}
+use Rattle.limits.specs.declared.level.LevelAnswer.the-variants.{Taken as TakenLevel, Refused as RefusedLevel}
 use Rattle.limits.specs.declared.refusal.Refusal.{Refusal}
 use Rattle.limits.specs.declared.refusal.Verdict.{Verdict}
 use Rattle.limits.specs.declared.refusal.Verdict.the-variants.{Passed, Refused as RefusedVerdict}
@@ -21,6 +24,7 @@ use Rattle.limits.specs.declared.site.SiteAnswer.{SiteAnswer}
 use Rattle.limits.specs.declared.site.SiteAnswer.the-variants.{Taken as TakenSite, Refused as RefusedSite}
 use Rattle.limits.specs.Frame.{kindOutcome, frameOutcome}
 use Rattle.limits.specs.Judging.{givenOutcome}
+use Rattle.limits.specs.Levels.{levelOutcome}
 use Rattle.limits.specs.Outcome.{Outcome, accepted, refused, Done, verdictOutcome}
 use Rattle.limits.specs.Site.{classOutcome, siteOutcome}
 
@@ -36,43 +40,29 @@ one-answer {a = a} {b = b} says taken stopped same p q =
     sym (same a) ∙ ap (back taken stopped) (p ∙ sym q) ∙ same b
 
 pub verdict-unique : {a b : Verdict} {o : Outcome Done} → verdictOutcome a ≡ o → verdictOutcome b ≡ o → a ≡ b
-verdict-unique = one-answer verdictOutcome (λ _. Passed) RefusedVerdict same
-  where
-    same : (x : Verdict) → back (λ _. Passed) RefusedVerdict (verdictOutcome x) ≡ x
-    same Passed = refl
-    same (RefusedVerdict r) = refl
+verdict-unique = one-answer verdictOutcome (λ _. Passed) RefusedVerdict
+    (λ x. elim x [ Passed ↦ refl | RefusedVerdict r ↦ refl ])
 
 pub class-unique : {a b : ClassAnswer} {o : Outcome Class} → classOutcome a ≡ o → classOutcome b ≡ o → a ≡ b
-class-unique = one-answer classOutcome TakenClass RefusedClass same
-  where
-    same : (x : ClassAnswer) → back TakenClass RefusedClass (classOutcome x) ≡ x
-    same (TakenClass c) = refl
-    same (RefusedClass r) = refl
+class-unique = one-answer classOutcome TakenClass RefusedClass
+    (λ x. elim x [ TakenClass c ↦ refl | RefusedClass r ↦ refl ])
 
 pub site-unique : {a b : SiteAnswer} {o : Outcome Site} → siteOutcome a ≡ o → siteOutcome b ≡ o → a ≡ b
-site-unique = one-answer siteOutcome TakenSite RefusedSite same
-  where
-    same : (x : SiteAnswer) → back TakenSite RefusedSite (siteOutcome x) ≡ x
-    same (TakenSite s) = refl
-    same (RefusedSite r) = refl
+site-unique = one-answer siteOutcome TakenSite RefusedSite
+    (λ x. elim x [ TakenSite s ↦ refl | RefusedSite r ↦ refl ])
 
 pub kind-unique : {a b : KindAnswer} {o : Outcome Kind} → kindOutcome a ≡ o → kindOutcome b ≡ o → a ≡ b
-kind-unique = one-answer kindOutcome TakenKind RefusedKind same
-  where
-    same : (x : KindAnswer) → back TakenKind RefusedKind (kindOutcome x) ≡ x
-    same (TakenKind k) = refl
-    same (RefusedKind r) = refl
+kind-unique = one-answer kindOutcome TakenKind RefusedKind
+    (λ x. elim x [ TakenKind k ↦ refl | RefusedKind r ↦ refl ])
 
 pub frame-unique : {a b : FrameAnswer} {o : Outcome Frame} → frameOutcome a ≡ o → frameOutcome b ≡ o → a ≡ b
-frame-unique = one-answer frameOutcome TakenFrame RefusedFrame same
-  where
-    same : (x : FrameAnswer) → back TakenFrame RefusedFrame (frameOutcome x) ≡ x
-    same (TakenFrame f) = refl
-    same (RefusedFrame r) = refl
+frame-unique = one-answer frameOutcome TakenFrame RefusedFrame
+    (λ x. elim x [ TakenFrame f ↦ refl | RefusedFrame r ↦ refl ])
 
 pub given-unique : {a b : GivenAnswer} {o : Outcome Given} → givenOutcome a ≡ o → givenOutcome b ≡ o → a ≡ b
-given-unique = one-answer givenOutcome TakenGiven RefusedGiven same
-  where
-    same : (x : GivenAnswer) → back TakenGiven RefusedGiven (givenOutcome x) ≡ x
-    same (TakenGiven g) = refl
-    same (RefusedGiven r) = refl
+given-unique = one-answer givenOutcome TakenGiven RefusedGiven
+    (λ x. elim x [ TakenGiven g ↦ refl | RefusedGiven r ↦ refl ])
+
+pub level-unique : {a b : LevelAnswer} {o : Outcome Level} → levelOutcome a ≡ o → levelOutcome b ≡ o → a ≡ b
+level-unique = one-answer levelOutcome TakenLevel RefusedLevel
+    (λ x. elim x [ TakenLevel l ↦ refl | RefusedLevel r ↦ refl ])

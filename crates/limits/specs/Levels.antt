@@ -3,17 +3,22 @@
 --   paired n m         2: a list of m beside one of n, at 0: heights beside weights; in a soil log kinds and values beside thicknesses
 --   roomy n cells      2: a result buffer of fewer cells than levels, at 0
 --   judgedWeight w p, judgedHeight b h p    3 and 4 of one level, at p
+--   judgedLevel b w h p    3, then 4, of the level above the height b, and the level
 --   weighed p ws       3: the first weight that is not 1 to 20,000 kN; the first of the list stands at place p
 --   raised b p hs      4: the first height that is not 1 to 2,000 dm or not above the one below it, b below the first
 --   judgedLevels ws hs room    1, 2, 3, 4 in turn; room is the length of the shortest result buffer
 --   totalMost          the largest W, in kN: 50 levels of 20,000
 --   topHeight hs       h, the top height: the last of the heights
+--   levelOutcome a     what the code's answer a says
 use mathlib.Core.List.{List, [], _∷_}
 use Prim.Native.Nat.{ℕ, _+_, _*_}
 use lib.Dec.{leb, ltb, eqb}
 use lib.ListN.{length}
+use Rattle.limits.specs.declared.level.Level.{Level}
+use Rattle.limits.specs.declared.level.LevelAnswer.{LevelAnswer}
+use Rattle.limits.specs.declared.level.LevelAnswer.the-variants.{Taken, Refused}
 use Rattle.limits.specs.Ranges.{within}
-use Rattle.limits.specs.Outcome.{Outcome, accepted, Done, require, _>>_}
+use Rattle.limits.specs.Outcome.{Outcome, accepted, refused, Done, require, _>>_}
 
 abbrev pub counted : ℕ → Outcome Done
 counted n = within 1 50 n 1 0
@@ -31,6 +36,12 @@ abbrev pub judgedHeight : ℕ → ℕ → ℕ → Outcome Done
 judgedHeight b h p = do
   within 1 2_000 h 4 p
   require (ltb b h) 4 p
+
+abbrev pub judgedLevel : ℕ → ℕ → ℕ → ℕ → Outcome Level
+judgedLevel b w h p = do
+  judgedWeight w p
+  judgedHeight b h p
+  accepted (record { weight = w; height = h })
 
 unfoldable pub weighed : ℕ → List ℕ → Outcome Done
 weighed p [] = accepted tt
@@ -59,3 +70,7 @@ abbrev pub topHeight : List ℕ → ℕ
 topHeight [] = 0
 topHeight (h ∷ []) = h
 topHeight (h ∷ (k ∷ hs)) = topHeight (k ∷ hs)
+
+abbrev pub levelOutcome : LevelAnswer → Outcome Level
+levelOutcome (Taken l) = accepted l
+levelOutcome (Refused r) = refused (r .number) (r .place)

@@ -3,13 +3,30 @@ use crate::ranges::within;
 use crate::refusal::Refusal;
 use crate::refusal::Verdict;
 ghost use mathlib.Core.Path.{_≡_};
-ghost use Rattle.limits.specs.Levels.{judgedWeight, judgedHeight};
-ghost use Rattle.limits.specs.Outcome.{verdictOutcome};
+ghost use Rattle.limits.specs.Levels.{judgedWeight, judgedHeight, judgedLevel, levelOutcome};
+ghost use Rattle.limits.specs.Outcome.{refusalOf, verdictOutcome};
 
 // A level: its weight in kN, its height above the base in dm.
 pub struct Level {
     pub weight: u64,
     pub height: u64,
+}
+
+pub enum LevelAnswer {
+    Taken(Level),
+    Refused(Refusal),
+}
+
+impl LevelAnswer {
+    // What it refuses with; where it refuses nothing, zeros.
+    pub fn refusal(self) -> Refusal
+        ensures { λ r. ⌜ r ≡ refusalOf (levelOutcome self) ⌝ }
+    {
+        match self {
+            LevelAnswer::Taken(_) => Refusal::none(),
+            LevelAnswer::Refused(r) => r,
+        }
+    }
 }
 
 impl Level {
@@ -27,7 +44,7 @@ impl Level {
     // What the lowest level rises above.
     pub const BASE: u64 = 0;
 
-    // Weight and height are judged apart: every weight comes before any height.
+    // Weight and height can be judged apart: in a job every weight comes before any height.
     pub fn judged_weight(weight: u64, place: u64) -> Verdict
         ensures { λ v. ⌜ verdictOutcome v ≡ judgedWeight weight place ⌝ }
     {
@@ -60,5 +77,20 @@ impl Level {
             number: Refusal::HEIGHT,
             place,
         })
+    }
+
+    // 3, then 4, of the level above a height.
+    pub fn judged(below: u64, weight: u64, height: u64, place: u64) -> LevelAnswer
+        ensures { λ a. ⌜ levelOutcome a ≡ judgedLevel below weight height place ⌝ }
+    {
+        let w = Self::judged_weight(weight, place);
+        let Verdict::Passed = w else {
+            return LevelAnswer::Refused(w.refusal());
+        };
+        let h = Self::judged_height(below, height, place);
+        let Verdict::Passed = h else {
+            return LevelAnswer::Refused(h.refusal());
+        };
+        LevelAnswer::Taken(Level { weight, height })
     }
 }

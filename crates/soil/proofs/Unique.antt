@@ -23,16 +23,10 @@ one-class ds ks xs p q = class-unique p q
 
 -- `timed`
 pub times-unique : {a b : TimesAnswer} {o : Outcome Times} → timesOutcome a ≡ o → timesOutcome b ≡ o → a ≡ b
-times-unique = one-answer timesOutcome TakenTimes RefusedTimes same
-  where
-    same : (x : TimesAnswer) → back TakenTimes RefusedTimes (timesOutcome x) ≡ x
-    same (TakenTimes t) = refl
-    same (RefusedTimes r) = refl
+times-unique = one-answer timesOutcome TakenTimes RefusedTimes
+    (λ x. elim x [ TakenTimes t ↦ refl | RefusedTimes r ↦ refl ])
 
 -- `measured`, `by_count`, `velocity`
 pub velocity-unique : {a b : VelocityAnswer} {o : Outcome ℕ} → velocityOutcome a ≡ o → velocityOutcome b ≡ o → a ≡ b
-velocity-unique = one-answer velocityOutcome TakenVelocity RefusedVelocity same
-  where
-    same : (x : VelocityAnswer) → back TakenVelocity RefusedVelocity (velocityOutcome x) ≡ x
-    same (TakenVelocity v) = refl
-    same (RefusedVelocity r) = refl
+velocity-unique = one-answer velocityOutcome TakenVelocity RefusedVelocity
+    (λ x. elim x [ TakenVelocity v ↦ refl | RefusedVelocity r ↦ refl ])

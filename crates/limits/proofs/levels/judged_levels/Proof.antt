@@ -1,11 +1,27 @@
 -- `limits::levels::judged_levels` meets its contract. Assumes nothing.
 use borrow.Author.Needs.{needs}
-use mathlib.Core.Path.{ap}
+use borrow.Author.Tests.{eqb-true}
+use mathlib.Core.Path.{_≡_, ap}
+use lib.ListN.{length}
+use Rattle.limits.proofs.Passed.{require-passed}
 use Rattle.limits.proofs.Stages.{says}
-use Rattle.limits.specs.Levels.{judgedLevels}
-use Rattle.limits.specs.Outcome.{verdictOutcome}
+use Rattle.limits.specs.Levels.{counted, paired, roomy, weighed, judgedLevels}
+use Rattle.limits.specs.Outcome.{accepted, verdictOutcome}
 use Rattle.limits.proofs.levels.judged_levels.Statement.{statement}
 use Rattle.limits.proofs.levels.judged_levels.Tie as tie
+
+-- ---- what each judgment that passed says
+counted-passed : (c : tie.After-enum-told) → let a = c .before .before .before .before .before .args in counted (length (a .weights .now)) ≡ accepted tt
+counted-passed c = says verdictOutcome (c .before .before .counted .ensures) (c .enum-told .given .1)
+
+paired-passed : (c : tie.After-enum-told3) → let a = c .before .before .before .before .before .before .before .before .args in paired (length (a .weights .now)) (length (a .heights .now)) ≡ accepted tt
+paired-passed c = says verdictOutcome (c .before .before .paired .ensures) (c .enum-told3 .given .1)
+
+roomy-passed : (c : tie.After-enum-told5) → let a = c .before .before .before .before .before .before .before .before .before .before .before .args in roomy (length (a .weights .now)) (a .room) ≡ accepted tt
+roomy-passed c = says verdictOutcome (c .before .before .roomy .ensures) (c .enum-told5 .given .1)
+
+weighed-passed : (c : tie.After-enum-told7) → let a = c .before .before .before .before .before .before .before .before .before .before .before .before .before .before .args in weighed 1 (a .weights .now) ≡ accepted tt
+weighed-passed c = says verdictOutcome (c .before .before .weighed .ensures) (c .enum-told7 .given .1)
 
 counted-requires : tie.Need-counted-requires
 counted-requires c κs = search needs
@@ -33,7 +49,8 @@ enum-told-4 c = search needs
 returns-2 : tie.Need-returns-2
 unfolding judgedLevels
 returns-2 c =
-    simp (says verdictOutcome (c .before .before .before .before .before .counted .ensures) (c .before .before .before .enum-told .given .1), says verdictOutcome (c .before .before .paired .ensures) (c .enum-told4 .given .1)) (ap verdictOutcome (c .enum-told4 .given .1))
+    simp (counted-passed (c .before .before .before), says verdictOutcome (c .before .before .paired .ensures) (c .enum-told4 .given .1))
+    (ap verdictOutcome (c .enum-told4 .given .1))
 
 roomy-requires : tie.Need-roomy-requires
 roomy-requires c κs = search needs
@@ -47,7 +64,8 @@ enum-told-6 c = search needs
 returns-3 : tie.Need-returns-3
 unfolding judgedLevels
 returns-3 c =
-    simp (says verdictOutcome (c .before .before .before .before .before .before .before .before .counted .ensures) (c .before .before .before .before .before .before .enum-told .given .1), says verdictOutcome (c .before .before .before .before .before .paired .ensures) (c .before .before .before .enum-told3 .given .1), says verdictOutcome (c .before .before .roomy .ensures) (c .enum-told6 .given .1)) (ap verdictOutcome (c .enum-told6 .given .1))
+    simp (counted-passed (c .before .before .before .before .before .before), paired-passed (c .before .before .before), says verdictOutcome (c .before .before .roomy .ensures) (c .enum-told6 .given .1))
+    (ap verdictOutcome (c .enum-told6 .given .1))
 
 weighed-requires : tie.Need-weighed-requires
 weighed-requires c κs = search needs
@@ -61,15 +79,16 @@ enum-told-8 c = search needs
 returns-4 : tie.Need-returns-4
 unfolding judgedLevels
 returns-4 c =
-    simp (says verdictOutcome (c .before .before .before .before .before .before .before .before .before .before .before .counted .ensures) (c .before .before .before .before .before .before .before .before .before .enum-told .given .1), says verdictOutcome (c .before .before .before .before .before .before .before .before .paired .ensures) (c .before .before .before .before .before .before .enum-told3 .given .1), says verdictOutcome (c .before .before .before .before .before .roomy .ensures) (c .before .before .before .enum-told5 .given .1), says verdictOutcome (c .before .before .weighed .ensures) (c .enum-told8 .given .1)) (ap verdictOutcome (c .enum-told8 .given .1))
+    simp (counted-passed (c .before .before .before .before .before .before .before .before .before), paired-passed (c .before .before .before .before .before .before), roomy-passed (c .before .before .before), says verdictOutcome (c .before .before .weighed .ensures) (c .enum-told8 .given .1))
+    (ap verdictOutcome (c .enum-told8 .given .1))
 
 raised-requires : tie.Need-raised-requires
-raised-requires c κs = search needs
+raised-requires c κs = (eqb-true _ _ (require-passed _ 2 0 (paired-passed (c .before .before .before .before .before .before))), weighed-passed c)
 
 returns-5 : tie.Need-returns-5
 unfolding judgedLevels
 returns-5 c =
-    simp (says verdictOutcome (c .before .before .before .before .before .before .before .before .before .before .before .before .counted .ensures) (c .before .before .before .before .before .before .before .before .before .before .enum-told .given .1), says verdictOutcome (c .before .before .before .before .before .before .before .before .before .paired .ensures) (c .before .before .before .before .before .before .before .enum-told3 .given .1), says verdictOutcome (c .before .before .before .before .before .before .roomy .ensures) (c .before .before .before .before .enum-told5 .given .1), says verdictOutcome (c .before .before .before .weighed .ensures) (c .before .enum-told7 .given .1)) (c .raised .ensures)
+    simp (counted-passed (c .before .before .before .before .before .before .before .before .before .before), paired-passed (c .before .before .before .before .before .before .before), roomy-passed (c .before .before .before .before), weighed-passed (c .before)) (c .raised .ensures)
 
 pub judged-levels-spec : {M : Type 1} → statement M
 judged-levels-spec =

@@ -1,11 +1,25 @@
 -- `limits::frame::Frame::judged` meets its contract. Assumes nothing.
 use borrow.Author.Needs.{needs}
-use mathlib.Core.Path.{refl}
+use mathlib.Core.List.{[], _∷_}
+use mathlib.Core.Path.{_≡_, refl}
 use Rattle.limits.proofs.Stages.{says, stopped}
 use Rattle.limits.specs.Frame.{kindOutcome, judgedFrame}
-use Rattle.limits.specs.Outcome.{verdictOutcome}
+use Rattle.limits.specs.Outcome.{accepted, verdictOutcome}
+use Rattle.limits.specs.Ranges.{within, listed}
 use Rattle.limits.proofs.frame.Frame.judged.Statement.{statement}
 use Rattle.limits.proofs.frame.Frame.judged.Tie as tie
+
+-- ---- what each judgment that passed says
+r-passed : (c : tie.After-enum-told) → within 100 600 (c .before .before .before .args .v .r) 8 0 ≡ accepted tt
+r-passed c = says verdictOutcome (c .before .before .within .ensures) (c .enum-told .given .1)
+
+i-passed : (c : tie.After-enum-told3)
+    → listed (100 ∷ 125 ∷ 150 ∷ []) (c .before .before .before .before .before .before .before .args .v .i) 9 0 ≡ accepted tt
+i-passed c = says verdictOutcome (c .before .before .listed .ensures) (c .enum-told3 .given .1)
+
+alpha-passed : (c : tie.After-enum-told5)
+    → within 100 200 (c .before .before .before .before .before .before .before .before .before .before .args .v .alpha) 10 0 ≡ accepted tt
+alpha-passed c = says verdictOutcome (c .before .before .within2 .ensures) (c .enum-told5 .given .1)
 
 within-requires : tie.Need-within-requires
 within-requires c κs = search needs
@@ -44,7 +58,7 @@ unfolding judgedFrame
 returns-2 c =
     let c₁ = c .before .before .before .before .before in
     simp (
-      says verdictOutcome (c₁ .before .before .within .ensures) (c₁ .enum-told .given .1),
+      r-passed c₁,
       stopped verdictOutcome _ _ (c .before .before .before .listed .ensures) (c .before .enum-told4 .given .1) refl (c .refusal2 .ensures),
     )
 
@@ -66,8 +80,8 @@ returns-3 c =
     let c₂ = c .before .before .before .before in
     let c₁ = c₂ .before .before .before .before in
     simp (
-      says verdictOutcome (c₁ .before .before .within .ensures) (c₁ .enum-told .given .1),
-      says verdictOutcome (c₂ .before .before .listed .ensures) (c₂ .enum-told3 .given .1),
+      r-passed c₁,
+      i-passed c₂,
       stopped verdictOutcome _ _ (c .before .before .before .within2 .ensures) (c .before .enum-told6 .given .1) refl (c .refusal3 .ensures),
     )
 
@@ -90,9 +104,9 @@ returns-4 c =
     let c₂ = c₃ .before .before .before in
     let c₁ = c₂ .before .before .before .before in
     simp (
-      says verdictOutcome (c₁ .before .before .within .ensures) (c₁ .enum-told .given .1),
-      says verdictOutcome (c₂ .before .before .listed .ensures) (c₂ .enum-told3 .given .1),
-      says verdictOutcome (c₃ .before .before .within2 .ensures) (c₃ .enum-told5 .given .1),
+      r-passed c₁,
+      i-passed c₂,
+      alpha-passed c₃,
       stopped kindOutcome _ _ (c .before .before .before .judged .ensures) (c .before .enum-told7 .given .1) refl (c .refusal4 .ensures),
     )
 
@@ -116,9 +130,9 @@ returns-5 c =
     let c₂ = c₃ .before .before .before in
     let c₁ = c₂ .before .before .before .before in
     simp (
-      says verdictOutcome (c₁ .before .before .within .ensures) (c₁ .enum-told .given .1),
-      says verdictOutcome (c₂ .before .before .listed .ensures) (c₂ .enum-told3 .given .1),
-      says verdictOutcome (c₃ .before .before .within2 .ensures) (c₃ .enum-told5 .given .1),
+      r-passed c₁,
+      i-passed c₂,
+      alpha-passed c₃,
       says kindOutcome (c₄ .before .before .judged .ensures) (c₄ .k .given .1),
       stopped verdictOutcome _ _ (c .before .before .before .judged-period .ensures) (c .before .enum-told9 .given .1) refl (c .refusal5 .ensures),
     )
@@ -132,9 +146,9 @@ returns-6 c =
     let c₂ = c₃ .before .before .before in
     let c₁ = c₂ .before .before .before .before in
     simp (
-      says verdictOutcome (c₁ .before .before .within .ensures) (c₁ .enum-told .given .1),
-      says verdictOutcome (c₂ .before .before .listed .ensures) (c₂ .enum-told3 .given .1),
-      says verdictOutcome (c₃ .before .before .within2 .ensures) (c₃ .enum-told5 .given .1),
+      r-passed c₁,
+      i-passed c₂,
+      alpha-passed c₃,
       says kindOutcome (c₄ .before .before .judged .ensures) (c₄ .k .given .1),
       says verdictOutcome (c₅ .before .before .judged-period .ensures) (c₅ .enum-told8 .given .1),
     )
