@@ -31,20 +31,24 @@ unfolding raised
 heights-end hs b p = rw (drop-length hs)
 
 -- ---- heights judged level by level, where the weights have passed
-module _ (ws hs : List ℕ) (b p i : ℕ) (h : i < length ws) (same : length hs ≡ length ws) (e : weighed p (drop i ws) ≡ accepted tt) where
+module _ (ws : List ℕ) (p i : ℕ) (h : i < length ws) (e : weighed p (drop i ws) ≡ accepted tt) where
   passed : (judgedWeight (getD ws i 0) p ≡ accepted tt) × (weighed (p + 1) (drop (i + 1) ws) ≡ accepted tt)
   passed = then-passed (judgedWeight (getD ws i 0) p) (weighed (p + 1) (drop (i + 1) ws)) (sym (weights-step ws p i h) ∙ e)
+
+  pub weight-passed : judgedWeight (getD ws i 0) p ≡ accepted tt
+  weight-passed = passed .0
 
   pub weights-go-on : weighed (p + 1) (drop (i + 1) ws) ≡ accepted tt
   weights-go-on = passed .1
 
-  pub levels-step : raised b p (drop i hs)
+  pub levels-step : (hs : List ℕ) (b : ℕ) → length hs ≡ length ws
+      → raised b p (drop i hs)
       ≡ (judgedLevel b (getD ws i 0) (getD hs i 0) p >>= (λ l. raised (l .height) (p + 1) (drop (i + 1) hs)))
-  levels-step =
-      heights-step hs b p i (omega arith)
-      ∙ simp (passed .0) (built (judgedHeight b (getD hs i 0) p))
+  levels-step hs b same =
+      heights-step hs b p i (omega arith) ∙ simp weight-passed (built (λ height. raised height (p + 1) (drop (i + 1) hs)) (judgedHeight b (getD hs i 0) p))
     where
-      built : (o : Outcome Done) → (o >> raised (getD hs i 0) (p + 1) (drop (i + 1) hs))
-          ≡ ((o >> accepted (record { weight = getD ws i 0; height = getD hs i 0 })) >>= (λ (l : Level). raised (l .height) (p + 1) (drop (i + 1) hs)))
-      built (accepted u) = refl
-      built (refused n q) = refl
+      built : (rest : ℕ → Outcome Done) (o : Outcome Done)
+          → (o >> rest (getD hs i 0))
+          ≡ ((o >> accepted (record { weight = getD ws i 0; height = getD hs i 0 })) >>= (λ (l : Level). rest (l .height)))
+      built rest (accepted u) = refl
+      built rest (refused n q) = refl

@@ -4,7 +4,7 @@ use crate::refusal::Refusal;
 use crate::refusal::Verdict;
 ghost use mathlib.Core.Path.{_≡_};
 ghost use Rattle.limits.specs.Levels.{judgedWeight, judgedHeight, judgedLevel, levelOutcome};
-ghost use Rattle.limits.specs.Outcome.{refusalOf, verdictOutcome};
+ghost use Rattle.limits.specs.Outcome.{accepted, refusalOf, verdictOutcome};
 
 // A level: its weight in kN, its height above the base in dm.
 pub struct Level {
@@ -44,7 +44,7 @@ impl Level {
     // What the lowest level rises above.
     pub const BASE: u64 = 0;
 
-    // Weight and height can be judged apart: in a job every weight comes before any height.
+    // 3, of a weight.
     pub fn judged_weight(weight: u64, place: u64) -> Verdict
         ensures { λ v. ⌜ verdictOutcome v ≡ judgedWeight weight place ⌝ }
     {
@@ -57,6 +57,7 @@ impl Level {
         )
     }
 
+    // 4, of a height above the one below it.
     pub fn judged_height(below: u64, height: u64, place: u64) -> Verdict
         ensures { λ v. ⌜ verdictOutcome v ≡ judgedHeight below height place ⌝ }
     {
@@ -79,14 +80,11 @@ impl Level {
         })
     }
 
-    // 3, then 4, of the level above a height.
+    // The level above a height: 4, where 3 has passed. In a job every weight is judged before any height, and none twice.
     pub fn judged(below: u64, weight: u64, height: u64, place: u64) -> LevelAnswer
+        requires { ⌜ judgedWeight weight place ≡ accepted tt ⌝ }
         ensures { λ a. ⌜ levelOutcome a ≡ judgedLevel below weight height place ⌝ }
     {
-        let w = Self::judged_weight(weight, place);
-        let Verdict::Passed = w else {
-            return LevelAnswer::Refused(w.refusal());
-        };
         let h = Self::judged_height(below, height, place);
         let Verdict::Passed = h else {
             return LevelAnswer::Refused(h.refusal());

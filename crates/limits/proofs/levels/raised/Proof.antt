@@ -5,7 +5,7 @@ use mathlib.Core.Path.{_≡_, refl, sym, ap, _∙_}
 use Prim.Native.Nat.{_+_, _-_, _≤_}
 use native.Mathlib.Omega.{arith}
 use lib.ListN.{length, getD, drop}
-use Rattle.limits.proofs.Lists.{heights-end, levels-step, weights-go-on}
+use Rattle.limits.proofs.Lists.{heights-end, levels-step, weight-passed, weights-go-on}
 use Rattle.limits.proofs.Stages.{says, stopped}
 use Rattle.limits.specs.Levels.{weighed, raised, judgedLevel, levelOutcome}
 use Rattle.limits.specs.Outcome.{accepted, _>>=_}
@@ -34,7 +34,7 @@ stepped c =
     let ws = s .args .weights .now in
     let hs = s .args .heights .now in
     at .loop .inv .1
-    ∙ levels-step ws hs (at .loop .below) (at .loop .i + 1) (at .loop .i) (omega (arith, s .pre .0)) (s .pre .0) (at .loop .inv .2)
+    ∙ levels-step ws (at .loop .i + 1) (at .loop .i) (omega (arith, s .pre .0)) (at .loop .inv .2) hs (at .loop .below) (s .pre .0)
 
 loop-holds : tie.Need-loop-holds Inv-loop μ-loop
 loop-holds c = search needs
@@ -55,7 +55,10 @@ add-judged : tie.Need-add-judged Inv-loop μ-loop
 add-judged c = search needs
 
 judged-requires : tie.Need-judged-requires Inv-loop μ-loop
-judged-requires c κs = search needs
+judged-requires c κs =
+    let at = c .before .before .before in
+    let s = at .before .before .before in
+    weight-passed (s .args .weights .now) (at .loop .i + 1) (at .loop .i) (omega (arith, s .pre .0)) (at .loop .inv .2)
 
 enum-known-a : tie.Need-enum-known-a Inv-loop μ-loop
 enum-known-a c = search needs
@@ -84,7 +87,7 @@ loop-again c =
     let s = at .before .before .before in (
       omega arith,
       stepped j ∙ simp (says levelOutcome (j .judged .ensures) (c .before .a .given .1)),
-      weights-go-on (s .args .weights .now) (s .args .heights .now) 0 (at .loop .i + 1) (at .loop .i) (omega (arith, s .pre .0)) (s .pre .0) (at .loop .inv .2),
+      weights-go-on (s .args .weights .now) (at .loop .i + 1) (at .loop .i) (omega (arith, s .pre .0)) (at .loop .inv .2),
     )
 
 returns-2 : tie.Need-returns-2 Inv-loop μ-loop
