@@ -9,6 +9,7 @@ use native.Mathlib.Omega.{arith}
 use lib.Dec.{leb, ltb, eqb}
 use lib.ListN.{length, getD}
 use borrow.Author.Tests.{leb-true, ltb-true, eqb-true}
+use Rattle.whole.specs.Cells.{below}
 use Rattle.whole.specs.Choice.{pick}
 use Rattle.limits.specs.declared.frame.Frame.{Frame}
 use Rattle.limits.specs.declared.frame.FrameValues.{FrameValues}
@@ -17,7 +18,7 @@ use Rattle.limits.specs.declared.judging.Given.{Given}
 use Rattle.limits.specs.declared.site.Class.{Class}
 use Rattle.limits.specs.declared.site.Site.{Site}
 use Rattle.limits.specs.declared.site.SiteValues.{SiteValues}
-use Rattle.limits.specs.Allowed.{AllowedSite, AllowedFrame, AllowedLevels, AllowedGiven, below}
+use Rattle.limits.specs.Allowed.{AllowedSite, AllowedFrame, AllowedLevels, AllowedGiven}
 use Rattle.limits.specs.Frame.{judgedKind, judgedPeriod, frameOf, judgedFrame}
 use Rattle.limits.specs.Judging.{judgedJob}
 use Rattle.limits.specs.Levels.{counted, paired, roomy, judgedWeight, weighed, judgedHeight, raised, judgedLevels, topHeight}
@@ -108,10 +109,6 @@ weights-allowed p (w ∷ ws) e zero h = within-passed 1 20_000 w 3 p (then-passe
 weights-allowed p (w ∷ ws) e (suc x) h =
     weights-allowed (p + 1) ws (then-passed (judgedWeight w p) (weighed (p + 1) ws) e .1) x (omega arith)
 
-pub below-more : (a : ℕ) (hs : List ℕ) (x : ℕ) → below a hs x ≡ getD (a ∷ hs) x 0
-below-more a hs zero = refl
-below-more a hs (suc x) = refl
-
 heights-allowed : (b p : ℕ) (hs : List ℕ) → raised b p hs ≡ accepted tt → (x : ℕ) → x < length hs
     → (1 ≤ getD hs x 0) × (getD hs x 0 ≤ 2_000) × (below b hs x < getD hs x 0)
 unfolding raised
@@ -121,8 +118,7 @@ heights-allowed b p (a ∷ hs) e zero h =
     let r = within-passed 1 2_000 a 4 p (j .0) in
     (r .0, r .1, ltb-true b a (require-passed (ltb b a) 4 p (j .1)))
 heights-allowed b p (a ∷ hs) e (suc x) h =
-    let t = heights-allowed a (p + 1) hs (then-passed (judgedHeight b a p) (raised a (p + 1) hs) e .1) x (omega arith) in
-    (t .0, t .1, subst (λ (n : ℕ). n < getD hs x 0) (below-more a hs x) (t .2))
+    heights-allowed a (p + 1) hs (then-passed (judgedHeight b a p) (raised a (p + 1) hs) e .1) x (omega arith)
 
 pub levels-allowed : (ws hs : List ℕ) (room : ℕ) → judgedLevels ws hs room ≡ accepted tt → AllowedLevels ws hs × (length ws ≤ room)
 unfolding judgedLevels

@@ -9,13 +9,12 @@ use native.Mathlib.Omega.{arith}
 use lib.Dec.{ltb}
 use lib.ListN.{length, getD}
 use borrow.Author.Tests.{le-ltb}
-use Rattle.limits.specs.Allowed.{below}
+use Rattle.whole.specs.Cells.{below}
 use Rattle.limits.specs.Applies.{OutOf}
 use Rattle.limits.specs.Levels.{judgedWeight, weighed, judgedHeight, raised}
 use Rattle.limits.specs.Order.{NoLater}
 use Rattle.limits.specs.Outcome.{require}
 use Rattle.limits.specs.Ranges.{within}
-use Rattle.limits.proofs.Accepted.{below-more}
 use Rattle.limits.proofs.Ahead.{Stops, Yields, UpTo, both-up-to, require-up-to, within-up-to, first-stops, later-stops, both-yield, require-yields, require-stops, within-yields}
 use Rattle.limits.proofs.NotAllowed.{range-stops}
 
@@ -67,5 +66,4 @@ raised-stops q b p (a ∷ hs) zero h e l o =
     (⊎-elim (λ out. height-stops q p h b a (omega arith) out) (λ low. rising-stops q p h b a (omega arith) low) o)
 raised-stops q b p (a ∷ hs) (suc x) h e l o =
     later-stops 4 q (judgedHeight b a p) (raised a (p + 1) hs) (height-yields q p h b a (omega arith))
-    (λ _. raised-stops q a (p + 1) hs x (omega arith) (omega arith) (omega arith)
-    (subst (λ (n : ℕ). OutOf 1 2_000 (getD hs x 0) ⊎ (getD hs x 0 ≤ n)) (sym (below-more a hs x)) o))
+    (λ _. raised-stops q a (p + 1) hs x (omega arith) (omega arith) (omega arith) o)

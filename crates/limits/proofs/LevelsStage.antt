@@ -8,7 +8,7 @@ use native.Mathlib.Omega.{arith}
 use lib.Dec.{leb, eqb}
 use lib.ListN.{length, getD}
 use borrow.Author.Tests.{ne-eqb, lt-leb}
-use Rattle.limits.specs.Allowed.{below}
+use Rattle.whole.specs.Cells.{below}
 use Rattle.limits.specs.Applies.{OutOf, count, lists, buffer, weight, height, rising, LevelsApply, of-count, of-lengths, of-weights, of-heights}
 use Rattle.limits.specs.Levels.{counted, paired, roomy, weighed, raised, judgedLevels}
 use Rattle.limits.specs.Order.{Before}

@@ -13,7 +13,7 @@ use Rattle.whole.proofs.Choice.{by-test}
 use Rattle.limits.specs.declared.frame.FrameValues.{FrameValues}
 use Rattle.limits.specs.declared.judging.Given.{Given}
 use Rattle.limits.specs.declared.site.SiteValues.{SiteValues}
-use Rattle.limits.specs.Allowed.{below}
+use Rattle.whole.specs.Cells.{below}
 use Rattle.limits.specs.Applies.{OutOf, NotListed, count, lists, buffer, weight, height, rising, LevelsApply, of-count, of-lengths, of-weights, of-heights, SiteApplies, ss-design, s1-design, ss-mce, s1-mce, na, nv, class, FrameApplies, r, i, alpha, kind, period, Applies, of-levels, of-site, of-frame}
 use Rattle.limits.specs.Frame.{judgedKind, judgedPeriod, judgedFrame}
 use Rattle.limits.specs.Judging.{judgedJob}
@@ -21,7 +21,6 @@ use Rattle.limits.specs.Levels.{counted, paired, roomy, judgedWeight, we
 use Rattle.limits.specs.Outcome.{accepted, refused, require, _>>=_, _>>_}
 use Rattle.limits.specs.Ranges.{among, within, listed}
 use Rattle.limits.specs.Site.{judgedClass, judgedMapped, judgedNearFault, judgedSite}
-use Rattle.limits.proofs.Accepted.{below-more}
 use Rattle.limits.proofs.Passed.{differ}
 use Rattle.limits.proofs.Told.{Told, then-told, bind-told, require-told, within-told, given-applies, accepted-unless, told-as}
 
@@ -62,7 +61,7 @@ raised-told A b p (a ∷ hs) f g =
     (within-told A 1 2_000 a 4 p (λ o. subst (A 4) (add-zero p) (f 0 (omega arith) o)))
     (λ _. require-told A (ltb b a) 4 p (λ e. subst (A 4) (add-zero p) (g 0 (omega arith) (ltb-false b a e)))))
     (λ _. raised-told A a (p + 1) hs (λ x h o. subst (A 4) (next p x) (f (suc x) (omega arith) o))
-    (λ x h l. subst (A 4) (next p x) (g (suc x) (omega arith) (subst (λ (n : ℕ). getD hs x 0 ≤ n) (below-more a hs x) l))))
+    (λ x h l. subst (A 4) (next p x) (g (suc x) (omega arith) l)))
 
 -- ---- the levels
 module _ (ws hs : List ℕ) (room : ℕ) where

@@ -1,13 +1,12 @@
 -- What is known of a job that was judged: the ranges of 'Numbers and their ranges' that the calculation goes by.
 --   AllowedSite s         mapped values and near-fault factors in 0.01
 --   AllowedFrame f        R, I, alpha-y in 0.01, the calculated period in ms
---   below b hs x          the height below level x: that of the level below, or b below the lowest
 --   AllowedLevels ws hs   1 to 50 levels, weights in kN, heights in dm that rise strictly
 --   AllowedGiven g ws hs  a judged site and frame with such levels, and the top height
 -- That what is accepted is so: proofs/Accepted.antt.
 use mathlib.Core.Path.{_≡_}
 use mathlib.Core.List.{List}
-use Prim.Native.Nat.{ℕ, zero, suc, _+_, _≤_, _<_}
+use Prim.Native.Nat.{ℕ, _+_, _≤_, _<_}
 use lib.ListN.{length, getD}
 use Rattle.limits.specs.declared.frame.Frame.{Frame}
 use Rattle.limits.specs.declared.judging.Given.{Given}
@@ -27,10 +26,6 @@ pub record AllowedFrame (f : Frame) : Type 0 where
   pub i : (100 ≤ f .i) × (f .i ≤ 150)
   pub alpha : (100 ≤ f .alpha) × (f .alpha ≤ 200)
   pub period : f .calculated ≤ 60_000
-
-abbrev pub below : ℕ → List ℕ → ℕ → ℕ
-below b hs zero = b
-below b hs (suc x) = getD hs x 0
 
 pub record AllowedLevels (ws hs : List ℕ) : Type 0 where
   pub same : length hs ≡ length ws

@@ -17,7 +17,7 @@ use Prim.Native.Nat.{ℕ, _+_, _≤_, _<_}
 use lib.ListN.{length, getD}
 use Rattle.limits.specs.declared.frame.FrameValues.{FrameValues}
 use Rattle.limits.specs.declared.site.SiteValues.{SiteValues}
-use Rattle.limits.specs.Allowed.{below}
+use Rattle.whole.specs.Cells.{below}
 
 abbrev pub OutOf : ℕ → ℕ → ℕ → Type 0
 OutOf least most x = (x < least) ⊎ (most < x)

@@ -21,7 +21,7 @@ use lib.ListN.{length, drop, getD}
 use Rattle.whole.specs.declared.Fraction.{Fraction}
 use Rattle.whole.specs.Rounding.{up}
 use Rattle.whole.specs.Fraction.{over}
-use Rattle.whole.specs.Cells.{cells, sum, laid}
+use Rattle.whole.specs.Cells.{cells, sum, below, laid}
 use Rattle.storeys.specs.declared.overturning.Borne.{Borne}
 
 abbrev pub roofPart : ℕ → Fraction
@@ -54,8 +54,7 @@ abbrev pub forces : List ℕ → List ℕ
 forces us = cells (force us) (length us)
 
 abbrev pub bottom : List ℕ → ℕ → ℕ
-bottom hs zero = 0
-bottom hs (suc x) = getD hs x 0
+bottom hs x = below 0 hs x
 
 unfoldable pub about : ℕ → List ℕ → List ℕ → ℕ
 about b [] hs = 0
