@@ -34,7 +34,7 @@ not-among (v ∷ vs) x e = go (λ h. not-among vs x h) (eqb v x) refl e
     go rest true q h = absurd (differ h)
     go rest false q h = (λ k. eqb-false v x q (sym k), rest h)
 
-listed-told : (A : ℕ → ℕ → Type 0) (vs : List ℕ) (x n p : ℕ) → (NotListed vs x → A n p) → Told A (listed vs x n p)
+pub listed-told : (A : ℕ → ℕ → Type 0) (vs : List ℕ) (x n p : ℕ) → (NotListed vs x → A n p) → Told A (listed vs x n p)
 unfolding listed
 listed-told A vs x n p f = require-told A (among vs x) n p (λ e. f (not-among vs x e))
 
@@ -42,7 +42,7 @@ listed-told A vs x n p f = require-told A (among vs x) n p (λ e. f (not-among v
 next : (p x : ℕ) → p + suc x ≡ p + 1 + x
 next p x = omega arith
 
-weighed-told : (A : ℕ → ℕ → Type 0) (p : ℕ) (ws : List ℕ) → ((x : ℕ) → x < length ws → OutOf 1 20_000 (getD ws x 0) → A 3 (p + x))
+pub weighed-told : (A : ℕ → ℕ → Type 0) (p : ℕ) (ws : List ℕ) → ((x : ℕ) → x < length ws → OutOf 1 20_000 (getD ws x 0) → A 3 (p + x))
     → Told A (weighed p ws)
 unfolding weighed
 weighed-told A p [] f = tt
@@ -51,7 +51,7 @@ weighed-told A p (w ∷ ws) f =
     (within-told A 1 20_000 w 3 p (λ o. subst (A 3) (add-zero p) (f 0 (omega arith) o)))
     (λ _. weighed-told A (p + 1) ws (λ x h o. subst (A 3) (next p x) (f (suc x) (omega arith) o)))
 
-raised-told : (A : ℕ → ℕ → Type 0) (b p : ℕ) (hs : List ℕ) → ((x : ℕ) → x < length hs → OutOf 1 2_000 (getD hs x 0) → A 4 (p + x))
+pub raised-told : (A : ℕ → ℕ → Type 0) (b p : ℕ) (hs : List ℕ) → ((x : ℕ) → x < length hs → OutOf 1 2_000 (getD hs x 0) → A 4 (p + x))
     → ((x : ℕ) → x < length hs → getD hs x 0 ≤ below b hs x → A 4 (p + x)) → Told A (raised b p hs)
 unfolding raised
 raised-told A b p [] f g = tt
