@@ -12,3 +12,4 @@ pub mod Examples
 pub mod Unique
 pub mod Refusing
 pub mod Foremost
+pub mod Answered
