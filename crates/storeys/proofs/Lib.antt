@@ -4,3 +4,4 @@ pub mod Telescope
 pub mod Turning
 pub mod Bearing
 pub mod Chain
+pub mod Unique
