@@ -21,7 +21,8 @@ use Rattle.job.specs.Job.{Results, jobOf}
 use Rattle.text.specs.Bytes.{bytes}
 use Rattle.text.specs.Writing.{laidOut}
 use Rattle.sheet.specs.declared.listing.Listing.{Listing}
-use Rattle.sheet.specs.Reading.{SheetRead, readSheet}
+use Rattle.sheet.specs.Reading.{readSheet}
+use Rattle.sheet.specs.Sheet.{Sheet}
 
 unfoldable pub roofFirst : List ℕ → List ℕ → List ℕ → ℕ → List ℕ
 roofFirst fs us ms zero = []
@@ -54,8 +55,8 @@ unfoldable pub listing : Outcome Results → List ℕ
 listing (accepted r) = resultsListing (r .figures) (r .forces) (r .shears) (r .overturnings)
 listing (refused n p) = refusal n p
 
-abbrev pub jobOfSheet : SheetRead → Outcome Results
-jobOfSheet r = jobOf (r .site) (r .frame) (r .weights) (r .heights) (length (r .weights))
+abbrev pub jobOfSheet : Sheet → Outcome Results
+jobOfSheet r = jobOf (r .site) (r .frame) (r .levels .weights) (r .levels .heights) (length (r .levels .weights))
 
 unfoldable pub sheetListing : List ℕ → List ℕ
 sheetListing s = listing (readSheet s >>= jobOfSheet)

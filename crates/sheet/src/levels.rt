@@ -1,6 +1,6 @@
 // The level lines of a sheet: all lines from line 3 on, of which the first 50 are kept.
+use crate::layout::LEVEL_LINE;
 use limits::refusal::Refusal;
-use limits::sheet::Sheet;
 use text::line::field;
 use text::number::NumberAnswer;
 use text::reading::Cursor;
@@ -94,7 +94,7 @@ fn keep(cells: &mut [u64], i: usize, v: u64)
 
 // All lines from a cursor on.
 pub fn level_lines(s: &[u8], c: Cursor) -> LevelsRead
-    ensures { λ r. ⌜ r ≡ levelsRead (levelLines 3 (drop (c .at) (now (s .entry)))) ⌝ }
+    ensures { λ r. ⌜ r ≡ levelsRead (levelLines (drop (c .at) (now (s .entry)))) ⌝ }
 {
     let mut weights = [0; 50];
     let mut heights = [0; 50];
@@ -103,7 +103,7 @@ pub fn level_lines(s: &[u8], c: Cursor) -> LevelsRead
     while at < s.len() {
         let a = level_line(s, Cursor { at });
         let LevelAnswer::Found(weight, height, next) = a else {
-            return LevelsRead::otherwise(Sheet::LEVEL_LINE + n as u64);
+            return LevelsRead::otherwise(LEVEL_LINE + n as u64);
         };
         keep(&mut weights, n, weight);
         keep(&mut heights, n, height);

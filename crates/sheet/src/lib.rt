@@ -7,6 +7,7 @@ use listing::put_refusal;
 use reader::SheetAnswer;
 use reader::read_sheet;
 
+pub mod layout;
 pub mod levels;
 pub mod listing;
 pub mod reader;
