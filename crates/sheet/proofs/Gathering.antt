@@ -4,10 +4,10 @@
 use mathlib.Core.Path.{_≡_, refl, sym, ap, _∙_}
 use mathlib.Core.Bool.{true}
 use mathlib.Core.List.{List, [], _∷_, _++_, append-assoc, append-nil, map}
-use Prim.Native.Nat.{ℕ, suc, _+_, _≤_, _<_}
+use Prim.Native.Nat.{ℕ, _+_, _≤_, _<_, min}
 use native.Mathlib.Nat.{add-assoc}
 use native.Mathlib.Omega.{arith}
-use lib.ListN.{length, getD, set, drop, length-append, length-map, drop-of-length-le}
+use lib.ListN.{length, getD, set, drop, length-append, length-map, length-take, drop-of-length-le}
 use lib.Seq.{drop-cons, drop-drop}
 use Rattle.limits.specs.Outcome.{Outcome, accepted, refused, zeros, _>>=_}
 use Rattle.text.specs.Bytes.{bytes}
@@ -20,7 +20,7 @@ use Rattle.sheet.proofs.Lines.{read-end, read-stop, read-on}
 use Rattle.sheet.specs.declared.levels.LevelsAnswer.the-variants.{Taken}
 use Rattle.sheet.specs.Layouts.{Line, ended}
 use Rattle.sheet.specs.Lines.{lineIn, readFrom}
-use Rattle.sheet.specs.Reading.{levelLines, cellsOf, levelsRead}
+use Rattle.sheet.specs.Reading.{levelLines, keptMost, cellsOf, levelsRead}
 use Rattle.sheet.specs.Sheet.{levelLayout, levelForm, levelsOf}
 
 abbrev joined : List Line → Outcome (List Line) → Outcome (List Line)
@@ -54,7 +54,7 @@ pub record Gathered (s : List ℕ) (from : ℕ) (weights heights : List ℕ) (n 
   pub few : n ≤ at
   pub whole : readFrom 3 levelForm (drop from s) ≡ joined before (readFrom (3 + n) levelForm (drop at s))
 
-pub gathered-none : (s : List ℕ) (from : ℕ) → Gathered s from (zeros 50) (zeros 50) 0 from
+pub gathered-none : (s : List ℕ) (from : ℕ) → Gathered s from (zeros keptMost) (zeros keptMost) 0 from
 gathered-none s from =
     record {
       before = [];
@@ -65,23 +65,23 @@ gathered-none s from =
     }
 
 module _ {s : List ℕ} {from : ℕ} {weights heights : List ℕ} {n at : ℕ} (g : Gathered s from weights heights n at) where
-  pub gathered-size : (length weights ≡ 50) × (length heights ≡ 50)
+  pub gathered-size : (length weights ≡ keptMost) × (length heights ≡ keptMost)
   gathered-size = (
-    ap length (g .cells .0) ∙ kept-length (zeros 50) (column 0 (g .before)),
-    ap length (g .cells .1) ∙ kept-length (zeros 50) (column 1 (g .before)),
+    ap length (g .cells .0) ∙ kept-length (zeros keptMost) (column 0 (g .before)),
+    ap length (g .cells .1) ∙ kept-length (zeros keptMost) (column 1 (g .before)),
   )
 
-  pub gathered-all : length s ≤ at → levelsRead (levelLines (drop from s)) ≡ record { answer = Taken n; weights = weights; heights = heights }
+  pub gathered-all : {k : ℕ} → length s ≤ at → k ≡ min keptMost n
+      → levelsRead (levelLines (drop from s)) ≡ record { answer = Taken k; weights = weights; heights = heights }
   unfolding levelLines levelsRead
-  gathered-all h =
+  gathered-all {k} h e =
       let end : ended levelForm (drop at s) ≡ true = rw (drop-of-length-le s {i = at} h) in
       rw (
         g .whole ∙ ap (joined (g .before)) (read-end (3 + n) levelForm (drop at s) end),
         append-nil (g .before),
-        length-map (g .before) (λ l. getD (l .numbers) 0 0),
-        g .count,
         ← g .cells .0,
         ← g .cells .1,
+        length-take keptMost (column 0 (g .before)) ∙ ap (min keptMost) (length-map (g .before) _ ∙ g .count) ∙ sym e,
       )
 
   module _ (h : at < length s) where
@@ -112,7 +112,7 @@ module _ {s : List ℕ} {from : ℕ} {weights heights : List ℕ} {n at : ℕ} (
             → set held n (getD ns i 0) ≡ cellsOf (column i (g .before ++ (levelLine ns ∷ [])))
         stored i held e =
             let c : length (column i (g .before)) ≡ n = length-map (g .before) (λ l. getD (l .numbers) i 0) ∙ g .count in
-            rw (← c, e, column-more i (g .before) (levelLine ns)) (sym (kept-more (zeros 50) (column i (g .before)) (getD ns i 0)))
+            rw (← c, e, column-more i (g .before) (levelLine ns)) (sym (kept-more (zeros keptMost) (column i (g .before)) (getD ns i 0)))
 
     -- as the code stores it: the line's two numbers
     pub gathered-more : {weight height : ℕ} (ns : List ℕ) (k : ℕ) → line (bytes "level") 2 (drop at s) ≡ found ns k

@@ -8,8 +8,8 @@ pub mod LevelLine
 pub mod Gathering
 pub mod Stages
 pub mod Listings
-pub mod Joining
-pub mod Held
+pub mod JobAnswered
+pub mod SheetAnswered
 pub mod Length
 pub mod Unique
 pub mod Allowed

@@ -22,7 +22,7 @@ use Rattle.sheet.specs.declared.levels.LevelsRead.{LevelsRead}
 use Rattle.sheet.specs.declared.reader.SheetAnswer.the-variants.{Taken}
 use Rattle.sheet.specs.Layouts.{Layout, Line, past}
 use Rattle.sheet.specs.Lines.{Front, lineIn, readFrom}
-use Rattle.sheet.specs.Reading.{sheetLines, levelLines, cellsOf, levelsRead, sheetRead}
+use Rattle.sheet.specs.Reading.{sheetLines, levelLines, kept, cellsOf, levelsRead, sheetRead}
 use Rattle.sheet.specs.Sheet.{siteLayout, frameLayout, sheetForm, levelForm, siteValues, frameValues, Levels, levelsOf}
 use Rattle.sheet.proofs.LaidRead.{sheet-worded, frame-worded}
 use Rattle.sheet.proofs.Lines.{read-stop, read-on}
@@ -64,7 +64,7 @@ levels-refused s r f e m =
 pub record LevelsTaken (s : List ℕ) (r : LevelsRead) (n : ℕ) : Type 0 where
   pub lines : List Line
   pub are : readFrom 3 levelForm s ≡ accepted lines
-  pub count : n ≡ length (levelsOf lines .weights)
+  pub count : n ≡ length (kept (levelsOf lines .weights))
   pub weights : r .weights ≡ cellsOf (levelsOf lines .weights)
   pub heights : r .heights ≡ cellsOf (levelsOf lines .heights)
 

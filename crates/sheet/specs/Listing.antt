@@ -7,7 +7,8 @@
 --   listing o                     what is printed for a job's outcome
 --   jobOfSheet r                  the job of what a sheet holds
 --   sheetListing bytes            what is printed for a sheet: 17, then 16, precede everything that a job judges
---   printed l                     the bytes l as the code hands them on: in the first of 4,610 cells, and how many there are
+--   longest                       as many bytes as the longest listing may have: 20 digits a number, 50 levels
+--   printed l                     the bytes l as the code hands them on: in the first of `longest` cells, and how many there are
 --   Written l old held n          a buffer that held old holds `held`, l over its first cells and the rest as it was; n is the length of l
 --   Levelled fs us ms             as many shears and overturning moments as forces, and not over 50
 use mathlib.Core.Path.{_≡_}
@@ -39,8 +40,11 @@ resultsListing n fs us ms =
 unfoldable pub refusal : ℕ → ℕ → List ℕ
 refusal n p = laidOut (bytes "refused") (n ∷ p ∷ [])
 
+abbrev pub longest : ℕ
+longest = 4_610
+
 unfoldable pub printed : List ℕ → Listing
-printed l = record { bytes = laid l (zeros 4_610); length = length l }
+printed l = record { bytes = laid l (zeros longest); length = length l }
 
 pub record Written (l old held : List ℕ) (n : ℕ) : Type 0 where
   pub bytes-are : held ≡ laid l old

@@ -2,14 +2,15 @@
 --   sheetLines bytes       what the lines of a sheet hold, or 16 at the first that is otherwise
 --   levelLines bytes       what the lines from line 3 on hold
 --   readSheet bytes        17 at 0 where there are over 4,096 bytes; else what the lines hold
---   cellsOf l              the first 50 of a list in 50 cells, zeros in the rest
+--   keptMost               how many levels are kept: one more than a job may have, so that the job can refuse the count
+--   kept l, cellsOf l      the first of a list, as many as are kept; in as many cells, zeros in the rest
 --   levelAnswer c o        the code's answer to the reading o of a level line from c on: weight, height, where the next begins
---   levelsRead o, sheetRead o          the code's answer to the outcome o, its weights and heights in 50 cells each
---   levelsOutcome a, sheetOutcome a    what the code's answer a says: how many level lines there are, with site and frame of a sheet; or
---                          the refusal
+--   levelsRead o, sheetRead o          the code's answer to the outcome o, its weights and heights in cells
+--   levelsOutcome a, sheetOutcome a    what the code's answer a says: how many levels are kept, with site and frame of a sheet; or the
+--                          refusal
 -- A sheet without level lines is read: 1 is refused by the job.
 use mathlib.Core.List.{List, [], _∷_}
-use Prim.Native.Nat.{ℕ}
+use Prim.Native.Nat.{ℕ, _+_}
 use lib.Dec.{leb}
 use lib.ListN.{length, getD, take}
 use Rattle.whole.specs.Cells.{laid}
@@ -44,8 +45,14 @@ readSheet s = do
   require (leb (length s) 4_096) 17 0
   sheetLines s
 
+abbrev pub keptMost : ℕ
+keptMost = 50 + 1
+
+abbrev pub kept : List ℕ → List ℕ
+kept l = take keptMost l
+
 abbrev pub cellsOf : List ℕ → List ℕ
-cellsOf l = laid (take 50 l) (zeros 50)
+cellsOf l = laid (kept l) (zeros keptMost)
 
 unfoldable pub levelAnswer : Cursor → Reading (List ℕ) → LevelAnswer
 levelAnswer c (found ns n) = Found (getD ns 0 0) (getD ns 1 0) (after c n)
@@ -53,19 +60,19 @@ levelAnswer c otherwise = Otherwise
 
 unfoldable pub levelsRead : Outcome Levels → LevelsRead
 levelsRead (accepted ls) =
-    record { answer = TakenLevels (length (ls .weights)); weights = cellsOf (ls .weights); heights = cellsOf (ls .heights) }
+    record { answer = TakenLevels (length (kept (ls .weights))); weights = cellsOf (ls .weights); heights = cellsOf (ls .heights) }
 levelsRead (refused n p) =
-    record { answer = RefusedLevels (record { number = n; place = p }); weights = zeros 50; heights = zeros 50 }
+    record { answer = RefusedLevels (record { number = n; place = p }); weights = zeros keptMost; heights = zeros keptMost }
 
 unfoldable pub sheetRead : Outcome Sheet → SheetRead
 sheetRead (accepted r) =
     record {
-      answer = Taken (r .site) (r .frame) (length (r .levels .weights));
+      answer = Taken (r .site) (r .frame) (length (kept (r .levels .weights)));
       weights = cellsOf (r .levels .weights);
       heights = cellsOf (r .levels .heights);
     }
 sheetRead (refused n p) =
-    record { answer = Refused (record { number = n; place = p }); weights = zeros 50; heights = zeros 50 }
+    record { answer = Refused (record { number = n; place = p }); weights = zeros keptMost; heights = zeros keptMost }
 
 abbrev pub levelsOutcome : LevelsAnswer → Outcome ℕ
 levelsOutcome (TakenLevels n) = accepted n

@@ -3,6 +3,7 @@ use crate::layout::FRAME_LINE;
 use crate::layout::FRAME_NUMBERS;
 use crate::layout::SITE_LINE;
 use crate::layout::SITE_NUMBERS;
+use crate::levels::KEPT;
 use crate::levels::LevelsAnswer;
 use crate::levels::level_lines;
 use limits::frame::FrameValues;
@@ -17,7 +18,7 @@ ghost use Rattle.limits.specs.Outcome.{refused, refusalOf};
 ghost use Rattle.sheet.specs.Reading.{sheetLines, readSheet, sheetRead, sheetOutcome};
 ghost use Rattle.sheet.specs.Sheet.{siteValues, frameValues};
 
-// What the site line and the frame line hold, and how many level lines there are; or the refusal.
+// What the site line and the frame line hold, and how many levels are kept; or the refusal.
 pub enum SheetAnswer {
     Taken(SiteValues, FrameValues, usize),
     Refused(Refusal),
@@ -35,11 +36,11 @@ impl SheetAnswer {
     }
 }
 
-// The answer, and the weights and heights of the first 50 levels beside it.
+// The answer, and the weights and heights of the levels that are kept beside it.
 pub struct SheetRead {
     pub answer: SheetAnswer,
-    pub weights: [u64; 50],
-    pub heights: [u64; 50],
+    pub weights: [u64; KEPT],
+    pub heights: [u64; KEPT],
 }
 
 impl SheetRead {
@@ -48,8 +49,8 @@ impl SheetRead {
     {
         SheetRead {
             answer: SheetAnswer::Refused(Refusal { number, place }),
-            weights: [0; 50],
-            heights: [0; 50],
+            weights: [0; KEPT],
+            heights: [0; KEPT],
         }
     }
 }
