@@ -21,7 +21,7 @@ use Rattle.sheet.specs.declared.levels.LevelsAnswer.the-variants.{Taken}
 use Rattle.sheet.specs.Layouts.{Line, ended}
 use Rattle.sheet.specs.Lines.{lineIn, readFrom}
 use Rattle.sheet.specs.Reading.{levelLines, keptMost, cellsOf, levelsRead}
-use Rattle.sheet.specs.Sheet.{levelLayout, levelForm, levelsOf}
+use Rattle.sheet.specs.Sheet.{levelForm}
 
 abbrev joined : List Line → Outcome (List Line) → Outcome (List Line)
 joined before o = o >>= λ ls. accepted (before ++ ls)

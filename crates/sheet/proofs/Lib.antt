@@ -4,6 +4,7 @@ pub mod Lines
 pub mod LaidRead
 pub mod ReadLaid
 pub mod Otherwise
+pub mod Foremost
 pub mod LevelLine
 pub mod Gathering
 pub mod Stages

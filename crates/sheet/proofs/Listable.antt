@@ -6,7 +6,6 @@ use mathlib.Core.List.{List}
 use Prim.Native.Nat.{ℕ}
 use lib.ListN.{length}
 use Rattle.limits.specs.declared.judging.Given.{Given}
-use Rattle.limits.specs.Applies.{Applies}
 use Rattle.limits.specs.Judging.{judgedJob}
 use Rattle.limits.specs.Outcome.{Outcome, accepted, refused, _>>=_}
 use Rattle.limits.proofs.Refusing.{accepted-unless-refused}
@@ -14,6 +13,7 @@ use Rattle.job.specs.Job.{resultsOf}
 use Rattle.job.proofs.Stages.{job-accepted}
 use Rattle.sheet.proofs.Allowed.{allowed-laid}
 use Rattle.sheet.proofs.LaidRead.{laid-read}
+use Rattle.sheet.specs.Applies.{JobApplies}
 use Rattle.sheet.specs.Laid.{sheetLaid, Laid}
 use Rattle.sheet.specs.Listing.{refusal, listing, jobOfSheet, sheetListing}
 use Rattle.sheet.specs.Reading.{readSheet}
@@ -28,14 +28,10 @@ unfolding sheetListing listing
 unread-listed s n p e = ap (λ (o : Outcome Sheet). listing (o >>= jobOfSheet)) e
 
 module _ (r : Sheet) where
-  -- refusal n applies to the numbers, at place p
-  abbrev pub Wrong : ℕ → ℕ → Type 0
-  Wrong = Applies (r .site) (r .frame) (r .levels .weights) (r .levels .heights) (length (r .levels .weights))
-
   laid-job : Laid r → sheetListing (sheetLaid r) ≡ listing (jobOfSheet r)
   laid-job l = read-listed (sheetLaid r) r (laid-read r l)
 
-  pub laid-listed : ((n p : ℕ) → Wrong n p → ⊥)
+  pub laid-listed : ((n p : ℕ) → JobApplies r n p → ⊥)
       → (g : Given) × (judgedJob (r .site) (r .frame) (r .levels .weights) (r .levels .heights) (length (r .levels .weights)) ≡ accepted g)
       × (sheetListing (sheetLaid r) ≡ listing (accepted (resultsOf g (r .levels .weights) (r .levels .heights))))
   laid-listed none =

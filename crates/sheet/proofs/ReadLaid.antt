@@ -14,11 +14,11 @@ use Rattle.limits.specs.Outcome.{accepted, require}
 use Rattle.limits.proofs.Passed.{differ, one-value, bind-passed, then-passed, require-passed}
 use Rattle.text.specs.Writing.{AllShort}
 use Rattle.sheet.proofs.Lines.{read-lines-laid}
-use Rattle.sheet.specs.Laid.{siteNumbers, frameNumbers, levelLinesOf, linesOf, sheetLaid, Laid}
+use Rattle.sheet.specs.Laid.{levelLinesOf, linesOf, sheetLaid, Laid}
 use Rattle.sheet.specs.Layouts.{Layout, Line, linesLaid, LaidLine, LaidLines}
 use Rattle.sheet.specs.Lines.{readFrom}
 use Rattle.sheet.specs.Reading.{sheetLines, readSheet}
-use Rattle.sheet.specs.Sheet.{siteLayout, frameLayout, levelLayout, sheetForm, levelForm, siteValues, frameValues}
+use Rattle.sheet.specs.Sheet.{siteLayout, frameLayout, levelLayout, sheetForm, levelForm}
 use Rattle.sheet.specs.Sheet.{levelsOf, Sheet, sheetOf}
 
 -- ---- the lines of a sheet that is read

@@ -10,7 +10,7 @@ use Rattle.limits.specs.declared.frame.FrameValues.{FrameValues}
 use Rattle.limits.specs.declared.refusal.Refusal.{Refusal}
 use Rattle.limits.specs.declared.site.SiteValues.{SiteValues}
 use Rattle.limits.specs.Outcome.{Outcome, accepted, refused, Done, _>>=_}
-use Rattle.limits.proofs.Passed.{never, one-value, bind-passed}
+use Rattle.limits.proofs.Passed.{never}
 use Rattle.text.specs.declared.reading.Cursor.{Cursor}
 use Rattle.text.specs.Line.{line, blank}
 use Rattle.text.specs.Reading.{otherwise}

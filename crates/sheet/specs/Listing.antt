@@ -6,7 +6,8 @@
 --   refusal n p                   'A refusal prints one line: `refused`, number, place'
 --   listing o                     what is printed for a job's outcome
 --   jobOfSheet r                  the job of what a sheet holds
---   sheetListing bytes            what is printed for a sheet: 17, then 16, precede everything that a job judges
+--   outcomeOf bytes               the outcome of a sheet: 17, then 16, precede everything that a job judges
+--   sheetListing bytes            what is printed for it
 --   longest                       as many bytes as the longest listing may have: 20 digits a number, 50 levels
 --   printed l                     the bytes l as the code hands them on: in the first of `longest` cells, and how many there are
 --   Written l old held n          a buffer that held old holds `held`, l over its first cells and the rest as it was; n is the length of l
@@ -62,5 +63,8 @@ listing (refused n p) = refusal n p
 abbrev pub jobOfSheet : Sheet → Outcome Results
 jobOfSheet r = jobOf (r .site) (r .frame) (r .levels .weights) (r .levels .heights) (length (r .levels .weights))
 
+abbrev pub outcomeOf : List ℕ → Outcome Results
+outcomeOf s = readSheet s >>= jobOfSheet
+
 unfoldable pub sheetListing : List ℕ → List ℕ
-sheetListing s = listing (readSheet s >>= jobOfSheet)
+sheetListing s = listing (outcomeOf s)

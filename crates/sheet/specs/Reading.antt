@@ -9,7 +9,7 @@
 --   levelsOutcome a, sheetOutcome a    what the code's answer a says: how many levels are kept, with site and frame of a sheet; or the
 --                          refusal
 -- A sheet without level lines is read: 1 is refused by the job.
-use mathlib.Core.List.{List, [], _∷_}
+use mathlib.Core.List.{List}
 use Prim.Native.Nat.{ℕ, _+_}
 use lib.Dec.{leb}
 use lib.ListN.{length, getD, take}

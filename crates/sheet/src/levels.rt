@@ -100,11 +100,7 @@ fn keep(cells: &mut [u64], i: usize, v: u64)
 fn kept(n: usize) -> usize
     ensures { λ k. ⌜ k ≡ min keptMost n ⌝ }
 {
-    if n < KEPT {
-        n
-    } else {
-        KEPT
-    }
+    if n < KEPT { n } else { KEPT }
 }
 
 // All lines from a cursor on.
