@@ -1,4 +1,4 @@
-// A sheet: its length in bytes, and the limits of its bytes, its numbers and its lines.
+// A sheet: its length in bytes, and the limits of its bytes and its numbers.
 pub struct Sheet {
     pub length: u64,
 }
@@ -9,14 +9,4 @@ impl Sheet {
     pub const DIGITS_FEWEST: u64 = 1;
 
     pub const DIGITS_MOST: u64 = 9;
-    // Line 1 is `site`.
-    pub const SITE_LINE: u64 = 1;
-
-    pub const SITE_NUMBERS: usize = 7;
-    // Line 2 is `frame`.
-    pub const FRAME_LINE: u64 = 2;
-
-    pub const FRAME_NUMBERS: usize = 5;
-    // All later lines are `level`.
-    pub const LEVEL_LINE: u64 = 3;
 }

@@ -4,6 +4,7 @@ use limits::frame::FrameValues;
 use limits::site::Class;
 use limits::site::ClassAnswer;
 use limits::site::SiteValues;
+use sheet::listing::LONGEST;
 use sheet::put_in_array;
 ghost use mathlib.Core.Path.{_≡_};
 ghost use Rattle.limits.specs.Site.{classOutcome};
@@ -179,7 +180,7 @@ pub extern "C" fn rukeshomaji_site_class(
 // What is printed for the bytes of a sheet: the bytes of a listing, and how many there are.
 #[repr(C)]
 pub struct SheetReply {
-    pub bytes: [u8; 4_610],
+    pub bytes: [u8; LONGEST],
     pub length: usize,
 }
 
@@ -189,7 +190,7 @@ pub extern "C" fn rukeshomaji_sheet(sheet: &[u8]) -> SheetReply
     ensures { λ r. ⌜ r ≡ sheetReply (now (sheet .entry)) ⌝ }
 {
     let mut reply = SheetReply {
-        bytes: [0; 4_610],
+        bytes: [0; LONGEST],
         length: 0,
     };
     let length = put_in_array(&mut reply.bytes, sheet);

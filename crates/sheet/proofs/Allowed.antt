@@ -28,8 +28,9 @@ use Rattle.limits.proofs.Passed.{never, one-value, then-passed, bind-passed}
 use Rattle.text.specs.Bytes.{bytes}
 use Rattle.text.specs.Writing.{AllShort}
 use Rattle.text.proofs.Trip.{line-short}
-use Rattle.sheet.specs.Layout.{siteNumbers, frameNumbers, levelsLaid, sheetLaid, Laid}
-use Rattle.sheet.specs.Reading.{SheetRead}
+use Rattle.sheet.specs.Laid.{siteNumbers, frameNumbers, levelLinesOf, sheetLaid, Laid}
+use Rattle.sheet.specs.Layouts.{linesLaid}
+use Rattle.sheet.specs.Sheet.{Sheet}
 
 -- a number that is chosen from a list of numbers up to m
 chosen : {A : Type 0} (m k n : ℕ) (a c : A) (o : Outcome A) → k ≤ m → (o ≡ accepted c → n ≤ m)
@@ -83,24 +84,23 @@ all-short : (l : List ℕ) → ((x : ℕ) → x < length l → getD l x 0 ≤ 99
 all-short [] f = tt
 all-short (a ∷ l) f = (f 0 (omega arith), all-short l (λ x h. f (suc x) (omega arith)))
 
-levels-length : (ws hs : List ℕ) → AllShort ws → AllShort hs → length (levelsLaid ws hs) ≤ 26 * length ws
-unfolding levelsLaid
+levels-length : (ws hs : List ℕ) → AllShort ws → AllShort hs → length (linesLaid (levelLinesOf ws hs)) ≤ 26 * length ws
 levels-length [] hs s t = omega arith
 levels-length (w ∷ ws) [] s t = omega arith
 levels-length (w ∷ ws) (h ∷ hs) s t =
     simp length-append
     (omega (arith, levels-length ws hs (s .1) (t .1), line-short (bytes "level") (w ∷ h ∷ []) (s .0, (t .0, tt))))
 
-pub allowed-laid : (r : SheetRead) (room : ℕ) (g : Given)
-    → judgedJob (r .site) (r .frame) (r .weights) (r .heights) room ≡ accepted g → Laid r
+pub allowed-laid : (r : Sheet) (room : ℕ) (g : Given)
+    → judgedJob (r .site) (r .frame) (r .levels .weights) (r .levels .heights) room ≡ accepted g → Laid r
 unfolding judgedJob sheetLaid
 allowed-laid r room g e =
-    let levels = then-passed (judgedLevels (r .weights) (r .heights) room) _ e in
+    let levels = then-passed (judgedLevels (r .levels .weights) (r .levels .heights) room) _ e in
     let site = bind-passed (judgedSite (r .site)) _ (levels .1) in
     let frame = bind-passed (judgedFrame (r .frame)) (λ y. accepted (record { site = site .0; frame = y })) (site .2) in
-    let l = levels-allowed (r .weights) (r .heights) room (levels .0) .0 in
-    let ws = all-short (r .weights) (λ x h. omega (arith, l .weights x h)) in
-    let hs = all-short (r .heights) (λ x h. omega (arith, l .heights x h)) in
+    let l = levels-allowed (r .levels .weights) (r .levels .heights) room (levels .0) .0 in
+    let ws = all-short (r .levels .weights) (λ x h. omega (arith, l .weights x h)) in
+    let hs = all-short (r .levels .heights) (λ x h. omega (arith, l .heights x h)) in
     let ss = site-short (r .site) (site .0) (site .1) in
     let fs = frame-short (r .frame) (frame .0) (frame .1) in
     record {
@@ -114,7 +114,7 @@ allowed-laid r room g e =
           (omega (
             arith,
             l .few,
-            levels-length (r .weights) (r .heights) ws hs,
+            levels-length (r .levels .weights) (r .levels .heights) ws hs,
             line-short (bytes "site")
                 (siteNumbers (r .site)) ss,
             line-short (bytes "frame") (frameNumbers (r .frame)) fs,

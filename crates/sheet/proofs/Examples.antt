@@ -12,7 +12,9 @@ use Rattle.text.specs.Reading.{starts, word}
 use Rattle.text.specs.Writing.{digitsOf, decimal, fieldOf, fieldsOf, laidOut}
 use Rattle.job.proofs.Worked.{worked}
 use Rattle.sheet.specs.Listing.{roofFirst, resultsListing, refusal, listing, jobOfSheet, sheetListing}
-use Rattle.sheet.specs.Reading.{lineAt, linesFrom, SheetRead, readLines, readSheet}
+use Rattle.sheet.specs.Lines.{lineIn, linesFrom}
+use Rattle.sheet.specs.Reading.{sheetLines, readSheet}
+use Rattle.sheet.specs.Sheet.{Sheet}
 
 abbrev office : List ℕ
 office =
@@ -22,15 +24,14 @@ office =
 pub office-read : readSheet office ≡ accepted (record {
   site = record { ssd = 80; s1d = 45; ssm = 100; s1m = 55; na = 100; nv = 100; class = 1 };
   frame = record { kind = 2; calculated = 1_000; r = 480; i = 100; alpha = 150 };
-  weights = 5_000 ∷ 5_000 ∷ 5_000 ∷ [];
-  heights = 100 ∷ 200 ∷ 300 ∷ [];
+  levels = record { weights = 5_000 ∷ 5_000 ∷ 5_000 ∷ []; heights = 100 ∷ 200 ∷ 300 ∷ [] };
 })
-unfolding readSheet readLines lineAt linesFrom line fields field word starts number digits wellMade inRange valueFrom
+unfolding readSheet sheetLines lineIn linesFrom line fields field word starts number digits wellMade inRange valueFrom
 office-read = refl
 
 pub otherwise-read : (readSheet [] ≡ refused 16 1) × (readSheet (bytes "site\t80\t45\t100\t55\t100\t100\t1\n") ≡ refused 16 2)
     × (readSheet (office ++ bytes "\n") ≡ refused 16 6)
-unfolding readSheet readLines lineAt linesFrom line fields field word starts number digits wellMade inRange valueFrom
+unfolding readSheet sheetLines lineIn linesFrom line fields field word starts number digits wellMade inRange valueFrom
 otherwise-read = (refl, refl, refl)
 
 pub office-listed : resultsListing (record { v = 909_708; vm = 818_458; star = 1_071_429; vd = 1_071_429; t = 1_000 })
@@ -50,4 +51,4 @@ pub office-answered : sheetListing office ≡ bytes "base\t909708\t818458\t10714
     ++ (bytes "level\t2\t332143\t905358\t147857300\n" ++ bytes "level\t1\t166071\t1071429\t255000200\n"))
 unfolding sheetListing listing
 office-answered =
-    ap (λ (o : Outcome SheetRead). listing (o >>= jobOfSheet)) office-read ∙ ap listing worked ∙ office-listed
+    ap (λ (o : Outcome Sheet). listing (o >>= jobOfSheet)) office-read ∙ ap listing worked ∙ office-listed

@@ -1,12 +1,13 @@
 -- Level lines read one by one: those before, and what is left of the sheet.
---   joined before o    the outcome o, its levels above those before
+--   joined before o    the outcome o, its lines above those before
 -- Assumes nothing.
-use mathlib.Core.Path.{_≡_, refl, sym, ap, ap₂, _∙_}
-use mathlib.Core.List.{List, [], _∷_, _++_, append-assoc, append-nil}
-use Prim.Native.Nat.{ℕ, suc, _+_, _-_, _≤_, _<_}
+use mathlib.Core.Path.{_≡_, refl, sym, ap, _∙_}
+use mathlib.Core.Bool.{true}
+use mathlib.Core.List.{List, [], _∷_, _++_, append-assoc, append-nil, map}
+use Prim.Native.Nat.{ℕ, _+_, _≤_, _<_, min}
 use native.Mathlib.Nat.{add-assoc}
 use native.Mathlib.Omega.{arith}
-use lib.ListN.{length, getD, set, drop, length-append, length-drop, drop-of-length-le}
+use lib.ListN.{length, getD, set, drop, length-append, length-map, length-take, drop-of-length-le}
 use lib.Seq.{drop-cons, drop-drop}
 use Rattle.limits.specs.Outcome.{Outcome, accepted, refused, zeros, _>>=_}
 use Rattle.text.specs.Bytes.{bytes}
@@ -14,126 +15,104 @@ use Rattle.text.specs.Line.{line}
 use Rattle.text.specs.Reading.{found, otherwise}
 use Rattle.text.proofs.Stored.{kept-length, kept-more}
 use Rattle.text.proofs.Takes.{line-takes}
+use Rattle.sheet.proofs.LaidRead.{level-worded}
+use Rattle.sheet.proofs.Lines.{read-end, read-stop, read-on}
 use Rattle.sheet.specs.declared.levels.LevelsAnswer.the-variants.{Taken}
-use Rattle.sheet.specs.Reading.{Levels, level, lineAt, linesFrom, levelLines, cellsOf, levelsRead}
+use Rattle.sheet.specs.Layouts.{Line, ended}
+use Rattle.sheet.specs.Lines.{lineIn, readFrom}
+use Rattle.sheet.specs.Reading.{levelLines, keptMost, cellsOf, levelsRead}
+use Rattle.sheet.specs.Sheet.{levelForm}
 
-abbrev pub none : Levels
-none = record { weights = []; heights = [] }
+abbrev joined : List Line → Outcome (List Line) → Outcome (List Line)
+joined before o = o >>= λ ls. accepted (before ++ ls)
 
-abbrev pub above : Levels → Levels → Levels
-above a b = record { weights = a .weights ++ b .weights; heights = a .heights ++ b .heights }
-
-unfoldable pub joined : Levels → Outcome Levels → Outcome Levels
-joined before (accepted ls) = accepted (above before ls)
-joined before (refused n p) = refused n p
-
-abbrev pub one : List ℕ → Levels
-one ns = level ns none
-
-joined-one : (before : Levels) (ns : List ℕ) (o : Outcome Levels)
-    → joined before (o >>= λ ls. accepted (level ns ls)) ≡ joined (above before (one ns)) o
-unfolding joined
-joined-one before ns (accepted ls) =
-    ap₂ (λ (w h : List ℕ). accepted (record { weights = w; heights = h }))
-    (sym (append-assoc (before .weights) (getD ns 0 0 ∷ []) (ls .weights)))
-    (sym (append-assoc (before .heights) (getD ns 1 0 ∷ []) (ls .heights)))
-joined-one before ns (refused n p) = refl
-
--- ---- the next line
-module _ (s : List ℕ) (p at left q : ℕ) (e : left ≡ suc q) where
-  pub lines-end : length s ≤ at → (before : Levels) → joined before (linesFrom left p (drop at s)) ≡ accepted before
-  unfolding linesFrom joined
-  lines-end h before =
-      rw (e, drop-of-length-le s {i = at} h, append-nil (before .weights), append-nil (before .heights))
-
-  module _ (h : at < length s) where
-    pub lines-stop : line (bytes "level") 2 (drop at s) ≡ otherwise → (before : Levels)
-        → joined before (linesFrom left p (drop at s)) ≡ refused 16 p
-    unfolding linesFrom lineAt joined
-    lines-stop o before = rw (e, drop-cons s at 0 h) (simp (rw (drop-cons s at 0 h) at o))
-
-    pub lines-more : (ns : List ℕ) (n : ℕ) → line (bytes "level") 2 (drop at s) ≡ found ns n → (before : Levels)
-        → joined before (linesFrom left p (drop at s)) ≡ joined (above before (one ns)) (linesFrom q (p + 1) (drop (at + n) s))
-    unfolding linesFrom lineAt
-    lines-more ns n o before =
-        rw (← drop-drop n at s, e, drop-cons s at 0 h)
-        (simp (rw (drop-cons s at 0 h) at o)
-        (joined-one before ns (linesFrom q (p + 1) (drop n (getD s at 0 ∷ drop (suc at) s)))))
-
--- ---- after n lines, at the byte `at`: the cells keep the first levels, and the whole is those before and what is left
-pub record Gathered (s : List ℕ) (from : ℕ) (weights heights : List ℕ) (n at : ℕ) : Type 0 where
-  pub before : Levels
-  pub count : (length (before .weights) ≡ n) × (length (before .heights) ≡ n)
-  pub cells : (weights ≡ cellsOf (before .weights)) × (heights ≡ cellsOf (before .heights))
-  pub few : n ≤ at
-  pub left : ℕ
-  pub enough : length s - at < left
-  pub whole : levelLines 3 (drop from s) ≡ joined before (linesFrom left (3 + n) (drop at s))
-
-pub joined-none : (o : Outcome Levels) → joined none o ≡ o
-unfolding joined
+joined-none : (o : Outcome (List Line)) → joined [] o ≡ o
 joined-none (accepted ls) = refl
 joined-none (refused n p) = refl
 
-pub gathered-none : (s : List ℕ) (from : ℕ) → Gathered s from (zeros 50) (zeros 50) 0 from
+joined-one : (before : List Line) (l : Line) (o : Outcome (List Line))
+    → joined before (o >>= λ ls. accepted (l ∷ ls)) ≡ joined (before ++ (l ∷ [])) o
+joined-one before l (accepted ls) = ap accepted (sym (append-assoc before (l ∷ []) ls))
+joined-one before l (refused n p) = refl
+
+-- the i-th number of each line
+abbrev column : ℕ → List Line → List ℕ
+column i ls = map (λ l. getD (l .numbers) i 0) ls
+
+column-more : (i : ℕ) (ls : List Line) (l : Line) → column i (ls ++ (l ∷ [])) ≡ column i ls ++ (getD (l .numbers) i 0 ∷ [])
+column-more i [] l = refl
+column-more i (k ∷ ls) l = ap (λ (ns : List ℕ). getD (k .numbers) i 0 ∷ ns) (column-more i ls l)
+
+abbrev levelLine : List ℕ → Line
+levelLine ns = record { word = bytes "level"; numbers = ns }
+
+-- ---- after n lines, at the byte `at`: the cells keep the first levels, and the whole is those before and what is left
+pub record Gathered (s : List ℕ) (from : ℕ) (weights heights : List ℕ) (n at : ℕ) : Type 0 where
+  pub before : List Line
+  pub count : length before ≡ n
+  pub cells : (weights ≡ cellsOf (column 0 before)) × (heights ≡ cellsOf (column 1 before))
+  pub few : n ≤ at
+  pub whole : readFrom 3 levelForm (drop from s) ≡ joined before (readFrom (3 + n) levelForm (drop at s))
+
+pub gathered-none : (s : List ℕ) (from : ℕ) → Gathered s from (zeros keptMost) (zeros keptMost) 0 from
 gathered-none s from =
     record {
-      before = none;
-      count = (refl, refl);
+      before = [];
+      count = refl;
       cells = (refl, refl);
       few = omega arith;
-      left = suc (length (drop from s));
-      enough = simp length-drop (omega arith);
-      whole = sym (joined-none (linesFrom (suc (length (drop from s))) 3 (drop from s)));
+      whole = sym (joined-none (readFrom 3 levelForm (drop from s)));
     }
 
 module _ {s : List ℕ} {from : ℕ} {weights heights : List ℕ} {n at : ℕ} (g : Gathered s from weights heights n at) where
-  fuel : g .left ≡ suc (g .left - 1)
-  fuel = omega (arith, g .enough)
-
-  pub gathered-size : (length weights ≡ 50) × (length heights ≡ 50)
+  pub gathered-size : (length weights ≡ keptMost) × (length heights ≡ keptMost)
   gathered-size = (
-    ap length (g .cells .0) ∙ kept-length (zeros 50) (g .before .weights),
-    ap length (g .cells .1)
-        ∙ kept-length (zeros 50) (g .before .heights),
+    ap length (g .cells .0) ∙ kept-length (zeros keptMost) (column 0 (g .before)),
+    ap length (g .cells .1) ∙ kept-length (zeros keptMost) (column 1 (g .before)),
   )
 
-  pub gathered-all : length s ≤ at
-      → levelsRead (levelLines 3 (drop from s)) ≡ record { answer = Taken n; weights = weights; heights = heights }
-  unfolding levelsRead
-  gathered-all h =
-      rw (g .whole ∙ lines-end s (3 + n) at (g .left) (g .left - 1) fuel h (g .before), g .count .0, ← g .cells .0, ← g .cells .1)
+  pub gathered-all : {k : ℕ} → length s ≤ at → k ≡ min keptMost n
+      → levelsRead (levelLines (drop from s)) ≡ record { answer = Taken k; weights = weights; heights = heights }
+  unfolding levelLines levelsRead
+  gathered-all {k} h e =
+      let end : ended levelForm (drop at s) ≡ true = rw (drop-of-length-le s {i = at} h) in
+      rw (
+        g .whole ∙ ap (joined (g .before)) (read-end (3 + n) levelForm (drop at s) end),
+        append-nil (g .before),
+        ← g .cells .0,
+        ← g .cells .1,
+        length-take keptMost (column 0 (g .before)) ∙ ap (min keptMost) (length-map (g .before) _ ∙ g .count) ∙ sym e,
+      )
 
   module _ (h : at < length s) where
-    pub gathered-stop : line (bytes "level") 2 (drop at s) ≡ otherwise → levelLines 3 (drop from s) ≡ refused 16 (3 + n)
-    gathered-stop o = g .whole ∙ lines-stop s (3 + n) at (g .left) (g .left - 1) fuel h o (g .before)
+    pub gathered-stop : line (bytes "level") 2 (drop at s) ≡ otherwise → levelLines (drop from s) ≡ refused 16 (3 + n)
+    unfolding levelLines lineIn
+    gathered-stop o =
+        simp (g .whole ∙ ap (joined (g .before)) (read-stop (3 + n) levelForm (drop at s) 16 (3 + n) (rw (drop-cons s at 0 h)) (simp o)))
 
     gathered-one : (ns : List ℕ) (k : ℕ) → line (bytes "level") 2 (drop at s) ≡ found ns k
         → Gathered s from (set weights n (getD ns 0 0)) (set heights n (getD ns 1 0)) (n + 1) (at + k)
+    unfolding lineIn
     gathered-one ns k o =
         record {
-          before = above (g .before) (one ns);
-          count = (
-            length-append (g .before .weights) (getD ns 0 0 ∷ [])
-                ∙ omega (arith, g .count),
-            length-append (g .before .heights) (getD ns 1 0 ∷ []) ∙ omega (arith, g .count),
-          );
-          cells = (
-            stored (g .before .weights) weights (getD ns 0 0) (g .count .0) (g .cells .0),
-            stored
-                (g .before .heights) heights (getD ns 1 0) (g .count .1) (g .cells .1),
-          );
+          before = g .before ++ (levelLine ns ∷ []);
+          count = length-append (g .before) (levelLine ns ∷ []) ∙ omega (arith, g .count);
+          cells = (stored 0 weights (g .cells .0), stored 1 heights (g .cells .1));
           few = omega (arith, g .few, line-takes (bytes "level") 2 (drop at s) ns k o);
-          left = g .left - 1;
-          enough = omega (arith, g .enough, line-takes (bytes "level") 2 (drop at s) ns k o);
           whole =
-              g .whole ∙ lines-more s (3 + n) at (g .left) (g .left - 1) fuel h ns k o (g .before)
-              ∙ ap (λ (m : ℕ). joined (above (g .before) (one ns)) (linesFrom (g .left - 1) m (drop (at + k) s)))
-              (add-assoc 3 n 1);
+              g .whole
+              ∙ ap (joined (g .before))
+              (read-on (3 + n) levelForm (drop at s) (record { line = levelLine ns; rest = drop (at + k) s }) level-worded
+              (simp o (ap (λ (l : List ℕ). accepted (record { line = levelLine ns; rest = l })) (drop-drop k at s))))
+              ∙ joined-one (g .before) (levelLine ns) (readFrom (3 + n + 1) levelForm (drop (at + k) s))
+              ∙ ap (λ (m : ℕ). joined (g .before ++ (levelLine ns ∷ [])) (readFrom m levelForm (drop (at + k) s))) (add-assoc 3 n 1);
         }
       where
-        stored : (l held : List ℕ) (v : ℕ) → length l ≡ n → held ≡ cellsOf l → set held n v ≡ cellsOf (l ++ (v ∷ []))
-        stored l held v c e = rw (← c, e) (sym (kept-more (zeros 50) l v))
+        stored : (i : ℕ) (held : List ℕ) → held ≡ cellsOf (column i (g .before))
+            → set held n (getD ns i 0) ≡ cellsOf (column i (g .before ++ (levelLine ns ∷ [])))
+        stored i held e =
+            let c : length (column i (g .before)) ≡ n = length-map (g .before) (λ l. getD (l .numbers) i 0) ∙ g .count in
+            rw (← c, e, column-more i (g .before) (levelLine ns)) (sym (kept-more (zeros keptMost) (column i (g .before)) (getD ns i 0)))
 
     -- as the code stores it: the line's two numbers
     pub gathered-more : {weight height : ℕ} (ns : List ℕ) (k : ℕ) → line (bytes "level") 2 (drop at s) ≡ found ns k

@@ -1,73 +1,79 @@
--- A sheet that is laid out as the document says is read, and gives back its numbers.
+-- A sheet that is laid out as the document says is read, and gives back its numbers: `laid-lines-read` of a sheet's form.
 -- Assumes nothing.
-use mathlib.Core.Path.{_≡_, refl, sym, ap, _∙_}
-use mathlib.Core.List.{List, [], _∷_, _++_}
-use Prim.Native.Nat.{ℕ, suc, _+_, _-_, _<_}
-use native.Mathlib.Nat.{suc-inj, zero-add}
+use mathlib.Core.Path.{_≡_, refl, sym, ap, subst, _∙_}
+use mathlib.Core.List.{List, [], _∷_, List·Memᴰ·head, List·Memᴰ·eq-of-singleton}
+use Prim.Native.Nat.{ℕ, zero, suc, _≤_, _<_}
+use native.Mathlib.Nat.{suc-inj}
 use native.Mathlib.Omega.{arith}
-use lib.ListN.{length, drop, length-append}
-use lib.Seq.{drop-at}
-use Rattle.limits.specs.declared.frame.FrameValues.{FrameValues}
-use Rattle.limits.specs.declared.site.SiteValues.{SiteValues}
-use Rattle.limits.specs.Outcome.{accepted}
-use Rattle.text.specs.Bytes.{bytes}
-use Rattle.text.specs.Writing.{laidOut, AllShort}
-use Rattle.text.proofs.Fields.{line-length}
-use Rattle.text.proofs.Trip.{line-read}
-use Rattle.sheet.proofs.Gathering.{one, none, joined, joined-none, lines-end, lines-more}
-use Rattle.sheet.proofs.Stages.{sheet-lines}
-use Rattle.sheet.specs.Layout.{siteNumbers, frameNumbers, levelsLaid, sheetLaid, Laid}
-use Rattle.sheet.specs.Reading.{lineAt, siteValues, frameValues, linesFrom, SheetRead, readLines, readSheet}
+use lib.ListN.{length}
+use borrow.Author.Tests.{le-leb, lt-leb}
+use Rattle.limits.specs.Outcome.{Outcome, accepted, refused, _>>=_}
+use Rattle.text.specs.Writing.{AllShort}
+use Rattle.text.proofs.OneWay.{Unbroken}
+use Rattle.sheet.proofs.Lines.{WordedForm, laid-lines-read}
+use Rattle.sheet.proofs.OneLine.{Worded}
+use Rattle.sheet.specs.Laid.{levelLinesOf, linesOf, sheetLaid, Laid}
+use Rattle.sheet.specs.Layouts.{Layout, Line, past, linesLaid, LaidLines}
+use Rattle.sheet.specs.Reading.{sheetLines, readSheet}
+use Rattle.sheet.specs.Sheet.{sheetForm, levelForm, siteLayout, frameLayout, levelLayout, Levels, levelsOf, Sheet, sheetOf}
 
--- line p, laid out, at the front of the bytes
-pub laid-line : (p : ℕ) (w ns l : List ℕ) → AllShort ns
-    → lineAt p w (length ns) (laidOut w ns ++ l) ≡ accepted (record { numbers = ns; rest = l })
-unfolding lineAt
-laid-line p w ns l s =
-    rw (line-read w ns l s, drop-at (laidOut w ns) l (length (laidOut w ns)) refl)
+-- ---- 17 before everything
+module _ (s : List ℕ) where
+  pub sheet-long : 4_096 < length s → readSheet s ≡ refused 17 0
+  unfolding readSheet
+  sheet-long h = simp (lt-leb _ _ h)
 
--- the level lines, wherever the bound on their number leaves room
-laid-levels : (most p : ℕ) (ws hs : List ℕ) → length (levelsLaid ws hs) < most → length ws ≡ length hs → AllShort ws → AllShort hs
-    → linesFrom most p (levelsLaid ws hs) ≡ accepted (record { weights = ws; heights = hs })
-unfolding levelsLaid joined
-laid-levels most p [] [] room e s t =
-    sym (joined-none (linesFrom most p [])) ∙ lines-end [] p 0 most (most - 1) (omega arith) (omega arith) none
-laid-levels most p [] (h ∷ hs) room e s t = absurd (let b : ⊥ = omega arith in b)
-laid-levels most p (w ∷ ws) [] room e s t = absurd (let b : ⊥ = omega arith in b)
-laid-levels most p (w ∷ ws) (h ∷ hs) room e s t =
-    let x = laidOut (bytes "level") (w ∷ h ∷ []) in
-    let y = levelsLaid ws hs in
-    let n = length-append x y in
-    let some = line-length (bytes "level") (w ∷ h ∷ []) in
-    let rest = laid-levels (most - 1) (p + 1) ws hs (omega (arith, n, some)) (suc-inj e) (s .1) (t .1) in
-    sym (joined-none (linesFrom most p (x ++ y)))
-    ∙ lines-more (x ++ y) p 0 most (most - 1) (omega arith) (omega (arith, n, some)) (w ∷ h ∷ []) (length x)
-    (line-read (bytes "level") (w ∷ h ∷ []) y (s .0, (t .0, tt))) none
-    ∙ ap (λ (k : ℕ). joined (one (w ∷ h ∷ [])) (linesFrom (most - 1) (p + 1) (drop k (x ++ y)))) (zero-add (length x))
-    ∙ ap (λ (l : List ℕ). joined (one (w ∷ h ∷ [])) (linesFrom (most - 1) (p + 1) l)) (drop-at x y (length x) refl)
-    ∙ ap (joined (one (w ∷ h ∷ []))) rest
+  pub sheet-lines : length s ≤ 4_096 → readSheet s ≡ sheetLines s
+  unfolding readSheet
+  sheet-lines h = simp (le-leb _ _ h)
 
--- what it holds is what it was laid out with
-site-back : (v : SiteValues) → siteValues (siteNumbers v) ≡ v
-site-back v = refl
+-- ---- no word of a sheet has a TAB or a LF
+one-word : (k : Layout) → Unbroken (k .word) → Worded (k ∷ [])
+one-word k u j m = subst (λ (i : Layout). Unbroken (i .word)) (sym (List·Memᴰ·eq-of-singleton m)) u
 
-frame-back : (v : FrameValues) → frameValues (frameNumbers v) ≡ v
-frame-back v = refl
+pub level-worded : WordedForm levelForm
+level-worded i = one-word levelLayout (omega arith)
 
-laid-lines : (r : SheetRead) → Laid r → readLines (sheetLaid r) ≡ accepted r
-unfolding readLines sheetLaid
-laid-lines r l =
-    let site = laidOut (bytes "site") (siteNumbers (r .site)) in
-    let frame = laidOut (bytes "frame") (frameNumbers (r .frame)) in
-    let levels = levelsLaid (r .weights) (r .heights) in
-    simp (
-      laid-line 1 (bytes "site") (siteNumbers (r .site)) (frame ++ levels) (l .site),
-      laid-line 2 (bytes "frame")
-          (frameNumbers (r .frame)) levels (l .frame),
-      laid-levels (suc (length levels)) 3 (r .weights) (r .heights) (omega arith)
-          (l .same) (l .weights) (l .heights),
-    )
+pub frame-worded : WordedForm (past sheetForm)
+frame-worded zero = one-word frameLayout (omega arith)
+frame-worded (suc i) = level-worded i
+
+pub sheet-worded : WordedForm sheetForm
+sheet-worded zero = one-word siteLayout (omega arith)
+sheet-worded (suc i) = frame-worded i
+
+-- ---- the lines of what a sheet holds
+levels-laid : (ws hs : List ℕ) → AllShort ws → AllShort hs → LaidLines levelForm (levelLinesOf ws hs)
+levels-laid [] hs s t = refl
+levels-laid (w ∷ ws) [] s t = refl
+levels-laid (w ∷ ws) (h ∷ hs) s t =
+    (record { layout = List·Memᴰ·head refl; short = (s .0, (t .0, tt)) }, levels-laid ws hs (s .1) (t .1))
+
+levels-back : (ws hs : List ℕ) → length ws ≡ length hs → levelsOf (levelLinesOf ws hs) ≡ record { weights = ws; heights = hs }
+levels-back [] [] e = refl
+levels-back [] (h ∷ hs) e = absurd (let z : ⊥ = omega arith in z)
+levels-back (w ∷ ws) [] e = absurd (let z : ⊥ = omega arith in z)
+levels-back (w ∷ ws) (h ∷ hs) e =
+    ap (λ (ls : Levels). record { weights = w ∷ ls .weights; heights = h ∷ ls .heights }) (levels-back ws hs (suc-inj e))
+
+-- lines that are laid out are read, and hold what they hold
+pub lines-held : (ls : List Line) → LaidLines sheetForm ls → sheetLines (linesLaid ls) ≡ accepted (sheetOf ls)
+unfolding sheetLines
+lines-held ls t =
+    ap (λ (o : Outcome (List Line)). o >>= λ z. accepted (sheetOf z))
+    (laid-lines-read (suc (length (linesLaid ls))) 1 sheetForm ls sheet-worded t (omega arith))
 
 -- a sheet that is laid out is read
-pub laid-read : (r : SheetRead) → Laid r → readSheet (sheetLaid r) ≡ accepted r
-laid-read r l = sheet-lines (sheetLaid r) (l .fits) ∙ laid-lines r l
+pub laid-read : (r : Sheet) → Laid r → readSheet (sheetLaid r) ≡ accepted r
+unfolding sheetLaid
+laid-read r l =
+    sheet-lines (linesLaid (linesOf r)) (l .fits)
+    ∙ lines-held (linesOf r) (
+      record { layout = List·Memᴰ·head refl; short = l .site },
+      (
+        record { layout = List·Memᴰ·head refl; short = l .frame },
+        levels-laid (r .levels .weights) (r .levels .heights) (l .weights) (l .heights),
+      ),
+    )
+    ∙ ap (λ (ls : Levels). accepted (record { site = r .site; frame = r .frame; levels = ls }))
+    (levels-back (r .levels .weights) (r .levels .heights) (l .same))

@@ -16,15 +16,16 @@ use Rattle.job.proofs.Independent.{forces-cells, shears-cells, overturnings-cel
 use Rattle.job.proofs.Stages.{job-refused, job-accepted}
 use Rattle.sheet.proofs.Listings.{baseLine, results-listing-room, refusal-room}
 use Rattle.sheet.specs.declared.listing.Listing.{Listing}
-use Rattle.sheet.specs.Listing.{roofFirst, resultsListing, listing, jobOfSheet, sheetListing, printed, Levelled}
-use Rattle.sheet.specs.Reading.{SheetRead, readSheet}
+use Rattle.sheet.specs.Listing.{roofFirst, resultsListing, listing, jobOfSheet, sheetListing, longest, printed, Levelled}
+use Rattle.sheet.specs.Reading.{readSheet}
+use Rattle.sheet.specs.Sheet.{Sheet}
 
-results-listing-short : (n : Figures) (fs us ms : List ℕ) → Levelled fs us ms → length (resultsListing n fs us ms) ≤ 4_610
+results-listing-short : (n : Figures) (fs us ms : List ℕ) → Levelled fs us ms → length (resultsListing n fs us ms) ≤ longest
 unfolding resultsListing
 results-listing-short n fs us ms l =
     omega (arith, length-append (baseLine fs us ms n) (roofFirst fs us ms (length fs)), results-listing-room fs us ms n l)
 
-results-short : (n : Figures) (ws hs : List ℕ) → length ws ≤ 50 → length (listing (accepted (resultsAt n ws hs))) ≤ 4_610
+results-short : (n : Figures) (ws hs : List ℕ) → length ws ≤ 50 → length (listing (accepted (resultsAt n ws hs))) ≤ longest
 unfolding listing
 results-short n ws hs few =
     let r = resultsAt n ws hs in
@@ -37,27 +38,27 @@ results-short n ws hs few =
       few = omega (arith, same);
     })
 
-refused-short : (n p : ℕ) → length (listing (refused n p)) ≤ 4_610
+refused-short : (n p : ℕ) → length (listing (refused n p)) ≤ longest
 unfolding listing
 refused-short n p = refusal-room n p
 
-job-short : (r : SheetRead) → length (listing (jobOfSheet r)) ≤ 4_610
-job-short r = go (judgedJob (r .site) (r .frame) (r .weights) (r .heights) (length (r .weights))) refl
+job-short : (r : Sheet) → length (listing (jobOfSheet r)) ≤ longest
+job-short r = go (judgedJob (r .site) (r .frame) (r .levels .weights) (r .levels .heights) (length (r .levels .weights))) refl
   where
-    go : (o : Outcome Given) → judgedJob (r .site) (r .frame) (r .weights) (r .heights) (length (r .weights)) ≡ o
-        → length (listing (jobOfSheet r)) ≤ 4_610
+    go : (o : Outcome Given) → judgedJob (r .site) (r .frame) (r .levels .weights) (r .levels .heights) (length (r .levels .weights)) ≡ o
+        → length (listing (jobOfSheet r)) ≤ longest
     go (accepted g) e =
-        let few = given-allowed (r .site) (r .frame) (r .weights) (r .heights) (length (r .weights)) g e .0 .levels .few in
-        rw (job-accepted (r .site) (r .frame) (r .weights) (r .heights) (length (r .weights)) e)
-        (results-short _ (r .weights) (r .heights) few)
+        let few = given-allowed (r .site) (r .frame) (r .levels .weights) (r .levels .heights) (length (r .levels .weights)) g e .0 .levels .few in
+        rw (job-accepted (r .site) (r .frame) (r .levels .weights) (r .levels .heights) (length (r .levels .weights)) e)
+        (results-short _ (r .levels .weights) (r .levels .heights) few)
     go (refused n p) e =
-        rw (job-refused (r .site) (r .frame) (r .weights) (r .heights) (length (r .weights)) e) (refused-short n p)
+        rw (job-refused (r .site) (r .frame) (r .levels .weights) (r .levels .heights) (length (r .levels .weights)) e) (refused-short n p)
 
-pub listing-short : (s : List ℕ) → length (sheetListing s) ≤ 4_610
+pub listing-short : (s : List ℕ) → length (sheetListing s) ≤ longest
 unfolding sheetListing
 listing-short s = go (readSheet s)
   where
-    go : (o : Outcome SheetRead) → length (listing (o >>= jobOfSheet)) ≤ 4_610
+    go : (o : Outcome Sheet) → length (listing (o >>= jobOfSheet)) ≤ longest
     go (accepted r) = job-short r
     go (refused n p) = refused-short n p
 
@@ -65,4 +66,4 @@ pub listing-part : (s : List ℕ) (l : Listing) → l ≡ printed (sheetListing 
     → (l .length ≤ length (l .bytes)) × (take (l .length) (l .bytes) ≡ sheetListing s)
 unfolding printed
 listing-part s l e =
-    rw e (simp length-append (omega arith), laid-part (sheetListing s) (zeros 4_610) (length (sheetListing s)) refl)
+    rw e (simp length-append (omega arith), laid-part (sheetListing s) (zeros longest) (length (sheetListing s)) refl)

@@ -6,7 +6,6 @@ use mathlib.Core.List.{List}
 use Prim.Native.Nat.{ℕ}
 use lib.ListN.{length}
 use Rattle.limits.specs.declared.judging.Given.{Given}
-use Rattle.limits.specs.Applies.{Applies}
 use Rattle.limits.specs.Judging.{judgedJob}
 use Rattle.limits.specs.Outcome.{Outcome, accepted, refused, _>>=_}
 use Rattle.limits.proofs.Refusing.{accepted-unless-refused}
@@ -14,33 +13,31 @@ use Rattle.job.specs.Job.{resultsOf}
 use Rattle.job.proofs.Stages.{job-accepted}
 use Rattle.sheet.proofs.Allowed.{allowed-laid}
 use Rattle.sheet.proofs.LaidRead.{laid-read}
-use Rattle.sheet.specs.Layout.{sheetLaid, Laid}
+use Rattle.sheet.specs.Applies.{JobApplies}
+use Rattle.sheet.specs.Laid.{sheetLaid, Laid}
 use Rattle.sheet.specs.Listing.{refusal, listing, jobOfSheet, sheetListing}
-use Rattle.sheet.specs.Reading.{SheetRead, readSheet}
+use Rattle.sheet.specs.Reading.{readSheet}
+use Rattle.sheet.specs.Sheet.{Sheet}
 
-pub read-listed : (s : List ℕ) (r : SheetRead) → readSheet s ≡ accepted r → sheetListing s ≡ listing (jobOfSheet r)
+pub read-listed : (s : List ℕ) (r : Sheet) → readSheet s ≡ accepted r → sheetListing s ≡ listing (jobOfSheet r)
 unfolding sheetListing
-read-listed s r e = ap (λ (o : Outcome SheetRead). listing (o >>= jobOfSheet)) e
+read-listed s r e = ap (λ (o : Outcome Sheet). listing (o >>= jobOfSheet)) e
 
 pub unread-listed : (s : List ℕ) (n p : ℕ) → readSheet s ≡ refused n p → sheetListing s ≡ refusal n p
 unfolding sheetListing listing
-unread-listed s n p e = ap (λ (o : Outcome SheetRead). listing (o >>= jobOfSheet)) e
+unread-listed s n p e = ap (λ (o : Outcome Sheet). listing (o >>= jobOfSheet)) e
 
-module _ (r : SheetRead) where
-  -- refusal n applies to the numbers, at place p
-  abbrev pub Wrong : ℕ → ℕ → Type 0
-  Wrong = Applies (r .site) (r .frame) (r .weights) (r .heights) (length (r .weights))
-
+module _ (r : Sheet) where
   laid-job : Laid r → sheetListing (sheetLaid r) ≡ listing (jobOfSheet r)
   laid-job l = read-listed (sheetLaid r) r (laid-read r l)
 
-  pub laid-listed : ((n p : ℕ) → Wrong n p → ⊥)
-      → (g : Given) × (judgedJob (r .site) (r .frame) (r .weights) (r .heights) (length (r .weights)) ≡ accepted g)
-      × (sheetListing (sheetLaid r) ≡ listing (accepted (resultsOf g (r .weights) (r .heights))))
+  pub laid-listed : ((n p : ℕ) → JobApplies r n p → ⊥)
+      → (g : Given) × (judgedJob (r .site) (r .frame) (r .levels .weights) (r .levels .heights) (length (r .levels .weights)) ≡ accepted g)
+      × (sheetListing (sheetLaid r) ≡ listing (accepted (resultsOf g (r .levels .weights) (r .levels .heights))))
   laid-listed none =
-      let j = accepted-unless-refused (r .site) (r .frame) (r .weights) (r .heights) (length (r .weights)) none in (
+      let j = accepted-unless-refused (r .site) (r .frame) (r .levels .weights) (r .levels .heights) (length (r .levels .weights)) none in (
         j .0,
         j .1,
-        laid-job (allowed-laid r (length (r .weights)) (j .0) (j .1))
-            ∙ ap listing (job-accepted (r .site) (r .frame) (r .weights) (r .heights) (length (r .weights)) (j .1)),
+        laid-job (allowed-laid r (length (r .levels .weights)) (j .0) (j .1))
+            ∙ ap listing (job-accepted (r .site) (r .frame) (r .levels .weights) (r .levels .heights) (length (r .levels .weights)) (j .1)),
       )

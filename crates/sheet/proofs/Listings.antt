@@ -12,7 +12,7 @@ use Rattle.text.specs.Bytes.{bytes}
 use Rattle.text.specs.Writing.{laidOut, spliced}
 use Rattle.text.proofs.Fields.{line-most}
 use Rattle.text.proofs.Spliced.{Wrote, wrote, wrote-none, wrote-more}
-use Rattle.sheet.specs.Listing.{roofFirst, refusal, printed, Written, Levelled}
+use Rattle.sheet.specs.Listing.{roofFirst, refusal, longest, printed, Written, Levelled}
 
 -- ---- how long: 20 digits a number at the most
 module _ (fs us ms : List ℕ) where
@@ -75,11 +75,11 @@ module _ (fs us ms : List ℕ) where
   abbrev pub baseLine : Figures → List ℕ
   baseLine n = laidOut (bytes "base") (n .v ∷ n .vm ∷ n .star ∷ n .vd ∷ n .t ∷ [])
 
-  pub results-listing-room : (n : Figures) → Levelled fs us ms → length (baseLine n) + length (roofFirst fs us ms (length fs)) ≤ 4_610
+  pub results-listing-room : (n : Figures) → Levelled fs us ms → length (baseLine n) + length (roofFirst fs us ms (length fs)) ≤ longest
   results-listing-room n l =
       omega (arith, line-most (bytes "base") (n .v ∷ n .vm ∷ n .star ∷ n .vd ∷ n .t ∷ []), roof-most (length fs), l .few)
 
-pub refusal-room : (n p : ℕ) → length (refusal n p) ≤ 4_610
+pub refusal-room : (n p : ℕ) → length (refusal n p) ≤ longest
 unfolding refusal
 refusal-room n p = omega (arith, line-most (bytes "refused") (n ∷ p ∷ []))
 
@@ -95,6 +95,6 @@ written-is {l} {old} {held} {p} w =
 pub written-as : {l l′ old held : List ℕ} {n : ℕ} → l ≡ l′ → Written l old held n → Written l′ old held n
 written-as {l} {l′} {old} {held} {n} e w = subst (λ (z : List ℕ). Written z old held n) e w
 
-pub printed-is : {l held : List ℕ} {n : ℕ} → Written l (zeros 4_610) held n → record { bytes = held; length = n } ≡ printed l
+pub printed-is : {l held : List ℕ} {n : ℕ} → Written l (zeros longest) held n → record { bytes = held; length = n } ≡ printed l
 unfolding printed
 printed-is {l} {held} {n} w = ap₂ (λ (b : List ℕ) (k : ℕ). record { bytes = b; length = k }) (w .bytes-are) (w .length-is)

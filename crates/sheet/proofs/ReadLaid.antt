@@ -1,111 +1,113 @@
--- A sheet that is read is laid out as the document says: no other is.
+-- A sheet that is read is laid out as the document says, no other is: `read-lines-laid` of a sheet's form, and its lines put together again
+-- from what it holds.
 -- Assumes nothing.
 use mathlib.Core.Path.{_≡_, refl, sym, ap, ap₂, subst, _∙_}
-use mathlib.Core.List.{List, [], _∷_, _++_}
-use Prim.Native.Nat.{ℕ, zero, suc, _+_, _≤_}
-use lib.ListN.{length, getD, drop}
+use mathlib.Core.List.{List, [], _∷_, List·Memᴰ·eq-of-singleton}
+use Prim.Native.Nat.{ℕ, suc, _≤_}
+use lib.Dec.{leb}
+use lib.ListN.{length, getD, length-map}
 use lib.Seq.{ext-getD}
+use borrow.Author.Tests.{leb-true}
 use Rattle.whole.specs.Cells.{cells}
 use Rattle.whole.proofs.Cells.{cells-length, cells-at}
-use Rattle.limits.specs.Outcome.{accepted}
-use Rattle.limits.proofs.Passed.{never, one-value, bind-passed}
-use Rattle.text.specs.Bytes.{bytes}
-use Rattle.text.specs.Line.{line}
-use Rattle.text.specs.Reading.{Reading, found, otherwise}
-use Rattle.text.specs.Writing.{laidOut, AllShort}
-use Rattle.text.proofs.Back.{line-back}
-use Rattle.sheet.proofs.Parts.{lines-same, sheetOf, sheet-parts}
-use Rattle.sheet.specs.Layout.{siteNumbers, frameNumbers, levelsLaid, sheetLaid, Laid}
-use Rattle.sheet.specs.Reading.{Line, lineAt, judgedLine, siteValues, frameValues}
-use Rattle.sheet.specs.Reading.{Levels, level, linesFrom, SheetRead, readSheet}
+use Rattle.limits.specs.Outcome.{accepted, require}
+use Rattle.limits.proofs.Passed.{differ, one-value, bind-passed, then-passed, require-passed}
+use Rattle.text.specs.Writing.{AllShort}
+use Rattle.sheet.proofs.Lines.{read-lines-laid}
+use Rattle.sheet.specs.Laid.{levelLinesOf, linesOf, sheetLaid, Laid}
+use Rattle.sheet.specs.Layouts.{Layout, Line, linesLaid, LaidLine, LaidLines}
+use Rattle.sheet.specs.Lines.{readFrom}
+use Rattle.sheet.specs.Reading.{sheetLines, readSheet}
+use Rattle.sheet.specs.Sheet.{siteLayout, frameLayout, levelLayout, sheetForm, levelForm}
+use Rattle.sheet.specs.Sheet.{levelsOf, Sheet, sheetOf}
 
--- ---- a line's numbers, one by one
+-- ---- the lines of a sheet that is read
+pub record SheetLines (s : List ℕ) (r : Sheet) : Type 0 where
+  pub short : length s ≤ 4_096
+  pub lines : List Line
+  pub is : s ≡ linesLaid lines
+  pub laid : LaidLines sheetForm lines
+  pub held : sheetOf lines ≡ r
+
+pub read-lines : (s : List ℕ) (r : Sheet) → readSheet s ≡ accepted r → SheetLines s r
+unfolding readSheet sheetLines
+read-lines s r e =
+    let q = then-passed (require (leb (length s) 4_096) 17 0) (sheetLines s) e in
+    let b = bind-passed (readFrom 1 sheetForm s) (λ ls. accepted (sheetOf ls)) (q .1) in
+    let t = read-lines-laid (suc (length s)) 1 sheetForm s (b .0) (b .1) in
+    record {
+      short = leb-true (length s) 4_096 (require-passed (leb (length s) 4_096) 17 0 (q .0));
+      lines = b .0;
+      is = t .0;
+      laid = t .1;
+      held = one-value (b .2);
+    }
+
+-- as many heights as weights: one of each a line
+pub read-same : (s : List ℕ) (r : Sheet) → readSheet s ≡ accepted r → length (r .levels .heights) ≡ length (r .levels .weights)
+read-same s r e =
+    subst (λ (x : Sheet). length (x .levels .heights) ≡ length (x .levels .weights)) (read-lines s r e .held) (simp length-map)
+
+-- ---- a line of one layout, by its numbers one by one
 numbers-back : (ns : List ℕ) (k : ℕ) → length ns ≡ k → cells (λ i. getD ns i 0) k ≡ ns
 numbers-back ns k e =
     ext-getD 0 (cells (λ i. getD ns i 0) k) ns (cells-length (λ i. getD ns i 0) k ∙ sym e)
     (λ i h. cells-at (λ i. getD ns i 0) k i (rw (cells-length (λ i. getD ns i 0) k) at h))
 
-site-back : (ns : List ℕ) → length ns ≡ 7 → siteNumbers (siteValues ns) ≡ ns
-unfolding cells
-site-back ns e = numbers-back ns 7 e
+module _ (k : Layout) {l : Line} (t : LaidLine (k ∷ []) l) where
+  line-back : record { word = k .word; numbers = cells (λ i. getD (l .numbers) i 0) (k .numbers) } ≡ l
+  line-back =
+      let e = List·Memᴰ·eq-of-singleton (t .layout) in
+      λ i. record {
+        word = ap (λ (j : Layout). j .word) (sym e) i;
+        numbers = numbers-back (l .numbers) (k .numbers) (ap (λ (j : Layout). j .numbers) e) i;
+      }
 
-frame-back : (ns : List ℕ) → length ns ≡ 5 → frameNumbers (frameValues ns) ≡ ns
-unfolding cells
-frame-back ns e = numbers-back ns 5 e
-
-level-back : (ns : List ℕ) → length ns ≡ 2 → getD ns 0 0 ∷ getD ns 1 0 ∷ [] ≡ ns
-unfolding cells
-level-back ns e = numbers-back ns 2 e
-
--- ---- line p
-pub record LineLaid (w : List ℕ) (k : ℕ) (s : List ℕ) (l : Line) : Type 0 where
-  pub is : s ≡ laidOut w (l .numbers) ++ l .rest
-  pub short : AllShort (l .numbers)
-  pub count : length (l .numbers) ≡ k
-
-pub line-laid : (p : ℕ) (w : List ℕ) (k : ℕ) (s : List ℕ) (l : Line) → lineAt p w k s ≡ accepted l → LineLaid w k s l
-unfolding lineAt
-line-laid p w k s l e = go (line w k s) refl e
-  where
-    go : (o : Reading (List ℕ)) → line w k s ≡ o → judgedLine p o s ≡ accepted l → LineLaid w k s l
-    go (found ns n) q u =
-        let b = line-back w k s ns n q in
-        let same : record { numbers = ns; rest = drop n s } ≡ l = one-value u in
-        subst (LineLaid w k s) same
-        (record { is = b .1 ∙ ap (λ (x : List ℕ). x ++ drop n s) (b .2 .is); short = b .2 .short; count = b .2 .count })
-    go otherwise q u = absurd (never u)
+  short-back : AllShort (cells (λ i. getD (l .numbers) i 0) (k .numbers))
+  short-back = subst (λ (x : Line). AllShort (x .numbers)) (sym line-back) (t .short)
 
 -- ---- the level lines
-pub record LevelsLaid (s : List ℕ) (ls : Levels) : Type 0 where
-  pub is : s ≡ levelsLaid (ls .weights) (ls .heights)
-  pub weights : AllShort (ls .weights)
-  pub heights : AllShort (ls .heights)
+pub record LevelsBack (ls : List Line) : Type 0 where
+  pub lines : levelLinesOf (levelsOf ls .weights) (levelsOf ls .heights) ≡ ls
+  pub weights : AllShort (levelsOf ls .weights)
+  pub heights : AllShort (levelsOf ls .heights)
 
-level-laid : (s : List ℕ) (l : Line) (ls : Levels) → LineLaid (bytes "level") 2 s l → LevelsLaid (l .rest) ls
-    → LevelsLaid s (level (l .numbers) ls)
-unfolding levelsLaid
-level-laid s l ls h t =
-    let two = level-back (l .numbers) (h .count) in
-    let short = subst AllShort (sym two) (h .short) in
+levels-back : (ls : List Line) → LaidLines levelForm ls → LevelsBack ls
+unfolding cells
+levels-back [] t = record { lines = refl; weights = tt; heights = tt }
+levels-back (l ∷ ls) t =
+    let two = short-back levelLayout (t .0) in
+    let later = levels-back ls (t .1) in
     record {
-      is = h .is ∙ ap₂ (λ (ns rest : List ℕ). laidOut (bytes "level") ns ++ rest) (sym two) (t .is);
-      weights = (short .0, t .weights);
-      heights = (short .1 .0, t .heights);
+      lines = ap₂ (λ (x : Line) (xs : List Line). x ∷ xs) (line-back levelLayout (t .0)) (later .lines);
+      weights = (two .0, later .weights);
+      heights = (two .1 .0, later .heights);
     }
 
-lines-laid : (most p : ℕ) (s : List ℕ) (ls : Levels) → linesFrom most p s ≡ accepted ls → LevelsLaid s ls
-unfolding linesFrom levelsLaid
-lines-laid zero p s ls e = absurd (never e)
-lines-laid (suc most) p [] ls e =
-    subst (LevelsLaid []) (one-value e) (record { is = refl; weights = tt; heights = tt })
-lines-laid (suc most) p (b ∷ s) ls e =
-    let l = bind-passed (lineAt p (bytes "level") 2 (b ∷ s)) _ e in
-    let r = bind-passed (linesFrom most (p + 1) (l .0 .rest)) (λ ms. accepted (level (l .0 .numbers) ms)) (l .2) in
-    subst (LevelsLaid (b ∷ s)) (one-value (r .2))
-    (level-laid (b ∷ s) (l .0) (r .0) (line-laid p (bytes "level") 2 (b ∷ s) (l .0) (l .1))
-    (lines-laid most (p + 1) (l .0 .rest) (r .0) (r .1)))
-
--- a sheet that is read was laid out: no other is read
-pub read-laid : (s : List ℕ) (r : SheetRead) → readSheet s ≡ accepted r → (s ≡ sheetLaid r) × Laid r
-unfolding sheetLaid
-read-laid s r e =
-    let parts = sheet-parts s r e in
-    let site = line-laid 1 (bytes "site") 7 s (parts .site) (parts .site-is) in
-    let frame = line-laid 2 (bytes "frame") 5 (parts .site .rest) (parts .frame) (parts .frame-is) in
-    let levels = lines-laid _ 3 (parts .frame .rest) (parts .levels) (parts .levels-are) in
-    let seven = site-back (parts .site .numbers) (site .count) in
-    let five = frame-back (parts .frame .numbers) (frame .count) in
-    let is : s ≡ sheetLaid (sheetOf (parts .site) (parts .frame) (parts .levels)) =
-    site .is ∙ ap₂ (λ (ns rest : List ℕ). laidOut (bytes "site") ns ++ rest) (sym seven)
-    (frame .is ∙ ap₂ (λ (ns rest : List ℕ). laidOut (bytes "frame") ns ++ rest) (sym five) (levels .is)) in
-    subst (λ (x : SheetRead). (s ≡ sheetLaid x) × Laid x) (parts .all) (
-      is,
+-- ---- all lines
+sheet-back : (ls : List Line) → LaidLines sheetForm ls → length (linesLaid ls) ≤ 4_096
+    → (linesLaid ls ≡ sheetLaid (sheetOf ls)) × Laid (sheetOf ls)
+unfolding sheetLaid cells
+sheet-back [] t fits = absurd (differ (sym t))
+sheet-back (a ∷ []) t fits = absurd (differ (sym (t .1)))
+sheet-back (a ∷ b ∷ ls) t fits =
+    let later = levels-back ls (t .1 .1) in
+    let same : linesOf (sheetOf (a ∷ b ∷ ls)) ≡ a ∷ b ∷ ls =
+    λ i. line-back siteLayout (t .0) i ∷ line-back frameLayout (t .1 .0) i ∷ later .lines i in (
+      ap linesLaid (sym same),
       record {
-        site = subst AllShort (sym seven) (site .short);
-        frame = subst AllShort (sym five) (frame .short);
-        weights = levels .weights;
-        heights = levels .heights;
-        same = sym (lines-same _ 3 (parts .frame .rest) (parts .levels) (parts .levels-are));
-        fits = subst (λ (x : List ℕ). length x ≤ 4_096) is (parts .short);
+        site = short-back siteLayout (t .0);
+        frame = short-back frameLayout (t .1 .0);
+        weights = later .weights;
+        heights = later .heights;
+        same = simp length-map;
+        fits = subst (λ (z : List Line). length (linesLaid z) ≤ 4_096) (sym same) fits;
       },
     )
+
+-- a sheet that is read was laid out: no other is read
+pub read-laid : (s : List ℕ) (r : Sheet) → readSheet s ≡ accepted r → (s ≡ sheetLaid r) × Laid r
+read-laid s r e =
+    let l = read-lines s r e in
+    let b = sheet-back (l .lines) (l .laid) (subst (λ (x : List ℕ). length x ≤ 4_096) (l .is) (l .short)) in
+    subst (λ (x : Sheet). (s ≡ sheetLaid x) × Laid x) (l .held) (l .is ∙ b .0, b .1)

@@ -1,11 +1,10 @@
 -- The stages of a sheet, as the code takes them: line 1, line 2, all later lines.
 -- Assumes nothing.
 use mathlib.Core.Path.{_≡_, refl, sym, ap, _∙_}
-use mathlib.Core.List.{List}
-use Prim.Native.Nat.{ℕ, _≤_, _<_}
+use mathlib.Core.List.{List, [], _∷_}
+use Prim.Native.Nat.{ℕ}
 use lib.ListN.{length, drop}
 use lib.Seq.{drop-drop}
-use borrow.Author.Tests.{le-leb, lt-leb}
 use Rattle.whole.specs.Cells.{laid}
 use Rattle.limits.specs.declared.frame.FrameValues.{FrameValues}
 use Rattle.limits.specs.declared.refusal.Refusal.{Refusal}
@@ -13,7 +12,6 @@ use Rattle.limits.specs.declared.site.SiteValues.{SiteValues}
 use Rattle.limits.specs.Outcome.{Outcome, accepted, refused, Done, _>>=_}
 use Rattle.limits.proofs.Passed.{never}
 use Rattle.text.specs.declared.reading.Cursor.{Cursor}
-use Rattle.text.specs.Bytes.{bytes}
 use Rattle.text.specs.Line.{line, blank}
 use Rattle.text.specs.Reading.{otherwise}
 use Rattle.text.proofs.Readings.{Went, LineWent}
@@ -22,24 +20,28 @@ use Rattle.sheet.specs.declared.levels.LevelsAnswer.{LevelsAnswer}
 use Rattle.sheet.specs.declared.levels.LevelsAnswer.the-variants.{Taken as TakenLevels, Refused as RefusedLevels}
 use Rattle.sheet.specs.declared.levels.LevelsRead.{LevelsRead}
 use Rattle.sheet.specs.declared.reader.SheetAnswer.the-variants.{Taken}
-use Rattle.sheet.specs.Reading.{lineAt, siteValues, frameValues, Levels, levelLines}
-use Rattle.sheet.specs.Reading.{readLines, readSheet, cellsOf, levelsRead, sheetRead}
-use Rattle.sheet.proofs.Refused.{answer-refused}
+use Rattle.sheet.specs.Layouts.{Layout, Line, past}
+use Rattle.sheet.specs.Lines.{Front, lineIn, readFrom}
+use Rattle.sheet.specs.Reading.{sheetLines, levelLines, kept, cellsOf, levelsRead, sheetRead}
+use Rattle.sheet.specs.Sheet.{siteLayout, frameLayout, sheetForm, levelForm, siteValues, frameValues, Levels, levelsOf}
+use Rattle.sheet.proofs.LaidRead.{sheet-worded, frame-worded}
+use Rattle.sheet.proofs.Lines.{read-stop, read-on}
+use Rattle.sheet.proofs.Refused.{answer-refused, only}
 
--- ---- a line at a cursor
-line-at : (s w : List ℕ) (p k : ℕ) {c c′ : Cursor} {ns : List ℕ} → Went c c′ (line w k (drop (c .at) s)) ns
-    → lineAt p w k (drop (c .at) s) ≡ accepted (record { numbers = ns; rest = drop (c′ .at) s })
-unfolding lineAt
-line-at s w p k {c} {c′} {ns} went =
-    rw (went .is, drop-drop (went .used) (c .at) s) (ap (λ (d : Cursor). accepted (record {
-      numbers =
-          ns;
-      rest = drop (d .at) s;
-    })) (went .to))
+-- ---- a line of one layout, at a cursor
+abbrev front : Layout → List ℕ → List ℕ → Front
+front k ns s = record { line = record { word = k .word; numbers = ns }; rest = s }
 
-line-not : (s w : List ℕ) (p k : ℕ) → line w k s ≡ otherwise → lineAt p w k s ≡ refused 16 p
-unfolding lineAt
-line-not s w p k o = simp o
+line-at : (s : List ℕ) (p : ℕ) (k : Layout) {c c′ : Cursor} {ns : List ℕ}
+    → Went c c′ (line (k .word) (k .numbers) (drop (c .at) s)) ns
+    → lineIn p (k ∷ []) (drop (c .at) s) ≡ accepted (front k ns (drop (c′ .at) s))
+unfolding lineIn
+line-at s p k {c} {c′} {ns} went =
+    rw (went .is, drop-drop (went .used) (c .at) s) (ap (λ (d : Cursor). accepted (front k ns (drop (d .at) s))) (went .to))
+
+line-not : (s : List ℕ) (p : ℕ) (k : Layout) → line (k .word) (k .numbers) s ≡ otherwise → lineIn p (k ∷ []) s ≡ refused 16 p
+unfolding lineIn
+line-not s p k o = simp o
 
 -- ---- what the code holds of the level lines
 -- what an answer says, its value left out
@@ -52,30 +54,37 @@ unfolding levelsRead
 said-is (accepted ls) = refl
 said-is (refused n p) = refl
 
-pub levels-refused : (o : Outcome Levels) (r : LevelsRead) (f : Refusal) → r ≡ levelsRead o → r .answer ≡ RefusedLevels f
-    → o ≡ refused (f .number) (f .place)
-levels-refused o r f e m = answer-refused levelsRead (λ (x : LevelsRead). said (x .answer)) said-is o r e (ap said m)
+pub levels-refused : (s : List ℕ) (r : LevelsRead) (f : Refusal) → r ≡ levelsRead (levelLines s) → r .answer ≡ RefusedLevels f
+    → readFrom 3 levelForm s ≡ refused (f .number) (f .place)
+unfolding levelLines
+levels-refused s r f e m =
+    only (readFrom 3 levelForm s) levelsOf
+    (answer-refused levelsRead (λ (x : LevelsRead). said (x .answer)) said-is (levelLines s) r e (ap said m))
 
-pub record LevelsTaken (o : Outcome Levels) (r : LevelsRead) (n : ℕ) : Type 0 where
-  pub levels : Levels
-  pub is : o ≡ accepted levels
-  pub count : n ≡ length (levels .weights)
-  pub weights : r .weights ≡ cellsOf (levels .weights)
-  pub heights : r .heights ≡ cellsOf (levels .heights)
+pub record LevelsTaken (s : List ℕ) (r : LevelsRead) (n : ℕ) : Type 0 where
+  pub lines : List Line
+  pub are : readFrom 3 levelForm s ≡ accepted lines
+  pub count : n ≡ length (kept (levelsOf lines .weights))
+  pub weights : r .weights ≡ cellsOf (levelsOf lines .weights)
+  pub heights : r .heights ≡ cellsOf (levelsOf lines .heights)
 
-pub levels-taken : (o : Outcome Levels) (r : LevelsRead) (n : ℕ) → r ≡ levelsRead o → r .answer ≡ TakenLevels n
-    → LevelsTaken o r n
-unfolding levelsRead
-levels-taken (accepted ls) r n e m =
-    let e′ = sym (ap (λ (x : LevelsRead). x .answer) e) ∙ m in
-    record {
-      levels = ls;
-      is = refl;
-      count = cc;
-      weights = ap (λ (x : LevelsRead). x .weights) e;
-      heights = ap (λ (x : LevelsRead). x .heights) e;
-    }
-levels-taken (refused k p) r n e m = absurd (never (ap said (sym (ap (λ (x : LevelsRead). x .answer) e) ∙ m)))
+pub levels-taken : (s : List ℕ) (r : LevelsRead) (n : ℕ) → r ≡ levelsRead (levelLines s) → r .answer ≡ TakenLevels n
+    → LevelsTaken s r n
+unfolding levelLines levelsRead
+levels-taken s r n e m = go (readFrom 3 levelForm s) refl e
+  where
+    go : (o : Outcome (List Line)) → readFrom 3 levelForm s ≡ o → r ≡ levelsRead (o >>= λ ls. accepted (levelsOf ls))
+        → LevelsTaken s r n
+    go (accepted ls) q u =
+        let u′ = sym (ap (λ (x : LevelsRead). x .answer) u) ∙ m in
+        record {
+          lines = ls;
+          are = q;
+          count = cc;
+          weights = ap (λ (x : LevelsRead). x .weights) u;
+          heights = ap (λ (x : LevelsRead). x .heights) u;
+        }
+    go (refused k p) q u = absurd (never (ap said (sym (ap (λ (x : LevelsRead). x .answer) u) ∙ m)))
 
 -- ---- line by line
 abbrev start : Cursor
@@ -89,52 +98,47 @@ frame-held : (ns : List ℕ) → frameValues (laid ns blank) ≡ frameValues ns
 frame-held ns = rw (in-cells ns 0, in-cells ns 1, in-cells ns 2, in-cells ns 3, in-cells ns 4)
 
 module _ (s : List ℕ) where
-  pub lines-first : line (bytes "site") 7 s ≡ otherwise → readLines s ≡ refused 16 1
-  unfolding readLines
-  lines-first o = simp (line-not s (bytes "site") 1 7 o)
+  pub lines-first : line (siteLayout .word) (siteLayout .numbers) s ≡ otherwise → sheetLines s ≡ refused 16 1
+  unfolding sheetLines
+  lines-first o = simp (read-stop 1 sheetForm s 16 1 refl (line-not s 1 siteLayout o))
 
-  module _ {second : Cursor} {n₁ : List ℕ} (first : LineWent start second (line (bytes "site") 7 s) n₁) where
-    begun : lineAt 1 (bytes "site") 7 s ≡ accepted (record { numbers = first .numbers; rest = drop (second .at) s })
-    begun = line-at s (bytes "site") 1 7 (first .went)
+  module _ {second : Cursor} {n₁ : List ℕ} (first : LineWent start second (line (siteLayout .word) (siteLayout .numbers) s) n₁) where
+    abbrev rest₁ : List ℕ
+    rest₁ = drop (second .at) s
 
-    pub lines-second : line (bytes "frame") 5 (drop (second .at) s) ≡ otherwise → readLines s ≡ refused 16 2
-    unfolding readLines
-    lines-second o = simp (begun, line-not (drop (second .at) s) (bytes "frame") 2 5 o)
+    begun : readFrom 1 sheetForm s
+        ≡ (readFrom 2 (past sheetForm) rest₁ >>= λ ls. accepted (front siteLayout (first .numbers) rest₁ .line ∷ ls))
+    begun = read-on 1 sheetForm s (front siteLayout (first .numbers) rest₁) sheet-worded (line-at s 1 siteLayout (first .went))
+
+    pub lines-second : line (frameLayout .word) (frameLayout .numbers) rest₁ ≡ otherwise → sheetLines s ≡ refused 16 2
+    unfolding sheetLines
+    lines-second o = simp (begun, read-stop 2 (past sheetForm) rest₁ 16 2 refl (line-not rest₁ 2 frameLayout o))
 
     module _ {third : Cursor} {n₂ : List ℕ}
-        (middle : LineWent second third (line (bytes "frame") 5 (drop (second .at) s)) n₂) where
-      continued : lineAt 2 (bytes "frame") 5 (drop (second .at) s) ≡ accepted (record {
-        numbers =
-            middle .numbers;
-        rest = drop (third .at) s;
-      })
-      continued = line-at s (bytes "frame") 2 5 (middle .went)
+        (middle : LineWent second third (line (frameLayout .word) (frameLayout .numbers) rest₁) n₂) where
+      abbrev rest₂ : List ℕ
+      rest₂ = drop (third .at) s
 
-      pub lines-later : (n p : ℕ) → levelLines 3 (drop (third .at) s) ≡ refused n p → readLines s ≡ refused n p
-      unfolding readLines
+      continued : readFrom 2 (past sheetForm) rest₁
+          ≡ (readFrom 3 levelForm rest₂ >>= λ ls. accepted (front frameLayout (middle .numbers) rest₂ .line ∷ ls))
+      continued =
+          read-on 2 (past sheetForm) rest₁ (front frameLayout (middle .numbers) rest₂) frame-worded
+          (line-at s 2 frameLayout (middle .went))
+
+      pub lines-later : (n p : ℕ) → readFrom 3 levelForm rest₂ ≡ refused n p → sheetLines s ≡ refused n p
+      unfolding sheetLines
       lines-later n p o = simp (begun, continued, o)
 
-      pub lines-all : {r : LevelsRead} {n : ℕ} {v : SiteValues} {f : FrameValues}
-          → LevelsTaken (levelLines 3 (drop (third .at) s)) r n
+      pub lines-all : {r : LevelsRead} {n : ℕ} {v : SiteValues} {f : FrameValues} → LevelsTaken rest₂ r n
           → v ≡ siteValues n₁ → f ≡ frameValues n₂
-          → record { answer = Taken v f n; weights = r .weights; heights = r .heights } ≡ sheetRead (readLines s)
-      unfolding readLines sheetRead
+          → record { answer = Taken v f n; weights = r .weights; heights = r .heights } ≡ sheetRead (sheetLines s)
+      unfolding sheetLines sheetRead
       lines-all {r} {n} {v} {f} last ev ef =
-          simp (begun, continued, last .is)
+          simp (begun, continued, last .are)
           (rw (
             last .count,
             last .weights,
             last .heights,
-            ev ∙ ap siteValues (first .held-is)
-                ∙ site-held (first .numbers),
+            ev ∙ ap siteValues (first .held-is) ∙ site-held (first .numbers),
             ef ∙ ap frameValues (middle .held-is) ∙ frame-held (middle .numbers),
           ))
-
-  -- ---- 17 before everything
-  pub sheet-long : 4_096 < length s → readSheet s ≡ refused 17 0
-  unfolding readSheet
-  sheet-long h = simp (lt-leb _ _ h)
-
-  pub sheet-lines : length s ≤ 4_096 → readSheet s ≡ readLines s
-  unfolding readSheet
-  sheet-lines h = simp (le-leb _ _ h)

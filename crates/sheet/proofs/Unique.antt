@@ -8,7 +8,7 @@ use mathlib.Core.List.{List}
 use Prim.Native.Nat.{ℕ}
 use Rattle.whole.proofs.Unique.{determined}
 use Rattle.sheet.specs.declared.listing.Listing.{Listing}
-use Rattle.sheet.specs.declared.reader.SheetCells.{SheetCells}
+use Rattle.sheet.specs.declared.reader.SheetRead.{SheetRead}
 use Rattle.sheet.specs.Listing.{sheetListing, printed, Written}
 use Rattle.sheet.specs.Reading.{readSheet, sheetRead}
 
@@ -20,5 +20,5 @@ module _ (s : List ℕ) where
   pub one-listing : {l l′ : Listing} → l ≡ printed (sheetListing s) → l′ ≡ printed (sheetListing s) → l ≡ l′
   one-listing p q = determined p q
 
-  pub one-reading : {r r′ : SheetCells} → r ≡ sheetRead (readSheet s) → r′ ≡ sheetRead (readSheet s) → r ≡ r′
+  pub one-reading : {r r′ : SheetRead} → r ≡ sheetRead (readSheet s) → r′ ≡ sheetRead (readSheet s) → r ≡ r′
   one-reading p q = determined p q

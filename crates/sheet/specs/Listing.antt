@@ -6,8 +6,10 @@
 --   refusal n p                   'A refusal prints one line: `refused`, number, place'
 --   listing o                     what is printed for a job's outcome
 --   jobOfSheet r                  the job of what a sheet holds
---   sheetListing bytes            what is printed for a sheet: 17, then 16, precede everything that a job judges
---   printed l                     the bytes l as the code hands them on: in the first of 4,610 cells, and how many there are
+--   outcomeOf bytes               the outcome of a sheet: 17, then 16, precede everything that a job judges
+--   sheetListing bytes            what is printed for it
+--   longest                       as many bytes as the longest listing may have: 20 digits a number, 50 levels
+--   printed l                     the bytes l as the code hands them on: in the first of `longest` cells, and how many there are
 --   Written l old held n          a buffer that held old holds `held`, l over its first cells and the rest as it was; n is the length of l
 --   Levelled fs us ms             as many shears and overturning moments as forces, and not over 50
 use mathlib.Core.Path.{_≡_}
@@ -21,7 +23,8 @@ use Rattle.job.specs.Job.{Results, jobOf}
 use Rattle.text.specs.Bytes.{bytes}
 use Rattle.text.specs.Writing.{laidOut}
 use Rattle.sheet.specs.declared.listing.Listing.{Listing}
-use Rattle.sheet.specs.Reading.{SheetRead, readSheet}
+use Rattle.sheet.specs.Reading.{readSheet}
+use Rattle.sheet.specs.Sheet.{Sheet}
 
 unfoldable pub roofFirst : List ℕ → List ℕ → List ℕ → ℕ → List ℕ
 roofFirst fs us ms zero = []
@@ -38,8 +41,11 @@ resultsListing n fs us ms =
 unfoldable pub refusal : ℕ → ℕ → List ℕ
 refusal n p = laidOut (bytes "refused") (n ∷ p ∷ [])
 
+abbrev pub longest : ℕ
+longest = 4_610
+
 unfoldable pub printed : List ℕ → Listing
-printed l = record { bytes = laid l (zeros 4_610); length = length l }
+printed l = record { bytes = laid l (zeros longest); length = length l }
 
 pub record Written (l old held : List ℕ) (n : ℕ) : Type 0 where
   pub bytes-are : held ≡ laid l old
@@ -54,8 +60,11 @@ unfoldable pub listing : Outcome Results → List ℕ
 listing (accepted r) = resultsListing (r .figures) (r .forces) (r .shears) (r .overturnings)
 listing (refused n p) = refusal n p
 
-abbrev pub jobOfSheet : SheetRead → Outcome Results
-jobOfSheet r = jobOf (r .site) (r .frame) (r .weights) (r .heights) (length (r .weights))
+abbrev pub jobOfSheet : Sheet → Outcome Results
+jobOfSheet r = jobOf (r .site) (r .frame) (r .levels .weights) (r .levels .heights) (length (r .levels .weights))
+
+abbrev pub outcomeOf : List ℕ → Outcome Results
+outcomeOf s = readSheet s >>= jobOfSheet
 
 unfoldable pub sheetListing : List ℕ → List ℕ
-sheetListing s = listing (readSheet s >>= jobOfSheet)
+sheetListing s = listing (outcomeOf s)

@@ -1,17 +1,18 @@
-// The level lines of a sheet: all lines from line 3 on, of which the first 50 are kept.
+// The level lines of a sheet: all lines from line 3 on, of which the first 51 are kept.
+use crate::layout::LEVEL_LINE;
 use limits::refusal::Refusal;
-use limits::sheet::Sheet;
 use text::line::field;
 use text::number::NumberAnswer;
 use text::reading::Cursor;
 use text::reading::ReadAnswer;
 use text::reading::word;
 ghost use mathlib.Core.Path.{_≡_};
+ghost use Prim.Native.Nat.{min};
 ghost use lib.ListN.{set, drop};
 ghost use Rattle.limits.specs.Outcome.{refused, refusalOf};
 ghost use Rattle.text.specs.Bytes.{bytes};
 ghost use Rattle.text.specs.Line.{line};
-ghost use Rattle.sheet.specs.Reading.{levelAnswer, levelLines, levelsRead, levelsOutcome};
+ghost use Rattle.sheet.specs.Reading.{levelAnswer, levelLines, keptMost, levelsRead, levelsOutcome};
 
 // What a level line holds, weight and height, and where the next line begins; or it is otherwise.
 pub enum LevelAnswer {
@@ -42,7 +43,7 @@ fn level_line(s: &[u8], c: Cursor) -> LevelAnswer
     LevelAnswer::Found(weight, height, next)
 }
 
-// How many level lines there are, or the refusal.
+// How many levels are kept, or the refusal.
 pub enum LevelsAnswer {
     Taken(usize),
     Refused(Refusal),
@@ -60,11 +61,14 @@ impl LevelsAnswer {
     }
 }
 
-// The answer, and the weights and heights of the first 50 levels beside it: an enum holds no array.
+// One level more than a job may have: enough for the job to refuse the count.
+pub const KEPT: usize = 51;
+
+// The answer, and the weights and heights of the levels that are kept beside it: an enum holds no array.
 pub struct LevelsRead {
     pub answer: LevelsAnswer,
-    pub weights: [u64; 50],
-    pub heights: [u64; 50],
+    pub weights: [u64; KEPT],
+    pub heights: [u64; KEPT],
 }
 
 impl LevelsRead {
@@ -77,13 +81,13 @@ impl LevelsRead {
                 number: Refusal::LINE,
                 place,
             }),
-            weights: [0; 50],
-            heights: [0; 50],
+            weights: [0; KEPT],
+            heights: [0; KEPT],
         }
     }
 }
 
-// Stores v in cell i, where there is one: every line is read, 50 are kept.
+// Stores v in cell i, where there is one: every line is read, 51 are kept.
 fn keep(cells: &mut [u64], i: usize, v: u64)
     ensures { λ _. ⌜ now (cells .exit) ≡ set (now (cells .entry)) i v ⌝ }
 {
@@ -92,18 +96,25 @@ fn keep(cells: &mut [u64], i: usize, v: u64)
     }
 }
 
+// How many of n levels are kept.
+fn kept(n: usize) -> usize
+    ensures { λ k. ⌜ k ≡ min keptMost n ⌝ }
+{
+    if n < KEPT { n } else { KEPT }
+}
+
 // All lines from a cursor on.
 pub fn level_lines(s: &[u8], c: Cursor) -> LevelsRead
-    ensures { λ r. ⌜ r ≡ levelsRead (levelLines 3 (drop (c .at) (now (s .entry)))) ⌝ }
+    ensures { λ r. ⌜ r ≡ levelsRead (levelLines (drop (c .at) (now (s .entry)))) ⌝ }
 {
-    let mut weights = [0; 50];
-    let mut heights = [0; 50];
+    let mut weights = [0; KEPT];
+    let mut heights = [0; KEPT];
     let mut n = 0;
     let mut at = c.at;
     while at < s.len() {
         let a = level_line(s, Cursor { at });
         let LevelAnswer::Found(weight, height, next) = a else {
-            return LevelsRead::otherwise(Sheet::LEVEL_LINE + n as u64);
+            return LevelsRead::otherwise(LEVEL_LINE + n as u64);
         };
         keep(&mut weights, n, weight);
         keep(&mut heights, n, height);
@@ -111,7 +122,7 @@ pub fn level_lines(s: &[u8], c: Cursor) -> LevelsRead
         at = next.at;
     }
     LevelsRead {
-        answer: LevelsAnswer::Taken(n),
+        answer: LevelsAnswer::Taken(kept(n)),
         weights,
         heights,
     }

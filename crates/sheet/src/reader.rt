@@ -1,4 +1,9 @@
 // How a sheet is read: line 1, line 2 and the level lines, or 17, then 16.
+use crate::layout::FRAME_LINE;
+use crate::layout::FRAME_NUMBERS;
+use crate::layout::SITE_LINE;
+use crate::layout::SITE_NUMBERS;
+use crate::levels::KEPT;
 use crate::levels::LevelsAnswer;
 use crate::levels::level_lines;
 use limits::frame::FrameValues;
@@ -10,9 +15,10 @@ use text::reading::Cursor;
 use text::reading::ReadAnswer;
 ghost use mathlib.Core.Path.{_≡_};
 ghost use Rattle.limits.specs.Outcome.{refused, refusalOf};
-ghost use Rattle.sheet.specs.Reading.{siteValues, frameValues, readLines, readSheet, sheetRead, sheetOutcome};
+ghost use Rattle.sheet.specs.Reading.{sheetLines, readSheet, sheetRead, sheetOutcome};
+ghost use Rattle.sheet.specs.Sheet.{siteValues, frameValues};
 
-// What the site line and the frame line hold, and how many level lines there are; or the refusal.
+// What the site line and the frame line hold, and how many levels are kept; or the refusal.
 pub enum SheetAnswer {
     Taken(SiteValues, FrameValues, usize),
     Refused(Refusal),
@@ -30,21 +36,21 @@ impl SheetAnswer {
     }
 }
 
-// The answer, and the weights and heights of the first 50 levels beside it.
-pub struct SheetCells {
+// The answer, and the weights and heights of the levels that are kept beside it.
+pub struct SheetRead {
     pub answer: SheetAnswer,
-    pub weights: [u64; 50],
-    pub heights: [u64; 50],
+    pub weights: [u64; KEPT],
+    pub heights: [u64; KEPT],
 }
 
-impl SheetCells {
-    fn stopped(number: u64, place: u64) -> SheetCells
+impl SheetRead {
+    fn stopped(number: u64, place: u64) -> SheetRead
         ensures { λ r. ⌜ r ≡ sheetRead (refused number place) ⌝ }
     {
-        SheetCells {
+        SheetRead {
             answer: SheetAnswer::Refused(Refusal { number, place }),
-            weights: [0; 50],
-            heights: [0; 50],
+            weights: [0; KEPT],
+            heights: [0; KEPT],
         }
     }
 }
@@ -76,30 +82,30 @@ fn frame_values(n: [u64; 10]) -> FrameValues
 }
 
 // Line 1, line 2, and all later lines, each from where the one before it ended.
-pub fn read_lines(s: &[u8]) -> SheetCells
-    ensures { λ r. ⌜ r ≡ sheetRead (readLines (now (s .entry))) ⌝ }
+pub fn read_lines(s: &[u8]) -> SheetRead
+    ensures { λ r. ⌜ r ≡ sheetRead (sheetLines (now (s .entry))) ⌝ }
 {
-    let first = line(s, Cursor { at: 0 }, b"site", Sheet::SITE_NUMBERS);
+    let first = line(s, Cursor { at: 0 }, b"site", SITE_NUMBERS);
     let a = first.answer;
     let ReadAnswer::Found(second) = a else {
-        return SheetCells::stopped(Refusal::LINE, Sheet::SITE_LINE);
+        return SheetRead::stopped(Refusal::LINE, SITE_LINE);
     };
-    let middle = line(s, second, b"frame", Sheet::FRAME_NUMBERS);
+    let middle = line(s, second, b"frame", FRAME_NUMBERS);
     let b = middle.answer;
     let ReadAnswer::Found(third) = b else {
-        return SheetCells::stopped(Refusal::LINE, Sheet::FRAME_LINE);
+        return SheetRead::stopped(Refusal::LINE, FRAME_LINE);
     };
     let last = level_lines(s, third);
     let l = last.answer;
     let LevelsAnswer::Taken(count) = l else {
         let r = l.refusal();
-        return SheetCells::stopped(r.number, r.place);
+        return SheetRead::stopped(r.number, r.place);
     };
     let of_site = first.numbers;
     let of_frame = middle.numbers;
     let weights = last.weights;
     let heights = last.heights;
-    SheetCells {
+    SheetRead {
         answer: SheetAnswer::Taken(site_values(of_site), frame_values(of_frame), count),
         weights,
         heights,
@@ -107,11 +113,11 @@ pub fn read_lines(s: &[u8]) -> SheetCells
 }
 
 // A sheet of any bytes: 17 precedes everything.
-pub fn read_sheet(s: &[u8]) -> SheetCells
+pub fn read_sheet(s: &[u8]) -> SheetRead
     ensures { λ r. ⌜ r ≡ sheetRead (readSheet (now (s .entry))) ⌝ }
 {
     if Sheet::BYTES_MOST < s.len() as u64 {
-        return SheetCells::stopped(Refusal::SHEET, Refusal::NOWHERE);
+        return SheetRead::stopped(Refusal::SHEET, Refusal::NOWHERE);
     }
     read_lines(s)
 }

@@ -12,3 +12,4 @@ pub mod Trip
 pub mod Takes
 pub mod Digital
 pub mod Back
+pub mod OneWay

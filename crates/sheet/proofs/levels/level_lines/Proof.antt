@@ -81,8 +81,11 @@ loop-again c =
     let l = found-line a in
     gathered-more (at .loop .inv) (a .before .before .before .loop-test .taken) (l .numbers) (l .went .used) (l .went .is) (l .weight-is) (l .height-is) (c .before .before .before .before .keep .ensures) (c .before .keep2 .ensures) (ap (λ (k : Cursor). k .at) (l .went .to))
 
+kept-requires : tie.Need-kept-requires Inv-loop μ-loop
+kept-requires c κs = search needs
+
 returns-2 : tie.Need-returns-2 Inv-loop μ-loop
-returns-2 c = sym (gathered-all (c .before .loop .inv) (c .loop-test .left))
+returns-2 c = sym (gathered-all (c .before .before .loop .inv) (c .before .loop-test .left) (c .kept .ensures))
 
 pub level-lines-spec : {M : Type 1} → statement M
 level-lines-spec =
@@ -104,4 +107,5 @@ level-lines-spec =
     add-n
     loop-less
     loop-again
+    kept-requires
     returns-2)

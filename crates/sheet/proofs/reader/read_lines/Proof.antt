@@ -1,4 +1,4 @@
--- `sheet::reader::read_lines` meets its contract: the stages of the code are the lines of `readLines`. Assumes nothing.
+-- `sheet::reader::read_lines` meets its contract: the stages of the code are the lines of `sheetLines`. Assumes nothing.
 use borrow.Author.Needs.{needs}
 use mathlib.Core.Path.{refl, sym, ap, _∙_}
 use Rattle.limits.specs.declared.refusal.Refusal.{Refusal}

@@ -1,7 +1,7 @@
 -- `sheet::reader::read_sheet` meets its contract. Assumes nothing.
 use borrow.Author.Needs.{needs}
 use mathlib.Core.Path.{sym, ap, _∙_}
-use Rattle.sheet.proofs.Stages.{sheet-long, sheet-lines}
+use Rattle.sheet.proofs.LaidRead.{sheet-long, sheet-lines}
 use Rattle.sheet.specs.Reading.{sheetRead}
 use Rattle.sheet.proofs.reader.read_sheet.Statement.{statement}
 use Rattle.sheet.proofs.reader.read_sheet.Tie as tie

@@ -1,8 +1,8 @@
--- `sheet::reader::SheetCells::stopped` meets its contract. Assumes nothing.
+-- `sheet::reader::SheetRead::stopped` meets its contract. Assumes nothing.
 use mathlib.Core.Path.{refl}
 use Rattle.sheet.specs.Reading.{sheetRead}
-use Rattle.sheet.proofs.reader.SheetCells.stopped.Statement.{statement}
-use Rattle.sheet.proofs.reader.SheetCells.stopped.Tie as tie
+use Rattle.sheet.proofs.reader.SheetRead.stopped.Statement.{statement}
+use Rattle.sheet.proofs.reader.SheetRead.stopped.Tie as tie
 
 returns : tie.Need-returns
 unfolding sheetRead

@@ -1,16 +1,23 @@
--- The job of a sheet's numbers, called with buffers of 50 cells: what its answer says of the listing.
+-- What the answer of a job, called with buffers of 50 cells, says of its listing. Over 50 levels are refused before any buffer is
+-- looked at.
 -- Assumes nothing.
-use mathlib.Core.Path.{_≡_, sym, ap, _∙_}
+use mathlib.Core.Path.{_≡_, refl, sym, ap, _∙_}
+use mathlib.Core.Bool.{Bool, true, false}
 use mathlib.Core.List.{List}
-use Prim.Native.Nat.{ℕ, _≤_}
+use Prim.Native.Nat.{ℕ, _≤_, _<_}
 use native.Mathlib.Nat.{le-refl}
 use native.Mathlib.Omega.{arith}
+use lib.Dec.{leb}
 use lib.ListN.{length, take}
+use borrow.Author.Tests.{leb-true, leb-false, le-leb, lt-leb}
 use Rattle.limits.specs.declared.frame.FrameValues.{FrameValues}
 use Rattle.limits.specs.declared.refusal.Refusal.{Refusal}
 use Rattle.limits.specs.declared.site.SiteValues.{SiteValues}
 use Rattle.limits.specs.Judging.{judgedJob}
-use Rattle.limits.specs.Outcome.{accepted, zeros}
+use Rattle.limits.specs.Levels.{judgedLevels}
+use Rattle.limits.specs.Outcome.{accepted, refused, zeros}
+use Rattle.limits.specs.Ranges.{inRange, within}
+use Rattle.limits.proofs.Accepted.{given-allowed}
 use Rattle.limits.proofs.Room.{room-enough}
 use Rattle.base_shear.specs.declared.Figures.{Figures}
 use Rattle.job.specs.declared.JobAnswer.the-variants.{Taken, Refused}
@@ -23,9 +30,19 @@ use Rattle.sheet.specs.Listing.{resultsListing, refusal, listing, Levell
 abbrev pub lent : Buffers
 lent = record { forces = zeros 50; shears = zeros 50; overturnings = zeros 50 }
 
-module _ (s : SiteValues) (f : FrameValues) (ws hs : List ℕ) (few : length ws ≤ 50) where
+pub too-many : (s : SiteValues) (f : FrameValues) (ws hs : List ℕ) (room : ℕ) → 50 < length ws → judgedJob s f ws hs room ≡ refused 1 0
+unfolding judgedJob judgedLevels within inRange
+too-many s f ws hs room h = simp (le-leb 1 (length ws) (omega arith), lt-leb (length ws) 50 h)
+
+module _ (s : SiteValues) (f : FrameValues) (ws hs : List ℕ) where
   room : judgedJob s f ws hs (length ws) ≡ judgedJob s f ws hs 50
-  room = room-enough s f ws hs (length ws) 50 (le-refl (length ws)) few
+  room = go (leb (length ws) 50) refl
+    where
+      go : (t : Bool) → leb (length ws) 50 ≡ t → judgedJob s f ws hs (length ws) ≡ judgedJob s f ws hs 50
+      go true e = room-enough s f ws hs (length ws) 50 (le-refl (length ws)) (leb-true (length ws) 50 e)
+      go false e =
+          let many = leb-false (length ws) 50 e in
+          too-many s f ws hs (length ws) many ∙ sym (too-many s f ws hs 50 many)
 
   pub refused-listing : (r : Refusal) (b′ : Buffers) → Answers s f ws hs lent (Refused r) b′
       → refusal (r .number) (r .place) ≡ listing (jobOf s f ws hs (length ws))
@@ -34,6 +51,11 @@ module _ (s : SiteValues) (f : FrameValues) (ws hs : List ℕ) (few : length ws 
       sym (ap listing (job-refused s f ws hs (length ws) (room ∙ refused-judged s f ws hs lent r b′ a)))
 
   module _ (n : Figures) (b′ : Buffers) (a : Answers s f ws hs lent (Taken n) b′) where
+    pub few : length ws ≤ 50
+    few =
+        let t = taken-accepted s f ws hs lent n b′ a in
+        given-allowed s f ws hs 50 (t .given) (t .judged) .0 .levels .few
+
     -- the cells of the levels, and how many they are
     pub forces-cut : length (take (length ws) (b′ .forces)) ≡ length ws
     forces-cut = ap length (taken-written s f ws hs lent n b′ a .forces) ∙ forces-cells n ws hs
@@ -51,7 +73,7 @@ module _ (s : SiteValues) (f : FrameValues) (ws hs : List ℕ) (few : length ws 
           shears =
               shears-cut ∙ sym forces-cut;
           overturnings = overturnings-cut ∙ sym forces-cut;
-          few = omega (arith, forces-cut);
+          few = omega (arith, forces-cut, few);
         }
 
     pub taken-listing : resultsListing n (take (length ws) (b′ .forces)) (take (length ws) (b′ .shears))

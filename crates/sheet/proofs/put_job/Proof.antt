@@ -1,16 +1,19 @@
--- `sheet::listing::put_job` meets its contract. Assumes nothing.
+-- `sheet::put_job` meets its contract. Assumes nothing.
 use borrow.Author.Needs.{needs}
 use mathlib.Core.Path.{refl, sym, ap, subst, _∙_}
+use Prim.Native.Nat.{_≤_}
+use native.Mathlib.Omega.{arith}
+use lib.ListN.{length}
 use Rattle.limits.specs.declared.refusal.Refusal.{Refusal}
 use Rattle.limits.proofs.Stages.{yielded}
 use Rattle.job.specs.declared.JobAnswer.{JobAnswer}
 use Rattle.job.specs.declared.JobAnswer.the-variants.{Taken}
 use Rattle.job.specs.Job.{answerOutcome, Buffers, Answers}
-use Rattle.sheet.proofs.Joining.{lent, refused-listing, forces-cut, shears-cut, overturnings-cut, cut-levelled, taken-listing}
+use Rattle.sheet.proofs.JobAnswered.{lent, few, refused-listing, forces-cut, shears-cut, overturnings-cut, cut-levelled, taken-listing}
 use Rattle.sheet.specs.Listing.{refusal}
 use Rattle.sheet.proofs.Listings.{written-as}
-use Rattle.sheet.proofs.listing.put_job.Statement.{statement}
-use Rattle.sheet.proofs.listing.put_job.Tie as tie
+use Rattle.sheet.proofs.put_job.Statement.{statement}
+use Rattle.sheet.proofs.put_job.Tie as tie
 
 -- what the buffers hold after a job
 abbrev held : tie.After-job → Buffers
@@ -21,6 +24,9 @@ taken : (c : tie.After-a)
 taken c =
     let g = c .before .before .before .before .before .before .before .before .before .before .before .before .args in
     subst (λ (x : JobAnswer). Answers (g .site) (g .frame) (g .weights .now) (g .heights .now) lent x (held (c .before .before .before .before .before))) (c .a .given .1) (c .before .before .before .before .before .job .ensures)
+
+few-levels : (c : tie.After-a) → length (c .before .before .before .before .before .before .before .before .before .before .before .before .args .weights .now) ≤ 50
+few-levels c = let g = c .before .before .before .before .before .before .before .before .before .before .before .before .args in few (g .site) (g .frame) (g .weights .now) (g .heights .now) _ _ (taken c)
 
 slice-aggregate-job : tie.Need-slice-aggregate-job
 slice-aggregate-job c = search needs
@@ -57,36 +63,36 @@ returns c =
     let told = c .before .before .before .before .before .enum-told .given .1 in
     let answer = subst (λ (x : JobAnswer). Answers (g .site) (g .frame) (g .weights .now) (g .heights .now) lent x h) told (c .before .before .before .before .before .before .before .before .before .before .job .ensures) in
     let same = ap (λ (x : Refusal). refusal (x .number) (x .place)) (yielded answerOutcome _ _ told refl (c .before .before .before .refusal .ensures)) in
-    written-as (same ∙ refused-listing (g .site) (g .frame) (g .weights .now) (g .heights .now) (b .pre .0) _ h answer) (c .before .before .put-refusal .ensures)
+    written-as (same ∙ refused-listing (g .site) (g .frame) (g .weights .now) (g .heights .now) _ h answer) (c .before .before .put-refusal .ensures)
 
 array-share-prefix-forces : tie.Need-array-share-prefix-forces
-array-share-prefix-forces c = search needs
+array-share-prefix-forces c = omega (arith, few-levels (c .before .before))
 
 slice-aggregate-put-results : tie.Need-slice-aggregate-put-results
 slice-aggregate-put-results c =
     let b = c .before .before .before .before .before .before .before .before .before .before .before .before .before .before .before in
-    sym (forces-cut (b .args .site) (b .args .frame) (b .args .weights .now) (b .args .heights .now) (b .pre .0) _ _ (taken (c .before .before .before)))
+    sym (forces-cut (b .args .site) (b .args .frame) (b .args .weights .now) (b .args .heights .now) _ _ (taken (c .before .before .before)))
 
 array-share-prefix-shears : tie.Need-array-share-prefix-shears
-array-share-prefix-shears c = search needs
+array-share-prefix-shears c = omega (arith, few-levels (c .before .before .before))
 
 slice-aggregate-put-results-2 : tie.Need-slice-aggregate-put-results-2
 slice-aggregate-put-results-2 c =
     let b = c .before .before .before .before .before .before .before .before .before .before .before .before .before .before .before .before in
-    sym (shears-cut (b .args .site) (b .args .frame) (b .args .weights .now) (b .args .heights .now) (b .pre .0) _ _ (taken (c .before .before .before .before)))
+    sym (shears-cut (b .args .site) (b .args .frame) (b .args .weights .now) (b .args .heights .now) _ _ (taken (c .before .before .before .before)))
 
 array-share-prefix-overturnings : tie.Need-array-share-prefix-overturnings
-array-share-prefix-overturnings c = search needs
+array-share-prefix-overturnings c = omega (arith, few-levels (c .before .before .before .before))
 
 slice-aggregate-put-results-3 : tie.Need-slice-aggregate-put-results-3
 slice-aggregate-put-results-3 c =
     let b = c .before .before .before .before .before .before .before .before .before .before .before .before .before .before .before .before .before in
-    sym (overturnings-cut (b .args .site) (b .args .frame) (b .args .weights .now) (b .args .heights .now) (b .pre .0) _ _ (taken (c .before .before .before .before .before)))
+    sym (overturnings-cut (b .args .site) (b .args .frame) (b .args .weights .now) (b .args .heights .now) _ _ (taken (c .before .before .before .before .before)))
 
 put-results-requires : tie.Need-put-results-requires
 put-results-requires c κs =
     let b = c .before .before .before .before .before .before .before .before .before .before .before .before .before .before .before .before .before in
-    (cut-levelled (b .args .site) (b .args .frame) (b .args .weights .now) (b .args .heights .now) (b .pre .0) _ _ (taken (c .before .before .before .before .before)), b .pre .1)
+    (cut-levelled (b .args .site) (b .args .frame) (b .args .weights .now) (b .args .heights .now) _ _ (taken (c .before .before .before .before .before)), b .pre)
 
 same-length-2 : tie.Need-same-length-2
 same-length-2 c = search needs
@@ -94,7 +100,7 @@ same-length-2 c = search needs
 returns-2 : tie.Need-returns-2
 returns-2 c =
     let b = c .before .before .before .before .before .before .before .before .before .before .before .before .before .before .before .before .before .before .before .before in
-    written-as (taken-listing (b .args .site) (b .args .frame) (b .args .weights .now) (b .args .heights .now) (b .pre .0) _ _ (taken (c .before .before .before .before .before .before .before .before))) (c .before .before .put-results .ensures)
+    written-as (taken-listing (b .args .site) (b .args .frame) (b .args .weights .now) (b .args .heights .now) _ _ (taken (c .before .before .before .before .before .before .before .before))) (c .before .before .put-results .ensures)
 
 pub put-job-spec : {M : Type 1} → statement M
 put-job-spec =

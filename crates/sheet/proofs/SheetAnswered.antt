@@ -1,0 +1,141 @@
+-- What the reader's answer, once it is known, says of the sheet, and of the listing of the job of the levels that are kept.
+-- Assumes nothing.
+use mathlib.Core.Path.{_≡_, refl, sym, ap, _∙_}
+use mathlib.Core.Bool.{Bool, true, false}
+use mathlib.Core.List.{List}
+use Prim.Native.Nat.{ℕ, _≤_, min}
+use native.Mathlib.Omega.{arith}
+use lib.Dec.{leb}
+use lib.ListN.{length, take, length-take}
+use lib.Seq.{take-all}
+use borrow.Author.Tests.{leb-true, leb-false}
+use Rattle.whole.proofs.Cells.{laid-part}
+use Rattle.limits.specs.declared.frame.FrameValues.{FrameValues}
+use Rattle.limits.specs.declared.refusal.Refusal.{Refusal}
+use Rattle.limits.specs.declared.site.SiteValues.{SiteValues}
+use Rattle.limits.specs.Outcome.{Outcome, accepted, refused, zeros, Done, _>>=_}
+use Rattle.limits.proofs.Passed.{never}
+use Rattle.job.specs.Job.{jobOf}
+use Rattle.job.proofs.Stages.{job-refused}
+use Rattle.text.proofs.Stored.{kept-length}
+use Rattle.sheet.specs.declared.reader.SheetAnswer.{SheetAnswer}
+use Rattle.sheet.specs.declared.reader.SheetAnswer.the-variants.{Taken, Refused}
+use Rattle.sheet.specs.declared.reader.SheetRead.{SheetRead}
+use Rattle.sheet.specs.Listing.{refusal, listing, sheetListing}
+use Rattle.sheet.specs.Reading.{readSheet, keptMost, kept, cellsOf, sheetRead}
+use Rattle.sheet.specs.Sheet.{Sheet}
+use Rattle.sheet.proofs.JobAnswered.{too-many}
+use Rattle.sheet.proofs.ReadLaid.{read-same}
+use Rattle.sheet.proofs.Refused.{answer-refused}
+
+-- ---- an answer, once it is known
+-- what an answer says, its values left out
+abbrev said : SheetAnswer → Outcome Done
+said (Taken v f n) = accepted tt
+said (Refused f) = refused (f .number) (f .place)
+
+said-is : (o : Outcome Sheet) → said (sheetRead o .answer) ≡ (o >>= λ _. accepted tt)
+unfolding sheetRead
+said-is (accepted r) = refl
+said-is (refused n p) = refl
+
+said-refused : (o : Outcome Sheet) (c : SheetRead) (f : Refusal) → c ≡ sheetRead o → c .answer ≡ Refused f
+    → o ≡ refused (f .number) (f .place)
+said-refused o c f e m = answer-refused sheetRead (λ (x : SheetRead). said (x .answer)) said-is o c e (ap said m)
+
+pub record SheetTaken (o : Outcome Sheet) (c : SheetRead) (v : SiteValues) (f : FrameValues) (n : ℕ) : Type 0 where
+  pub read : Sheet
+  pub is : o ≡ accepted read
+  pub site : read .site ≡ v
+  pub frame : read .frame ≡ f
+  pub count : length (kept (read .levels .weights)) ≡ n
+  pub weights : c .weights ≡ cellsOf (read .levels .weights)
+  pub heights : c .heights ≡ cellsOf (read .levels .heights)
+
+said-taken : (o : Outcome Sheet) (c : SheetRead) (v : SiteValues) (f : FrameValues) (n : ℕ) → c ≡ sheetRead o
+    → c .answer ≡ Taken v f n
+    → SheetTaken o c v f n
+unfolding sheetRead
+said-taken (accepted r) c v f n e m =
+    let e′ = sym (ap (λ (x : SheetRead). x .answer) e) ∙ m in
+    record {
+      read = r;
+      is = refl;
+      site = cc;
+      frame = cc;
+      count = cc;
+      weights = ap (λ (x : SheetRead). x .weights) e;
+      heights = ap (λ (x : SheetRead). x .heights) e;
+    }
+said-taken (refused k p) c v f n e m = absurd (never (ap said (sym (ap (λ (x : SheetRead). x .answer) e) ∙ m)))
+
+-- ---- the listing, by what the code holds
+-- one level more than a job may have is as many as there are: both are refused by their count
+kept-job : (v : SiteValues) (f : FrameValues) (ws hs : List ℕ) → length hs ≡ length ws
+    → jobOf v f (kept ws) (kept hs) (length (kept ws)) ≡ jobOf v f ws hs (length ws)
+kept-job v f ws hs same = go (leb (length ws) 50) refl
+  where
+    go : (t : Bool) → leb (length ws) 50 ≡ t → jobOf v f (kept ws) (kept hs) (length (kept ws)) ≡ jobOf v f ws hs (length ws)
+    go true e =
+        let few = leb-true (length ws) 50 e in
+        rw (take-all keptMost ws (omega arith), take-all keptMost hs (omega arith))
+    go false e =
+        let many = leb-false (length ws) 50 e in
+        let held = length-take keptMost ws in
+        job-refused v f (kept ws) (kept hs) _ (too-many v f (kept ws) (kept hs) _ (omega arith))
+        ∙ sym (job-refused v f ws hs _ (too-many v f ws hs _ many))
+
+sheet-job : (s : List ℕ) (r : Sheet) {v : SiteValues} {f : FrameValues} {ws hs : List ℕ} → readSheet s ≡ accepted r
+    → r .site ≡ v → r .frame ≡ f → ws ≡ kept (r .levels .weights) → hs ≡ kept (r .levels .heights)
+    → length (r .levels .heights) ≡ length (r .levels .weights) → listing (jobOf v f ws hs (length ws)) ≡ sheetListing s
+unfolding sheetListing
+sheet-job s r e ev ef ew eh same =
+    rw (ew, eh, ← ev, ← ef, e) (ap listing (kept-job (r .site) (r .frame) (r .levels .weights) (r .levels .heights) same))
+
+-- the job of the first cells, and its listing
+pub record SheetJob (s : List ℕ) (c : SheetRead) (v : SiteValues) (f : FrameValues) (n : ℕ) : Type 0 where
+  pub weights-room : n ≤ length (c .weights)
+  pub heights-room : n ≤ length (c .heights)
+  pub weights-length : length (take n (c .weights)) ≡ n
+  pub heights-length : length (take n (c .heights)) ≡ n
+  pub listed : listing (jobOf v f (take n (c .weights)) (take n (c .heights)) (length (take n (c .weights)))) ≡ sheetListing s
+
+module _ (s : List ℕ) (c : SheetRead) (e : c ≡ sheetRead (readSheet s)) where
+  pub sheet-refused : (f : Refusal) → c .answer ≡ Refused f → refusal (f .number) (f .place) ≡ sheetListing s
+  unfolding sheetListing listing
+  sheet-refused f m = simp (said-refused (readSheet s) c f e m)
+
+  module _ (v : SiteValues) (f : FrameValues) (n : ℕ) (m : c .answer ≡ Taken v f n) where
+    held : SheetTaken (readSheet s) c v f n
+    held = said-taken (readSheet s) c v f n e m
+
+    abbrev ws : List ℕ
+    ws = held .read .levels .weights
+
+    abbrev hs : List ℕ
+    hs = held .read .levels .heights
+
+    same : length hs ≡ length ws
+    same = read-same s (held .read) (held .is)
+
+    as-many : length (kept hs) ≡ n
+    as-many = length-take keptMost hs ∙ ap (min keptMost) same ∙ sym (length-take keptMost ws) ∙ held .count
+
+    -- the first cells, as many as there are levels kept
+    weights-cut : take n (c .weights) ≡ kept ws
+    weights-cut = ap (λ (l : List ℕ). take n l) (held .weights) ∙ laid-part (kept ws) (zeros keptMost) n (held .count)
+
+    heights-cut : take n (c .heights) ≡ kept hs
+    heights-cut = ap (λ (l : List ℕ). take n l) (held .heights) ∙ laid-part (kept hs) (zeros keptMost) n as-many
+
+    pub sheet-taken : SheetJob s c v f n
+    sheet-taken =
+        record {
+          weights-room =
+              omega (arith, ap length (held .weights), kept-length (zeros keptMost) ws, length-take keptMost ws, held .count);
+          heights-room = omega (arith, ap length (held .heights), kept-length (zeros keptMost) hs, length-take keptMost hs, as-many);
+          weights-length = ap length weights-cut ∙ held .count;
+          heights-length = ap length heights-cut ∙ as-many;
+          listed =
+              sheet-job s (held .read) (held .is) (held .site) (held .frame) weights-cut heights-cut same;
+        }

@@ -1,0 +1,68 @@
+-- 'Sheet and listing': the lines of a sheet, and what they hold.
+--   siteLayout, frameLayout, levelLayout    the layouts of the lines
+--   sheetForm          'Line 1 is `site`', 'Line 2 is `frame`', 'All later lines are `level`'
+--   levelForm          the form of the lines after these two
+--   siteValues ns      S_S D, S_1 D, S_S M, S_1 M, N_A, N_V, class
+--   frameValues ns     kind, calculated period, R, I, alpha-y
+--   Levels             weights in kN and heights in dm, lowest level first
+--   levelsOf ls        those of level lines: weight, height
+--   Sheet, sheetOf ls  what a sheet holds; what its lines ls do
+-- A number that a line does not have is 0 here; `sheetForm` says how many there are.
+use mathlib.Core.List.{List, [], _∷_, map}
+use Prim.Native.Nat.{ℕ}
+use lib.ListN.{getD, drop}
+use Rattle.limits.specs.declared.frame.FrameValues.{FrameValues}
+use Rattle.limits.specs.declared.site.SiteValues.{SiteValues}
+use Rattle.text.specs.Bytes.{bytes}
+use Rattle.sheet.specs.Layouts.{Layout, Line, Form}
+
+abbrev pub siteLayout : Layout
+siteLayout = record { word = bytes "site"; numbers = 7 }
+
+abbrev pub frameLayout : Layout
+frameLayout = record { word = bytes "frame"; numbers = 5 }
+
+abbrev pub levelLayout : Layout
+levelLayout = record { word = bytes "level"; numbers = 2 }
+
+abbrev pub sheetForm : Form
+sheetForm = record { heads = (siteLayout ∷ []) ∷ (frameLayout ∷ []) ∷ []; later = levelLayout ∷ [] }
+
+abbrev pub levelForm : Form
+levelForm = record { heads = []; later = levelLayout ∷ [] }
+
+abbrev pub siteValues : List ℕ → SiteValues
+siteValues ns =
+    record {
+      ssd = getD ns 0 0;
+      s1d = getD ns 1 0;
+      ssm = getD ns 2 0;
+      s1m = getD ns 3 0;
+      na = getD ns 4 0;
+      nv = getD ns 5 0;
+      class = getD ns 6 0;
+    }
+
+abbrev pub frameValues : List ℕ → FrameValues
+frameValues ns =
+    record { kind = getD ns 0 0; calculated = getD ns 1 0; r = getD ns 2 0; i = getD ns 3 0; alpha = getD ns 4 0 }
+
+pub record Levels : Type 0 where
+  pub weights : List ℕ
+  pub heights : List ℕ
+
+abbrev pub levelsOf : List Line → Levels
+levelsOf ls = record { weights = map (λ l. getD (l .numbers) 0 0) ls; heights = map (λ l. getD (l .numbers) 1 0) ls }
+
+pub record Sheet : Type 0 where
+  pub site : SiteValues
+  pub frame : FrameValues
+  pub levels : Levels
+
+-- the numbers of line i, from 0
+abbrev pub numbersAt : List Line → ℕ → List ℕ
+numbersAt ls i = getD (map (λ l. l .numbers) ls) i []
+
+abbrev pub sheetOf : List Line → Sheet
+sheetOf ls =
+    record { site = siteValues (numbersAt ls 0); frame = frameValues (numbersAt ls 1); levels = levelsOf (drop 2 ls) }
