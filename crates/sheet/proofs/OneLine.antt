@@ -4,7 +4,7 @@
 -- Assumes nothing.
 use mathlib.Core.Path.{_≡_, refl, sym, ap, subst, _∙_}
 use mathlib.Core.List.{List, [], _∷_, _++_, List·Memᴰ, List·Memᴰ·head, List·Memᴰ·tail, List·Memᴰ·not-nil, List·Memᴰ·cases-cons}
-use mathlib.Core.Logic.{_⊎_, inl, inr}
+use mathlib.Core.Logic.{_⊎_, inl, inr, ⊎-elim}
 use Prim.Native.Nat.{ℕ}
 use lib.ListN.{drop}
 use Rattle.limits.specs.Outcome.{Outcome, accepted, refused}
@@ -22,6 +22,13 @@ use Rattle.sheet.specs.Lines.{Front, fitted, lineIn}
 
 abbrev pub Worded : List Layout → Type 0
 Worded ks = (k : Layout) → List·Memᴰ k ks → Unbroken (k .word)
+
+pub no-words : Worded []
+no-words j m = absurd (List·Memᴰ·not-nil m)
+
+pub word-more : (k : Layout) (ks : List Layout) → Unbroken (k .word) → Worded ks → Worded (k ∷ ks)
+word-more k ks u w j m =
+    ⊎-elim (λ e. subst (λ (i : Layout). Unbroken (i .word)) (sym e) u) (λ i. w j i) (List·Memᴰ·cases-cons m)
 
 -- ---- what is taken stands there
 abbrev Stands : List Layout → List ℕ → Front → Type 0
