@@ -1,7 +1,7 @@
 -- A sheet that is laid out as the document says is read, and gives back its numbers: `laid-lines-read` of a sheet's form.
 -- Assumes nothing.
-use mathlib.Core.Path.{_≡_, refl, sym, ap, subst, _∙_}
-use mathlib.Core.List.{List, [], _∷_, List·Memᴰ·head, List·Memᴰ·eq-of-singleton}
+use mathlib.Core.Path.{_≡_, refl, ap, _∙_}
+use mathlib.Core.List.{List, [], _∷_, List·Memᴰ·head}
 use Prim.Native.Nat.{ℕ, zero, suc, _≤_, _<_}
 use native.Mathlib.Nat.{suc-inj}
 use native.Mathlib.Omega.{arith}
@@ -9,11 +9,10 @@ use lib.ListN.{length}
 use borrow.Author.Tests.{le-leb, lt-leb}
 use Rattle.limits.specs.Outcome.{Outcome, accepted, refused, _>>=_}
 use Rattle.text.specs.Writing.{AllShort}
-use Rattle.text.proofs.OneWay.{Unbroken}
 use Rattle.sheet.proofs.Lines.{WordedForm, laid-lines-read}
-use Rattle.sheet.proofs.OneLine.{Worded}
+use Rattle.sheet.proofs.OneLine.{no-word, and-word}
 use Rattle.sheet.specs.Laid.{levelLinesOf, linesOf, sheetLaid, Laid}
-use Rattle.sheet.specs.Layouts.{Layout, Line, past, linesLaid, LaidLines}
+use Rattle.sheet.specs.Layouts.{Line, past, linesLaid, LaidLines}
 use Rattle.sheet.specs.Reading.{sheetLines, readSheet}
 use Rattle.sheet.specs.Sheet.{sheetForm, levelForm, siteLayout, frameLayout, levelLayout, Levels, levelsOf, Sheet, sheetOf}
 
@@ -28,18 +27,15 @@ module _ (s : List ℕ) where
   sheet-lines h = simp (le-leb _ _ h)
 
 -- ---- no word of a sheet has a TAB or a LF
-one-word : (k : Layout) → Unbroken (k .word) → Worded (k ∷ [])
-one-word k u j m = subst (λ (i : Layout). Unbroken (i .word)) (sym (List·Memᴰ·eq-of-singleton m)) u
-
 pub level-worded : WordedForm levelForm
-level-worded i = one-word levelLayout (omega arith)
+level-worded i = and-word levelLayout (omega arith) no-word
 
 pub frame-worded : WordedForm (past sheetForm)
-frame-worded zero = one-word frameLayout (omega arith)
+frame-worded zero = and-word frameLayout (omega arith) no-word
 frame-worded (suc i) = level-worded i
 
 pub sheet-worded : WordedForm sheetForm
-sheet-worded zero = one-word siteLayout (omega arith)
+sheet-worded zero = and-word siteLayout (omega arith) no-word
 sheet-worded (suc i) = frame-worded i
 
 -- ---- the lines of what a sheet holds

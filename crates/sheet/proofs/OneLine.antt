@@ -1,10 +1,10 @@
--- A line at the front of bytes, by any layouts: one that stands there as one of them is taken, whichever is tried first, and what is taken
--- stands there; all else is 16 at its place.
+-- A line at the front of bytes, by any layouts: one that stands there as one of them is taken, whichever is tried first, and what is
+-- taken stands there; all else is 16 at its place.
 --   Worded ks    no word of the layouts ks has a TAB or a LF
 -- Assumes nothing.
 use mathlib.Core.Path.{_≡_, refl, sym, ap, subst, _∙_}
 use mathlib.Core.List.{List, [], _∷_, _++_, List·Memᴰ, List·Memᴰ·head, List·Memᴰ·tail, List·Memᴰ·not-nil, List·Memᴰ·cases-cons}
-use mathlib.Core.Logic.{_⊎_, inl, inr}
+use mathlib.Core.Logic.{_⊎_, inl, inr, ⊎-elim}
 use Prim.Native.Nat.{ℕ}
 use lib.ListN.{drop}
 use Rattle.limits.specs.Outcome.{Outcome, accepted, refused}
@@ -22,6 +22,12 @@ use Rattle.sheet.specs.Lines.{Front, fitted, lineIn}
 
 abbrev pub Worded : List Layout → Type 0
 Worded ks = (k : Layout) → List·Memᴰ k ks → Unbroken (k .word)
+
+pub no-word : Worded []
+no-word k m = absurd (List·Memᴰ·not-nil m)
+
+pub and-word : (k : Layout) {ks : List Layout} → Unbroken (k .word) → Worded ks → Worded (k ∷ ks)
+and-word k u w j m = ⊎-elim (λ e. subst (λ (i : Layout). Unbroken (i .word)) (sym e) u) (w j) (List·Memᴰ·cases-cons m)
 
 -- ---- what is taken stands there
 abbrev Stands : List Layout → List ℕ → Front → Type 0
