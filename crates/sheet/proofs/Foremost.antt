@@ -1,5 +1,5 @@
--- The refusal that a sheet is given applies to it, and is the first that does, in the order in which refusals are judged (`order`): 17,
--- then 16, then what its job is given; at its lowest place. A sheet to which none applies gets its results.
+-- The refusal that a sheet is given applies to it, and is the first that does, in the order in which refusals are judged (`order`):
+-- 17, then 16, then what its job is given; at its lowest place. A sheet to which none applies gets its results.
 -- Assumes nothing.
 use mathlib.Core.Path.{_≡_, refl, sym, ap, subst, _∙_}
 use mathlib.Core.List.{List}

@@ -30,7 +30,8 @@ use Rattle.sheet.specs.Listing.{resultsListing, refusal, listing, Levell
 abbrev pub lent : Buffers
 lent = record { forces = zeros 50; shears = zeros 50; overturnings = zeros 50 }
 
-pub too-many : (s : SiteValues) (f : FrameValues) (ws hs : List ℕ) (room : ℕ) → 50 < length ws → judgedJob s f ws hs room ≡ refused 1 0
+pub too-many : (s : SiteValues) (f : FrameValues) (ws hs : List ℕ) (room : ℕ) → 50 < length ws
+    → judgedJob s f ws hs room ≡ refused 1 0
 unfolding judgedJob judgedLevels within inRange
 too-many s f ws hs room h = simp (le-leb 1 (length ws) (omega arith), lt-leb (length ws) 50 h)
 

@@ -1,6 +1,6 @@
 -- A sheet that is laid out as the document says is read, and gives back its numbers: `laid-lines-read` of a sheet's form.
 -- Assumes nothing.
-use mathlib.Core.Path.{_≡_, refl, sym, ap, subst, _∙_}
+use mathlib.Core.Path.{_≡_, refl, ap, _∙_}
 use mathlib.Core.List.{List, [], _∷_, List·Memᴰ·head}
 use Prim.Native.Nat.{ℕ, zero, suc, _≤_, _<_}
 use native.Mathlib.Nat.{suc-inj}
@@ -10,7 +10,7 @@ use borrow.Author.Tests.{le-leb, lt-leb}
 use Rattle.limits.specs.Outcome.{Outcome, accepted, refused, _>>=_}
 use Rattle.text.specs.Writing.{AllShort}
 use Rattle.sheet.proofs.Lines.{WordedForm, laid-lines-read}
-use Rattle.sheet.proofs.OneLine.{no-words, word-more}
+use Rattle.sheet.proofs.OneLine.{no-word, and-word}
 use Rattle.sheet.specs.Laid.{levelLinesOf, linesOf, sheetLaid, Laid}
 use Rattle.sheet.specs.Layouts.{Line, past, linesLaid, LaidLines}
 use Rattle.sheet.specs.Reading.{sheetLines, readSheet}
@@ -28,14 +28,14 @@ module _ (s : List ℕ) where
 
 -- ---- no word of a sheet has a TAB or a LF
 pub level-worded : WordedForm levelForm
-level-worded i = word-more levelLayout [] (omega arith) no-words
+level-worded i = and-word levelLayout (omega arith) no-word
 
 pub frame-worded : WordedForm (past sheetForm)
-frame-worded zero = word-more frameLayout [] (omega arith) no-words
+frame-worded zero = and-word frameLayout (omega arith) no-word
 frame-worded (suc i) = level-worded i
 
 pub sheet-worded : WordedForm sheetForm
-sheet-worded zero = word-more siteLayout [] (omega arith) no-words
+sheet-worded zero = and-word siteLayout (omega arith) no-word
 sheet-worded (suc i) = frame-worded i
 
 -- ---- the lines of what a sheet holds

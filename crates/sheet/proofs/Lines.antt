@@ -1,5 +1,5 @@
--- The four laws of lines, of any form: lines that are laid out as it says are read; what is read is laid out so; what is refused is 16, at
--- the first line that is otherwise; and where a line is so, 16 is refused. Sheets only cite them. Then how lines are read one by one.
+-- The four laws of lines, of any form: lines that are laid out as it says are read; what is read is laid out so; what is refused is
+-- 16, at the first line that is otherwise; and where a line is so, 16 is refused. Then how lines are read one by one.
 --   WordedForm f    no word of a line has a TAB or a LF
 -- Assumes nothing.
 use mathlib.Core.Path.{_≡_, refl, sym, ap, subst, _∙_}

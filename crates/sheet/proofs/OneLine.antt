@@ -1,5 +1,5 @@
--- A line at the front of bytes, by any layouts: one that stands there as one of them is taken, whichever is tried first, and what is taken
--- stands there; all else is 16 at its place.
+-- A line at the front of bytes, by any layouts: one that stands there as one of them is taken, whichever is tried first, and what is
+-- taken stands there; all else is 16 at its place.
 --   Worded ks    no word of the layouts ks has a TAB or a LF
 -- Assumes nothing.
 use mathlib.Core.Path.{_≡_, refl, sym, ap, subst, _∙_}
@@ -23,12 +23,11 @@ use Rattle.sheet.specs.Lines.{Front, fitted, lineIn}
 abbrev pub Worded : List Layout → Type 0
 Worded ks = (k : Layout) → List·Memᴰ k ks → Unbroken (k .word)
 
-pub no-words : Worded []
-no-words j m = absurd (List·Memᴰ·not-nil m)
+pub no-word : Worded []
+no-word k m = absurd (List·Memᴰ·not-nil m)
 
-pub word-more : (k : Layout) (ks : List Layout) → Unbroken (k .word) → Worded ks → Worded (k ∷ ks)
-word-more k ks u w j m =
-    ⊎-elim (λ e. subst (λ (i : Layout). Unbroken (i .word)) (sym e) u) (λ i. w j i) (List·Memᴰ·cases-cons m)
+pub and-word : (k : Layout) {ks : List Layout} → Unbroken (k .word) → Worded ks → Worded (k ∷ ks)
+and-word k u w j m = ⊎-elim (λ e. subst (λ (i : Layout). Unbroken (i .word)) (sym e) u) (w j) (List·Memᴰ·cases-cons m)
 
 -- ---- what is taken stands there
 abbrev Stands : List Layout → List ℕ → Front → Type 0

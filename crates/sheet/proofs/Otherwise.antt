@@ -1,5 +1,5 @@
--- What the reader refuses is otherwise, and what is otherwise it refuses: 17 where there are too many bytes, else 16 at the first line
--- that is otherwise, and nothing else. `refused-otherwise` and `otherwise-stops` of a sheet's form.
+-- What the reader refuses is otherwise, and what is otherwise it refuses: 17 where there are too many bytes, else 16 at the first
+-- line that is otherwise, and nothing else. `refused-otherwise` and `otherwise-stops` of a sheet's form.
 -- Assumes nothing.
 use mathlib.Core.Path.{_≡_, refl, sym, ap, subst, _∙_}
 use mathlib.Core.Bool.{Bool, true, false}

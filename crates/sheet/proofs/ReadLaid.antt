@@ -1,5 +1,5 @@
--- A sheet that is read is laid out as the document says, no other is: `read-lines-laid` of a sheet's form, and its lines put together again
--- from what it holds.
+-- A sheet that is read is laid out as the document says, no other is: `read-lines-laid` of a sheet's form, and its lines put together
+-- again from what it holds.
 -- Assumes nothing.
 use mathlib.Core.Path.{_≡_, refl, sym, ap, ap₂, subst, _∙_}
 use mathlib.Core.List.{List, [], _∷_, List·Memᴰ·eq-of-singleton}

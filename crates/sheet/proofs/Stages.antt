@@ -28,20 +28,24 @@ use Rattle.sheet.proofs.LaidRead.{sheet-worded, frame-worded}
 use Rattle.sheet.proofs.Lines.{read-stop, read-on}
 use Rattle.sheet.proofs.Refused.{answer-refused, only}
 
--- ---- a line of one layout, at a cursor
+-- ---- a line at a cursor, layout by layout: the first fits; it does not, and the others are left; none is left
 abbrev front : Layout → List ℕ → List ℕ → Front
 front k ns s = record { line = record { word = k .word; numbers = ns }; rest = s }
 
-line-at : (s : List ℕ) (p : ℕ) (k : Layout) {c c′ : Cursor} {ns : List ℕ}
-    → Went c c′ (line (k .word) (k .numbers) (drop (c .at) s)) ns
-    → lineIn p (k ∷ []) (drop (c .at) s) ≡ accepted (front k ns (drop (c′ .at) s))
-unfolding lineIn
-line-at s p k {c} {c′} {ns} went =
-    rw (went .is, drop-drop (went .used) (c .at) s) (ap (λ (d : Cursor). accepted (front k ns (drop (d .at) s))) (went .to))
+module _ (p : ℕ) (k : Layout) (ks : List Layout) (s : List ℕ) where
+  line-fits : {c c′ : Cursor} {ns : List ℕ} → Went c c′ (line (k .word) (k .numbers) (drop (c .at) s)) ns
+      → lineIn p (k ∷ ks) (drop (c .at) s) ≡ accepted (front k ns (drop (c′ .at) s))
+  unfolding lineIn
+  line-fits {c} {c′} {ns} went =
+      rw (went .is, drop-drop (went .used) (c .at) s) (ap (λ (d : Cursor). accepted (front k ns (drop (d .at) s))) (went .to))
 
-line-not : (s : List ℕ) (p : ℕ) (k : Layout) → line (k .word) (k .numbers) s ≡ otherwise → lineIn p (k ∷ []) s ≡ refused 16 p
+  line-not : line (k .word) (k .numbers) s ≡ otherwise → lineIn p (k ∷ ks) s ≡ lineIn p ks s
+  unfolding lineIn
+  line-not o = simp o
+
+no-more : (p : ℕ) (s : List ℕ) → lineIn p [] s ≡ refused 16 p
 unfolding lineIn
-line-not s p k o = simp o
+no-more p s = refl
 
 -- ---- what the code holds of the level lines
 -- what an answer says, its value left out
@@ -100,7 +104,7 @@ frame-held ns = rw (in-cells ns 0, in-cells ns 1, in-cells ns 2, in-cells ns 3, 
 module _ (s : List ℕ) where
   pub lines-first : line (siteLayout .word) (siteLayout .numbers) s ≡ otherwise → sheetLines s ≡ refused 16 1
   unfolding sheetLines
-  lines-first o = simp (read-stop 1 sheetForm s 16 1 refl (line-not s 1 siteLayout o))
+  lines-first o = simp (read-stop 1 sheetForm s 16 1 refl (line-not 1 siteLayout [] s o ∙ no-more 1 s))
 
   module _ {second : Cursor} {n₁ : List ℕ} (first : LineWent start second (line (siteLayout .word) (siteLayout .numbers) s) n₁) where
     abbrev rest₁ : List ℕ
@@ -108,11 +112,11 @@ module _ (s : List ℕ) where
 
     begun : readFrom 1 sheetForm s
         ≡ (readFrom 2 (past sheetForm) rest₁ >>= λ ls. accepted (front siteLayout (first .numbers) rest₁ .line ∷ ls))
-    begun = read-on 1 sheetForm s (front siteLayout (first .numbers) rest₁) sheet-worded (line-at s 1 siteLayout (first .went))
+    begun = read-on 1 sheetForm s (front siteLayout (first .numbers) rest₁) sheet-worded (line-fits 1 siteLayout [] s (first .went))
 
     pub lines-second : line (frameLayout .word) (frameLayout .numbers) rest₁ ≡ otherwise → sheetLines s ≡ refused 16 2
     unfolding sheetLines
-    lines-second o = simp (begun, read-stop 2 (past sheetForm) rest₁ 16 2 refl (line-not rest₁ 2 frameLayout o))
+    lines-second o = simp (begun, read-stop 2 (past sheetForm) rest₁ 16 2 refl (line-not 2 frameLayout [] rest₁ o ∙ no-more 2 rest₁))
 
     module _ {third : Cursor} {n₂ : List ℕ}
         (middle : LineWent second third (line (frameLayout .word) (frameLayout .numbers) rest₁) n₂) where
@@ -123,7 +127,7 @@ module _ (s : List ℕ) where
           ≡ (readFrom 3 levelForm rest₂ >>= λ ls. accepted (front frameLayout (middle .numbers) rest₂ .line ∷ ls))
       continued =
           read-on 2 (past sheetForm) rest₁ (front frameLayout (middle .numbers) rest₂) frame-worded
-          (line-at s 2 frameLayout (middle .went))
+          (line-fits 2 frameLayout [] s (middle .went))
 
       pub lines-later : (n p : ℕ) → readFrom 3 levelForm rest₂ ≡ refused n p → sheetLines s ≡ refused n p
       unfolding sheetLines

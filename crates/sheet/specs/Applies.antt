@@ -17,4 +17,5 @@ JobApplies r = Applies (r .site) (r .frame) (r .levels .weights) (r .levels .hei
 pub data SheetApplies (s : List ℕ) : ℕ → ℕ → Type 0 where
   long : 4_096 < length s → SheetApplies s 17 0
   line : {p : ℕ} → FirstOtherwise sheetForm p s → SheetApplies s 16 p
-  of-job : {n p : ℕ} (ls : List Line) → LaidLines sheetForm ls → s ≡ linesLaid ls → JobApplies (sheetOf ls) n p → SheetApplies s n p
+  of-job : {n p : ℕ} (ls : List Line) → LaidLines sheetForm ls → s ≡ linesLaid ls → JobApplies (sheetOf ls) n p
+      → SheetApplies s n p

@@ -1,7 +1,9 @@
 -- How the lines of a text are read, each from where the one before it ended.
 --   Front                     the line at the front of bytes, and the bytes after it
---   lineIn p ks bytes         line p, at the front of the bytes, by the first of the layouts ks that it fits; 16 at p where it fits none
---   linesFrom most p f bytes  line p and all later lines of a text of form f, or 16 at the first that is otherwise; fewer than `most`
+--   lineIn p ks bytes         line p, at the front of the bytes, by the first of the layouts ks that it fits; 16 at p where it
+--                             fits none
+--   linesFrom most p f bytes  line p and all later lines of a text of form f, fewer than `most`; or 16 at the first that is
+--                             otherwise
 --   readFrom p f bytes        the same, however many: each has a byte, so there are no more lines than bytes
 -- A line that lacks its LF, or that must be there and is not, is otherwise.
 use mathlib.Core.List.{List, [], _∷_}

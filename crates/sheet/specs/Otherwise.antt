@@ -1,7 +1,7 @@
 -- 'The first line that is otherwise, or a last line without LF, is 16 at its own number', of a text of any form.
---   FirstOtherwise f p bytes    line p, from 1, is the first that is otherwise: it is line 1 where the text does not end before it and no
---                               line that it may be stands at the front; a later one where such a line does, and that is so of the
---                               bytes after it
+--   FirstOtherwise f p bytes    line p, from 1, is the first that is otherwise. `here`: the text may not end there, and no line that
+--                               it may have stands at the front. `after`: such a line stands there, and the first that is
+--                               otherwise is among those after it
 use mathlib.Core.Path.{_≡_}
 use mathlib.Core.Bool.{false}
 use mathlib.Core.List.{List, _++_}

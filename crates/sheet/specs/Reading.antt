@@ -6,8 +6,8 @@
 --   kept l, cellsOf l      the first of a list, as many as are kept; in as many cells, zeros in the rest
 --   levelAnswer c o        the code's answer to the reading o of a level line from c on: weight, height, where the next begins
 --   levelsRead o, sheetRead o          the code's answer to the outcome o, its weights and heights in cells
---   levelsOutcome a, sheetOutcome a    what the code's answer a says: how many levels are kept, with site and frame of a sheet; or the
---                          refusal
+--   levelsOutcome a, sheetOutcome a    what the code's answer a says: how many levels are kept, with site and frame of a sheet;
+--                          or the refusal
 -- A sheet without level lines is read: 1 is refused by the job.
 use mathlib.Core.List.{List}
 use Prim.Native.Nat.{ℕ, _+_}

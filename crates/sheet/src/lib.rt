@@ -21,7 +21,7 @@ ghost use lib.ListN.{length};
 ghost use Rattle.job.specs.Job.{jobOf};
 ghost use Rattle.sheet.specs.Listing.{listing, sheetListing, longest, printed, Written};
 
-// Does a job and writes its listing; returns the listing's length. Over 50 levels are refused by the job, whatever the buffers hold.
+// Does a job, writes its listing, and returns its length. The job refuses over 50 levels before it looks at the buffers.
 pub fn put_job(
     out: &mut [u8],
     site: SiteValues,
@@ -51,8 +51,8 @@ pub fn put_job(
     put_results(out, figures, &forces[..n], &shears[..n], &overturnings[..n])
 }
 
-// Writes what is printed for the bytes of a sheet, and returns its length. The reader keeps one level more than a job may have: the job
-// itself refuses the count.
+// Writes what is printed for the bytes of a sheet, and returns its length. One level more than a job may have is kept, so that the
+// job itself refuses the count.
 pub fn put_sheet(out: &mut [u8], s: &[u8]) -> usize
     requires { ⌜ longest ≤ length (now out) ⌝ }
     ensures { λ n. ⌜ Written (sheetListing (now (s .entry))) (now (out .entry)) (now (out .exit)) n ⌝ }
