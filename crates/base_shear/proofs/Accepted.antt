@@ -27,12 +27,12 @@ use Rattle.site.specs.Coefficients.{factored, accelerationA, accelerationB}
 use Rattle.site.specs.Hazards.{lines, hazardsOf}
 use Rattle.site.proofs.Bounds.{a-bounds, b-bounds, s-s-bounds, s-1-bounds}
 use Rattle.response.specs.Period.{periodOf}
-use Rattle.response.specs.Reach.{Unit, Shape, Ductile, Thousandths}
+use Rattle.response.specs.Reach.{FineUnit, Shape, Ductile, Thousandths}
 use Rattle.response.specs.Unit.{unit}
 use Rattle.response.proofs.Periods.{period-bounds}
 use Rattle.base_shear.specs.Ready.{Ready, Shearing}
 
-millionths : Unit unit
+millionths : FineUnit unit
 millionths = record { positive = omega arith; most = omega arith; divides = refl }
 
 -- ---- the upper roots are not above the capacities, for every R from 100 to 600: 1,002 roots computed

@@ -5,14 +5,14 @@ use mathlib.Core.Path.{_≡_}
 use Prim.Native.Nat.{ℕ, _*_, _/_, _≤_, _<_}
 use Rattle.site.specs.declared.hazard.Hazard.{Hazard}
 use Rattle.site.specs.declared.hazard.Hazards.{Hazards}
-use Rattle.response.specs.Reach.{Unit, Shape, Ductile, Thousandths}
+use Rattle.response.specs.Reach.{FineUnit, Shape, Ductile, Thousandths}
 
 pub record Ready (s : ℕ) (h : Hazard) (t : ℕ) : Type 0 where
   pub shape : Shape (h .a) (h .b) t
   pub ductile : Ductile s (h .capacity) (h .square)
 
 pub record Shearing (s : ℕ) (k : Hazards) (t : ℕ) : Type 0 where
-  pub unit : Unit s
+  pub unit : FineUnit s
   pub ten-thousands : s / 10_000 * 10_000 ≡ s
   pub lines : Thousandths (k .lines)
   pub design : Ready s (k .design) t

@@ -12,7 +12,7 @@ use Prim.Native.Nat.{ℕ, _*_, max}
 use Rattle.whole.specs.Rounding.{up}
 use Rattle.limits.specs.declared.frame.Frame.{Frame}
 use Rattle.limits.specs.declared.site.Site.{Site}
-use Rattle.site.specs.declared.hazard.Lines.{Lines}
+use Rattle.site.specs.declared.lines.Lines.{Lines}
 use Rattle.site.specs.declared.hazard.Hazard.{Hazard}
 use Rattle.site.specs.declared.hazard.Hazards.{Hazards}
 use Rattle.site.specs.Hazards.{hazardsOf}

@@ -7,13 +7,13 @@ use response::ratio::modified;
 use response::ratio::ratio;
 use response::spectrum::spectrum;
 use site::hazard::Hazard;
-use site::hazard::Lines;
+use site::lines::Lines;
 use whole::quotients::up;
 ghost use mathlib.Core.Path.{_≡_};
 ghost use Prim.Native.Nat.{_+_, _*_, _/_, _≤_, _<_};
 ghost use Rattle.limits.specs.Allowed.{AllowedFrame};
 ghost use Rattle.limits.specs.Levels.{totalMost};
-ghost use Rattle.response.specs.Reach.{Unit, Thousandths};
+ghost use Rattle.response.specs.Reach.{FineUnit, Thousandths};
 ghost use Rattle.response.specs.Ratio.{blended, modified};
 ghost use Rattle.base_shear.specs.Ready.{Ready};
 ghost use Rattle.base_shear.specs.Shears.{newtons, ratioAt, starAt};
@@ -31,7 +31,7 @@ pub fn newtons(s: u64, n: u64, f: Frame, w: u64, x: u64) -> u64
 
 // q of a hazard.
 pub fn ratio_at(s: u64, h: Hazard, t: u64) -> u64
-    requires { ⌜ Unit s × Ready s h t ⌝ }
+    requires { ⌜ FineUnit s × Ready s h t ⌝ }
     ensures { λ r. ⌜ r ≡ ratioAt s h t ⌝ }
 {
     let sa = spectrum(s, h.a, h.b, t);
@@ -43,7 +43,7 @@ pub fn ratio_at(s: u64, h: Hazard, t: u64) -> u64
 
 // m of a hazard.
 pub fn modified_at(s: u64, l: Lines, h: Hazard, t: u64) -> u64
-    requires { ⌜ Unit s × Thousandths l × Ready s h t ⌝ }
+    requires { ⌜ FineUnit s × Thousandths l × Ready s h t ⌝ }
     ensures { λ r. ⌜ (r ≡ modified s l (ratioAt s h t)) × (r ≤ 100_000_000) ⌝ }
 {
     modified(s, l, ratio_at(s, h, t))
@@ -51,7 +51,7 @@ pub fn modified_at(s: u64, l: Lines, h: Hazard, t: u64) -> u64
 
 // p of the hazard of V*.
 pub fn blended_at(s: u64, l: Lines, h: Hazard, t: u64) -> u64
-    requires { ⌜ Unit s × Thousandths l × Ready s h t ⌝ }
+    requires { ⌜ FineUnit s × Thousandths l × Ready s h t ⌝ }
     ensures { λ r. ⌜ (r ≡ starAt s l h t) × (r ≤ 100_000_000) ⌝ }
 {
     let sa = spectrum(s, h.a, h.b, t);

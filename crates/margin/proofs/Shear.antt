@@ -12,7 +12,7 @@ use Rattle.site.specs.declared.hazard.Hazard.{Hazard}
 use Rattle.site.specs.declared.hazard.Hazards.{Hazards}
 use Rattle.response.specs.Ratio.{ratio, modified, blended, exactRatio, exactModified, exactBlended}
 use Rattle.response.specs.Spectrum.{exactSpectrum, spectrum}
-use Rattle.response.proofs.Bent.{Meeting}
+use Rattle.response.specs.Reach.{Meeting}
 use Rattle.response.proofs.Most.{spectrum-positive, spectrum-within, lower-factor-least}
 use Rattle.base_shear.specs.Exact.{exactShear, exactStar}
 use Rattle.base_shear.specs.Ready.{Ready, Shearing}

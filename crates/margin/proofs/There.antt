@@ -12,12 +12,12 @@ use Rattle.limits.specs.declared.site.Site.{Site}
 use Rattle.site.specs.declared.hazard.Hazards.{Hazards}
 use Rattle.site.specs.Capacity.{designSquare, mceSquare}
 use Rattle.site.specs.Hazards.{hazardsOf}
-use Rattle.response.specs.Reach.{Unit}
+use Rattle.response.specs.Reach.{FineUnit}
 use Rattle.base_shear.specs.Exact.{Roots}
 use Rattle.margin.specs.Roots.{High, Low, Lowering, Raising}
 
 -- ---- of any square of 1 to 11
-module _ (s : ℕ) (ρ : Fraction) (u : Unit s) (p : 0 < ρ .den) (one : ρ .den ≤ ρ .num) (most : ρ .num ≤ 11 * ρ .den) where
+module _ (s : ℕ) (ρ : Fraction) (u : FineUnit s) (p : 0 < ρ .den) (one : ρ .den ≤ ρ .num) (most : ρ .num ≤ 11 * ρ .den) where
   small : ρ .num * (s * s) < 2 ^ 64 * ρ .den
   small = omega (arith, radicand s (ρ .num) (ρ .den) (u .most) most)
 
@@ -38,7 +38,7 @@ module _ (s : ℕ) (ρ : Fraction) (u : Unit s) (p : 0 < ρ .den) (one : ρ .den
       }
 
 -- ---- of every R
-module _ (s R : ℕ) (u : Unit s) (lo : 100 ≤ R) (hi : R ≤ 600) where
+module _ (s R : ℕ) (u : FineUnit s) (lo : 100 ≤ R) (hi : R ≤ 600) where
   pub design-low : Low (designSquare R) (over (lowerRoot s (designSquare R)) s)
   design-low = lower-is-low s (designSquare R) u (omega arith) (omega arith) (omega arith)
 
@@ -67,7 +67,7 @@ raised s k =
       star = over (upperRoot s (k .star .square)) s;
     }
 
-module _ (s : ℕ) (site : Site) (R : ℕ) (u : Unit s) (lo : 100 ≤ R) (hi : R ≤ 600) where
+module _ (s : ℕ) (site : Site) (R : ℕ) (u : FineUnit s) (lo : 100 ≤ R) (hi : R ≤ 600) where
   pub lowering-there : Lowering (hazardsOf site R) (lowered s (hazardsOf site R))
   lowering-there = record { v = design-high s R u lo hi; vm = mce-high s R u lo hi; star = design-low s R u lo hi }
 

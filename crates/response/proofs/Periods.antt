@@ -14,29 +14,29 @@ use Rattle.whole.proofs.Root.{powers-rise}
 use Rattle.whole.proofs.Search.{largest-is}
 use Rattle.limits.specs.declared.frame.Kind.{Kind}
 use Rattle.limits.specs.declared.frame.Kind.the-variants.{Steel, Concrete, Braced, Other}
-use Rattle.response.specs.Period.{c, approximate, inUse, periodOf}
+use Rattle.response.specs.Period.{coefficient, approximate, inUse, periodOf}
 
-pub c-most : (k : Kind) → c k ≤ 85
-c-most Steel = omega arith
-c-most Concrete = omega arith
-c-most Braced = omega arith
-c-most Other = omega arith
+pub coefficient-most : (k : Kind) → coefficient k ≤ 85
+coefficient-most Steel = omega arith
+coefficient-most Concrete = omega arith
+coefficient-most Braced = omega arith
+coefficient-most Other = omega arith
 
-pub c-least : (k : Kind) → 50 ≤ c k
-c-least Steel = omega arith
-c-least Concrete = omega arith
-c-least Braced = omega arith
-c-least Other = omega arith
+pub coefficient-least : (k : Kind) → 50 ≤ coefficient k
+coefficient-least Steel = omega arith
+coefficient-least Concrete = omega arith
+coefficient-least Braced = omega arith
+coefficient-least Other = omega arith
 
 -- h to 2,000 dm
-pub radicand-most : (k : Kind) (h : ℕ) → h ≤ 2000 → c k ^ 4 * h ^ 3 ≤ 417_605_000_000_000_000
-radicand-most k h l = mul-le-mul (pow-le-pow-left (c-most k) 4) (pow-le-pow-left l 3)
+pub radicand-most : (k : Kind) (h : ℕ) → h ≤ 2000 → coefficient k ^ 4 * h ^ 3 ≤ 417_605_000_000_000_000
+radicand-most k h l = mul-le-mul (pow-le-pow-left (coefficient-most k) 4) (pow-le-pow-left l 3)
 
 pub approximate-is : (k : Kind) (h : ℕ) → h ≤ 2000
-    → Largest (λ (t : ℕ). 1000 * t ^ 4 ≤ c k ^ 4 * h ^ 3) (approximate k h)
+    → Largest (λ (t : ℕ). 1000 * t ^ 4 ≤ coefficient k ^ 4 * h ^ 3) (approximate k h)
 unfolding approximate
 approximate-is k h l =
-    largest-is (λ t. 1000 * t ^ 4) (powers-rise 1000 4) (c k ^ 4 * h ^ 3) (omega arith)
+    largest-is (λ t. 1000 * t ^ 4) (powers-rise 1000 4) (coefficient k ^ 4 * h ^ 3) (omega arith)
     (lt-of-le-of-lt (radicand-most k h l) (lit< tt))
 
 -- the shortest is that of kind 4 at 1 dm, the longest that of kind 1 at 2,000 dm
@@ -44,10 +44,10 @@ pub approximate-bounds : (k : Kind) (h : ℕ) → 1 ≤ h → h ≤ 2000 → (8 
 approximate-bounds k h lo hi =
     let l = approximate-is k h hi in
     let shortest : 1000 * 8 ^ 4 ≤ 50 ^ 4 * 1 ^ 3 = lit≤ tt in
-    let least : 1000 * 8 ^ 4 ≤ c k ^ 4 * h ^ 3 =
-    le-trans shortest (mul-le-mul (pow-le-pow-left (c-least k) 4) (pow-le-pow-left lo 3)) in (
+    let least : 1000 * 8 ^ 4 ≤ coefficient k ^ 4 * h ^ 3 =
+    le-trans shortest (mul-le-mul (pow-le-pow-left (coefficient-least k) 4) (pow-le-pow-left lo 3)) in (
       l .largest 8 least,
-      le-of-suc-le-suc (largest-below (λ t. 1000 * t ^ 4) (powers-rise 1000 4) (c k ^ 4 * h ^ 3) (approximate k h) 4521
+      le-of-suc-le-suc (largest-below (λ t. 1000 * t ^ 4) (powers-rise 1000 4) (coefficient k ^ 4 * h ^ 3) (approximate k h) 4521
           (lt-of-le-of-lt (radicand-most k h hi) (lit< tt)) l),
     )
 

@@ -1,6 +1,6 @@
 -- What the reach of the leaves gives their proofs: where the roots lie, and which products fit.
 -- Assumes nothing.
-use mathlib.Core.Path.{_≡_, ap, _∙_}
+use mathlib.Core.Path.{_≡_, refl, ap, _∙_}
 use Prim.Native.Nat.{ℕ, _+_, _-_, _*_, _/_, _^_, _≤_, _<_}
 use native.Mathlib.Nat.{mul-le-mul, mul-le-mul-left, mul-le-mul-right, le-of-mul-le-mul-right, div-le-self}
 use native.Mathlib.Omega.{arith}
@@ -9,11 +9,15 @@ use Rattle.whole.specs.Root.{lowerRoot, upperRoot}
 use Rattle.whole.specs.Rounding.{up, down}
 use Rattle.whole.proofs.Root.{radicand, unit-most, lower-most}
 use Rattle.whole.proofs.Rounding.{up-most, down-most}
-use Rattle.response.specs.Reach.{Unit, Shape, Ductile}
+use Rattle.response.specs.Reach.{FineUnit, Shape, Ductile}
+use Rattle.response.specs.Unit.{unit}
 use Rattle.response.proofs.Spectra.{left-positive}
 
--- ---- the unit: d of 10⁻⁸ g in one s-th
-module _ (s : ℕ) (u : Unit s) where
+pub unit-fine : FineUnit unit
+unit-fine = record { positive = omega arith; most = omega arith; divides = refl }
+
+-- ---- a unit: d of 10⁻⁸ g in one s-th
+module _ (s : ℕ) (u : FineUnit s) where
   pub parts-positive : 0 < 100_000_000 / s
   parts-positive = left-positive (100_000_000 / s) s 100_000_000 (u .divides) (omega arith)
 
@@ -25,7 +29,7 @@ pub ta-most : (a b t : ℕ) → Shape a b t → t * a ≤ 101_800_000_000_000
 ta-most a b t h = mul-le-mul (h .t-most) (h .a-most)
 
 -- ---- capacity and roots
-module _ (s : ℕ) (c ρ : Fraction) (u : Unit s) (d : Ductile s c ρ) where
+module _ (s : ℕ) (c ρ : Fraction) (u : FineUnit s) (d : Ductile s c ρ) where
   pub small : ρ .num * (s * s) < 2 ^ 64 * ρ .den
   small =
       let p = d .square-positive in
