@@ -20,7 +20,7 @@ use Rattle.response.proofs.Mean.{Weights, total, mean, weights}
 use Rattle.response.proofs.Reached.{small}
 use Rattle.base_shear.specs.Ready.{Ready}
 use Rattle.margin.specs.Roots.{High, Low}
-use Rattle.margin.proofs.Off.{Over, Short, over-same, short-same}
+use Rattle.margin.proofs.Offsets.{Over, Short, over-same, short-same}
 use Rattle.margin.proofs.Root.{lower-below-high, low-below-upper, low-near-lower, upper-near-high}
 
 -- ---- a mean at the root k/s, rounded to f, beside the mean at the root r

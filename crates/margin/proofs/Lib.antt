@@ -1,4 +1,4 @@
-pub mod Off
+pub mod Offsets
 pub mod Root
 pub mod Factor
 pub mod Ratio
@@ -10,7 +10,7 @@ pub mod Base
 pub mod Storey
 pub mod Demand3
 pub mod Allowed
-pub mod Moves
+pub mod MovesWithRoot
 pub mod There
 pub mod Literal
 pub mod Wrong

@@ -11,7 +11,7 @@ use Rattle.site.specs.declared.lines.Lines.{Lines}
 use Rattle.response.specs.Ratio.{bent, ratio, modified, blended, exactRatio, exactModified, exactBlended}
 use Rattle.response.specs.Reach.{Meeting}
 use Rattle.response.proofs.Bent.{bent-rises, bent-near, bent-near-factor, bent-spread, bent-scale}
-use Rattle.margin.proofs.Off.{Over, Short}
+use Rattle.margin.proofs.Offsets.{Over, Short}
 
 -- ---- q
 module _ (s S f : ℕ) (x y : Fraction) where

@@ -21,7 +21,7 @@ use Rattle.margin.specs.Demand3.{Number, AtLeast, LessBy, marginOf}
 use Rattle.margin.specs.Roots.{High, Low}
 use Rattle.margin.proofs.Bound.{newtons-above, newtons-over}
 use Rattle.margin.proofs.Factor.{factorAt, lowerAt, upperAt, factor-positive, factor-least, lower-below, upper-above, lower-short, upper-over}
-use Rattle.margin.proofs.Off.{Over}
+use Rattle.margin.proofs.Offsets.{Over}
 use Rattle.margin.proofs.Ratio.{ratio-above, ratio-over, modified-above, modified-over, blended-above, blended-over}
 
 abbrev spectrumAt : ℕ → Hazard → ℕ → ℕ
