@@ -3,15 +3,11 @@ pub mod Root
 pub mod Factor
 pub mod Ratio
 pub mod Bound
-pub mod Job
-pub mod Sharp
 pub mod Shear
 pub mod Base
 pub mod Storey
 pub mod Demand3
-pub mod Allowed
+pub mod Reached
 pub mod MovesWithRoot
-pub mod There
+pub mod RootFractions
 pub mod Literal
-pub mod Wrong
-pub mod Accepted

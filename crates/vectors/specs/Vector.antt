@@ -24,9 +24,9 @@ use Rattle.site.specs.Hazards.{hazardsOf}
 use Rattle.response.specs.Period.{approximate, periodOf}
 use Rattle.response.specs.Spectrum.{spectrum}
 use Rattle.response.specs.Factor.{lowerFactor, upperFactor}
-use Rattle.response.specs.Ratio.{modified, blended}
+use Rattle.response.specs.Ratio.{blended}
 use Rattle.base_shear.specs.declared.Figures.{Figures}
-use Rattle.base_shear.specs.Shears.{ratioAt, figures}
+use Rattle.base_shear.specs.Shears.{ratioAt, modifiedAt, figuresAt}
 use Rattle.base_shear.specs.Exact.{Roots, exactShear, exactStar, exactBase}
 use Rattle.storeys.specs.Storeys.{shears, forces, overturnings}
 use Rattle.storeys.specs.Exact.{exactShearUnder}
@@ -62,7 +62,7 @@ stages s k h T =
     ∷ lowerRoot s (h .square)
     ∷ lowerFactor s (h .a) (h .b) T (h .capacity) (h .square)
     ∷ ratioAt s h T
-    ∷ modified s (k .lines) (ratioAt s h T)
+    ∷ modifiedAt s (k .lines) h T
     ∷ []
 
 -- of the hazard of V*: spectrum, upper root, upper factor, p
@@ -79,7 +79,7 @@ unfoldable pub printed : Vector → List ℕ
 printed v =
     let k = hazardsOf (v .site) (v .frame .r) in
     let T = period v in
-    let f = figures (v .unit) k (v .frame) (sum (v .weights)) T in
+    let f = figuresAt (v .unit) k (v .frame) (sum (v .weights)) T in
     let us = shears T (f .vd) (v .weights) (v .heights) in
     let fs = forces us in
     (k .design .a ∷ k .design .b ∷ k .mce .a ∷ k .mce .b ∷ k .star .a ∷ k .star .b ∷ [])

@@ -1,11 +1,11 @@
--- `base_shear::base::figures_of` meets its contract, figure by figure. Assumes nothing.
+-- `base_shear::base::figures_at` meets its contract, figure by figure. Assumes nothing.
 use borrow.Author.Needs.{needs}
 use mathlib.Core.Path.{_≡_, ap, ap₂, _∙_}
 use Prim.Native.Nat.{ℕ, max}
 use native.Mathlib.Omega.{arith}
-use Rattle.base_shear.specs.Shears.{newtons, shear, star, base, figures}
-use Rattle.base_shear.proofs.base.figures_of.Statement.{statement}
-use Rattle.base_shear.proofs.base.figures_of.Tie as tie
+use Rattle.base_shear.specs.Shears.{newtons, shear, star, base, figuresAt}
+use Rattle.base_shear.proofs.base.figures_at.Statement.{statement}
+use Rattle.base_shear.proofs.base.figures_at.Tie as tie
 
 modified-at-requires : tie.Need-modified-at-requires
 modified-at-requires c κs = search needs
@@ -32,7 +32,7 @@ larger-requires-2 : tie.Need-larger-requires-2
 larger-requires-2 c κs = search needs
 
 returns : tie.Need-returns
-unfolding figures base shear star
+unfolding figuresAt base shear star
 returns c =
     let a = c .before .before .before .before .before .before .before .before .before .before .before .before .args in
     let k = a .k in
@@ -42,8 +42,8 @@ returns c =
     let vd = c .larger2 .ensures ∙ ap₂ max (c .before .larger .ensures ∙ ap₂ max v vm) star in
     λ i. record { v = v i; vm = vm i; star = star i; vd = vd i; t = a .t }
 
-pub figures-of-spec : {M : Type 1} → statement M
-figures-of-spec =
+pub figures-at-spec : {M : Type 1} → statement M
+figures-at-spec =
     tie.close
     (tie.spec
     modified-at-requires
