@@ -11,13 +11,14 @@ use Rattle.limits.specs.declared.frame.Frame.{Frame}
 use Rattle.site.specs.declared.hazard.Hazard.{Hazard}
 use Rattle.site.specs.declared.hazard.Hazards.{Hazards}
 use Rattle.response.specs.Factor.{lowerFactor}
+use Rattle.response.specs.Period.{periodMost}
 use Rattle.response.specs.Reach.{FineUnit}
 use Rattle.response.specs.Spectrum.{spectrum}
 use Rattle.response.specs.Unit.{unit}
 use Rattle.response.proofs.Least.{up-some, spectrum-some, ratio-some, modified-some}
 use Rattle.response.proofs.Most.{spectrum-below, spectrum-most, lower-factor-least, ratio-most, modified-rises, blended-within}
 use Rattle.base_shear.specs.Ready.{Ready, Shearing, Within, Bounded, Reached}
-use Rattle.base_shear.specs.Shears.{newtons, ratioAt, modifiedAt, blendedAt, shear, star, base}
+use Rattle.base_shear.specs.Shears.{newtons, ratioAt, shear, star, base}
 
 -- ---- the ratio of a hazard within reach
 module _ (s : ℕ) (h : Hazard) (t : ℕ) (u : FineUnit s) (r : Ready s h t) where
@@ -39,7 +40,7 @@ module _ (s : ℕ) (h : Hazard) (t : ℕ) (u : FineUnit s) (r : Ready s h t) whe
       (spectrum-some s (h .a) (h .b) t (u .positive) (r .shape .a-positive) (r .shape .b-positive))
       factor-some
 
-module _ (k : Hazards) (f : Frame) (W T : ℕ) (c : Reached k) (b : AllowedFrame f) (t : T ≤ 6328) where
+module _ (k : Hazards) (f : Frame) (W T : ℕ) (c : Reached k) (b : AllowedFrame f) (t : T ≤ periodMost) where
   abbrev g : Shearing unit k T
   g = c .shearing T t
 

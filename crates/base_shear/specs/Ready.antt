@@ -10,6 +10,7 @@ use Prim.Native.Nat.{ℕ, _*_, _/_, _≤_, _<_}
 use Rattle.limits.specs.Levels.{totalMost}
 use Rattle.site.specs.declared.hazard.Hazard.{Hazard}
 use Rattle.site.specs.declared.hazard.Hazards.{Hazards}
+use Rattle.response.specs.Period.{periodMost}
 use Rattle.response.specs.Ratio.{modified}
 use Rattle.response.specs.Reach.{FineUnit, Shape, Ductile, Thousandths, Meeting}
 use Rattle.response.specs.Unit.{unit}
@@ -40,7 +41,7 @@ pub record Bounded (v : ℕ) (k : Hazards) : Type 0 where
   pub star-within : Within v (k .stardivisor) most
 
 pub record Reached (k : Hazards) : Type 0 where
-  pub shearing : (T : ℕ) → T ≤ 6328 → Shearing unit k T
+  pub shearing : (T : ℕ) → T ≤ periodMost → Shearing unit k T
   pub meeting : Meeting (k .lines)
   pub star-least : k .divisor ≤ k .stardivisor
   pub bounded : Bounded 1_400_000_000 k

@@ -10,7 +10,7 @@ use site::hazard::Hazard;
 use site::lines::Lines;
 use whole::quotients::up;
 ghost use mathlib.Core.Path.{_≡_};
-ghost use Prim.Native.Nat.{_+_, _*_, _/_, _≤_, _<_};
+ghost use Prim.Native.Nat.{_*_, _/_, _≤_, _<_};
 ghost use Rattle.limits.specs.Allowed.{AllowedFrame};
 ghost use Rattle.limits.specs.Levels.{totalMost};
 ghost use Rattle.response.specs.Reach.{FineUnit, Thousandths};

@@ -3,7 +3,7 @@
 -- Assumes nothing.
 use mathlib.Core.Path.{_≡_, refl}
 use mathlib.Core.Bool.{Bool, _&&_}
-use Prim.Native.Nat.{ℕ, _+_, _*_, _≤_}
+use Prim.Native.Nat.{ℕ, _+_, _-_, _*_, _≤_}
 use native.Mathlib.Omega.{arith}
 use lib.Dec.{T, leb, leb→le}
 use mir.Facts.{and-yes}
@@ -18,12 +18,13 @@ use Rattle.site.specs.Capacity.{designCapacity, designSquare, mceCapacity, mceS
 use Rattle.site.specs.Coefficients.{factored, accelerationA, accelerationB}
 use Rattle.site.specs.Hazards.{Mapped, lines, hazardsOf}
 use Rattle.site.proofs.Bounds.{a-bounds, b-bounds, s-s-bounds, s-1-bounds}
+use Rattle.response.specs.Period.{periodMost}
 use Rattle.response.specs.Ratio.{bent, modified}
-use Rattle.response.specs.Reach.{Shape, Ductile, Thousandths}
+use Rattle.response.specs.Reach.{Shape, Ductile}
 use Rattle.response.specs.Unit.{unit}
 use Rattle.response.proofs.Bent.{lines-meet}
-use Rattle.response.proofs.Reached.{unit-fine}
-use Rattle.base_shear.specs.Ready.{Ready, Shearing, Bounded, Reached}
+use Rattle.response.proofs.Reached.{unit-fine, ductile-of}
+use Rattle.base_shear.specs.Ready.{Shearing, Bounded, Reached}
 
 -- ---- the upper roots are not above the capacities, for every R from 100 to 600: 1,002 roots computed
 rooted : ℕ → Bool
@@ -44,35 +45,11 @@ module _ (R : ℕ) (lo : 100 ≤ R) (hi : R ≤ 600) where
       (all-from rooted 100 501 roots-tested R lo (omega arith)) in
       (leb→le _ _ (k .0), leb→le _ _ (k .1))
 
-  pub design-ductile : Ductile unit (designCapacity R) (designSquare R)
-  design-ductile =
-      record {
-        cap-positive = omega arith;
-        cap-small = omega arith;
-        cap-one = omega arith;
-        cap-most = omega arith;
-        thirds = refl;
-        square-positive = omega arith;
-        square-small = omega arith;
-        square-one = omega arith;
-        square-most = omega arith;
-        root-most = roots-below .0;
-      }
+  design-ductile : Ductile unit (designCapacity R) (designSquare R)
+  design-ductile = ductile-of unit (2 * R + 100) 300 (R - 25) 75 (omega arith) refl (roots-below .0)
 
-  pub mce-ductile : Ductile unit (mceCapacity R) (mceSquare R)
-  mce-ductile =
-      record {
-        cap-positive = omega arith;
-        cap-small = omega arith;
-        cap-one = omega arith;
-        cap-most = omega arith;
-        thirds = refl;
-        square-positive = omega arith;
-        square-small = omega arith;
-        square-one = omega arith;
-        square-most = omega arith;
-        root-most = roots-below .1;
-      }
+  mce-ductile : Ductile unit (mceCapacity R) (mceSquare R)
+  mce-ductile = ductile-of unit R 100 (R - 50) 50 (omega arith) refl (roots-below .1)
 
 -- ---- A and B of mapped values and near-fault factors
 module _ (c : Class) (ss s1 na nv : ℕ) (m : Mapped ss s1 na nv) where
@@ -81,7 +58,7 @@ module _ (c : Class) (ss s1 na nv : ℕ) (m : Mapped ss s1 na nv) where
       let s = s-s-bounds ss na (m .s-s .0) (m .s-s .1) (m .n-a .0) (m .n-a .1) in
       a-bounds c (factored ss na) (s .0) (s .1)
 
-  shaped : (t : ℕ) → t ≤ 6328 → Shape (accelerationA c (factored ss na)) (accelerationB c (factored s1 nv)) t
+  shaped : (t : ℕ) → t ≤ periodMost → Shape (accelerationA c (factored ss na)) (accelerationB c (factored s1 nv)) t
   shaped t ht =
       let s = s-1-bounds s1 nv (m .s-1 .0) (m .s-1 .1) (m .n-v .0) (m .n-v .1) in
       let a = a-within in
@@ -120,7 +97,7 @@ module _ (site : Site) (R : ℕ) (a : AllowedSite site) (lo : 100 ≤ R) (hi : R
         star-within = omega (arith, h);
       }
 
-  ready : (T : ℕ) → T ≤ 6328 → Shearing unit (hazardsOf site R) T
+  ready : (T : ℕ) → T ≤ periodMost → Shearing unit (hazardsOf site R) T
   ready T t =
       record {
         unit = unit-fine;

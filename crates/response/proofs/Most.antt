@@ -1,13 +1,12 @@
 -- How large the printed stages come: the spectrum at most 2 g, the factors 1 to 6, the ratio at most the spectrum.
 -- Assumes nothing.
-use mathlib.Core.Path.{_≡_, refl, sym, subst}
-use Prim.Native.Nat.{ℕ, _+_, _-_, _*_, _^_, _≤_, _<_}
+use mathlib.Core.Path.{refl, sym, subst}
+use Prim.Native.Nat.{ℕ, _+_, _-_, _*_, _≤_, _<_}
 use native.Mathlib.Nat.{le-refl, mul-le-mul-left, mul-le-mul-right, mul-pos, le-of-mul-le-mul-right}
 use native.Mathlib.Omega.{arith}
 use Rattle.whole.specs.declared.Fraction.{Fraction}
-use Rattle.whole.specs.Fraction.{over, upIn, downIn}
+use Rattle.whole.specs.Fraction.{over}
 use Rattle.whole.specs.Root.{lowerRoot, upperRoot}
-use Rattle.whole.specs.Rounding.{up, down}
 use Rattle.whole.proofs.Choice.{by-leb}
 use Rattle.whole.proofs.Rounding.{up-most, up-mono, down-is}
 use Rattle.site.specs.declared.lines.Lines.{Lines}
@@ -17,8 +16,8 @@ use Rattle.response.specs.Reach.{FineUnit, Shape, Ductile, Thousandths, 
 use Rattle.response.specs.Spectrum.{exactSpectrum, spectrum}
 use Rattle.response.proofs.Bent.{bent-rises, bent-within}
 use Rattle.response.proofs.Branches.{weights-positive, lower-is-mean, upper-is-mean}
-use Rattle.response.proofs.Mean.{Weights, total, mean, weights}
-use Rattle.response.proofs.Reached.{root-least, roots-ordered}
+use Rattle.response.proofs.Mean.{Weights, mean, weights}
+use Rattle.response.proofs.Reached.{root-least}
 use Rattle.response.proofs.Spectra.{left-positive}
 
 -- ---- the spectrum

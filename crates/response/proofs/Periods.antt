@@ -1,4 +1,4 @@
--- The approximate period is the largest whole t with 1000·t⁴ ≤ c⁴·h³; the period in use is 1 to 6328 ms.
+-- The approximate period is the largest whole t with 1000·t⁴ ≤ c⁴·h³; the period in use is 1 ms to `periodMost`.
 -- Assumes nothing.
 use mathlib.Core.Path.{_≡_, refl}
 use Prim.Native.Nat.{ℕ, zero, suc, _*_, _/_, _^_, _≤_, _<_, min}
@@ -14,7 +14,7 @@ use Rattle.whole.proofs.Root.{powers-rise}
 use Rattle.whole.proofs.Search.{largest-is}
 use Rattle.limits.specs.declared.frame.Kind.{Kind}
 use Rattle.limits.specs.declared.frame.Kind.the-variants.{Steel, Concrete, Braced, Other}
-use Rattle.response.specs.Period.{coefficient, approximate, inUse, periodOf}
+use Rattle.response.specs.Period.{coefficient, approximate, inUse, periodOf, periodMost}
 
 pub coefficient-most : (k : Kind) → coefficient k ≤ 85
 coefficient-most Steel = omega arith
@@ -52,10 +52,10 @@ approximate-bounds k h lo hi =
     )
 
 -- so T is at least 1 ms, where a calculated period is none or at least 1, and at most 1.4 times the longest
-pub in-use-bounds : (calculated t : ℕ) → 8 ≤ t → t ≤ 4520 → (1 ≤ inUse calculated t) × (inUse calculated t ≤ 6328)
+pub in-use-bounds : (calculated t : ℕ) → 8 ≤ t → t ≤ 4520 → (1 ≤ inUse calculated t) × (inUse calculated t ≤ periodMost)
 unfolding inUse down
 in-use-bounds calculated t lo hi =
-    by-test (λ (T : ℕ). (1 ≤ T) × (T ≤ 6328)) (eqb calculated 0) t (min calculated (14 * t / 10))
+    by-test (λ (T : ℕ). (1 ≤ T) × (T ≤ periodMost)) (eqb calculated 0) t (min calculated (14 * t / 10))
     (λ _. (omega arith, omega arith))
     (λ e.
     let ne : calculated ≡ 0 → ⊥ = eqb-false calculated 0 e in
@@ -67,7 +67,7 @@ in-use-bounds calculated t lo hi =
     positive (suc n) h = omega arith
 
 pub period-bounds : (k : Kind) (calculated h : ℕ) → 1 ≤ h → h ≤ 2000
-    → (1 ≤ periodOf k calculated h) × (periodOf k calculated h ≤ 6328)
+    → (1 ≤ periodOf k calculated h) × (periodOf k calculated h ≤ periodMost)
 period-bounds k calculated h lo hi =
     let b = approximate-bounds k h lo hi in
     in-use-bounds calculated (approximate k h) (b .0) (b .1)

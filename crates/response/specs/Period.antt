@@ -3,7 +3,8 @@
 --   approximate kind h     the largest whole t with 1000·t⁴ ≤ c⁴·h³, h the top height in dm
 --   inUse calculated t     T: with a calculated period the smaller of it and 14·t/10 rounded down; else t (0 is 'none')
 --   periodOf kind calculated h    T of a frame of top height h
-use Prim.Native.Nat.{ℕ, _*_, _/_, _^_, min}
+--   periodMost             the longest T: 1.4 times the longest approximate period, that of kind 1 at 2,000 dm
+use Prim.Native.Nat.{ℕ, _*_, _^_, min}
 use lib.Dec.{leb, eqb}
 use Rattle.whole.specs.Choice.{pick}
 use Rattle.whole.specs.Rounding.{down}
@@ -25,3 +26,6 @@ inUse calculated t = pick (eqb calculated 0) t (min calculated (down (14 * t) 10
 
 abbrev pub periodOf : Kind → ℕ → ℕ → ℕ
 periodOf kind calculated h = inUse calculated (approximate kind h)
+
+abbrev pub periodMost : ℕ
+periodMost = 6328

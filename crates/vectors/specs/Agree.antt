@@ -2,8 +2,6 @@
 use mathlib.Core.Path.{_≡_, refl}
 use mathlib.Core.Bool.{Bool, true, _&&_}
 use mathlib.Core.List.{List, [], _∷_}
-use Prim.Native.Nat.{ℕ}
-use lib.Dec.{T}
 use lib.ListN.{length}
 use Rattle.whole.specs.Rounding.{up, down}
 use Rattle.whole.specs.Search.{largest, smallest, bitsFrom}

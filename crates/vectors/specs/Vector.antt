@@ -8,7 +8,7 @@ use mathlib.Core.Bool.{Bool, true, false, _&&_}
 use mathlib.Core.List.{List, [], _∷_, _++_}
 use Prim.Native.Nat.{ℕ, zero, suc, _*_}
 use lib.Dec.{eqb}
-use lib.ListN.{length, getD}
+use lib.ListN.{length}
 use Rattle.whole.specs.declared.Fraction.{Fraction}
 use Rattle.whole.specs.Fraction.{over}
 use Rattle.whole.specs.Cells.{sum}
@@ -25,7 +25,6 @@ use Rattle.response.specs.Period.{approximate, periodOf}
 use Rattle.response.specs.Spectrum.{spectrum}
 use Rattle.response.specs.Factor.{lowerFactor, upperFactor}
 use Rattle.response.specs.Ratio.{blended}
-use Rattle.base_shear.specs.declared.Figures.{Figures}
 use Rattle.base_shear.specs.Shears.{ratioAt, modifiedAt, figuresAt}
 use Rattle.base_shear.specs.Exact.{Roots, exactShear, exactStar, exactBase}
 use Rattle.storeys.specs.Storeys.{shears, forces, overturnings}

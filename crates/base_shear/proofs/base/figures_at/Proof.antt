@@ -1,8 +1,7 @@
 -- `base_shear::base::figures_at` meets its contract, figure by figure. Assumes nothing.
 use borrow.Author.Needs.{needs}
-use mathlib.Core.Path.{_≡_, ap, ap₂, _∙_}
-use Prim.Native.Nat.{ℕ, max}
-use native.Mathlib.Omega.{arith}
+use mathlib.Core.Path.{ap, ap₂, _∙_}
+use Prim.Native.Nat.{max}
 use Rattle.base_shear.specs.Shears.{newtons, shear, star, base, figuresAt}
 use Rattle.base_shear.proofs.base.figures_at.Statement.{statement}
 use Rattle.base_shear.proofs.base.figures_at.Tie as tie

@@ -1,8 +1,8 @@
 -- `response::period::approximate` meets its contract. Assumes nothing.
 use borrow.Author.Needs.{needs}
-use mathlib.Core.Path.{_≡_, ap, ap₂, subst, _∙_}
+use mathlib.Core.Path.{ap, ap₂, subst, _∙_}
 use Prim.Native.Nat.{ℕ, _*_, _^_, _≤_}
-use native.Mathlib.Nat.{mul-le-mul, pow-le-pow-left}
+use native.Mathlib.Nat.{pow-le-pow-left}
 use native.Mathlib.Omega.{arith}
 use Rattle.response.proofs.Periods.{coefficient-most, coefficient-least, radicand-most, approximate-is}
 use Rattle.whole.proofs.Extreme.{largest-unique}
