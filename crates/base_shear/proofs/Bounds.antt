@@ -1,5 +1,5 @@
--- Between which numbers the base shear comes, of hazards within reach: at least 1 N, and at most what `Bounded` says. The ratio is
--- at most 2.
+-- Between which numbers the base shear comes, of hazards within reach: at least 1 N, and at most what `Bounded` says. The ratio
+-- is at most 2.
 -- Assumes nothing.
 use Prim.Native.Nat.{ℕ, _*_, _≤_, _<_}
 use native.Mathlib.Nat.{le-trans, lt-of-lt-of-le, mul-le-mul, mul-le-mul-right, mul-pos, le-max-left, max-le}
@@ -58,7 +58,8 @@ module _ (k : Hazards) (f : Frame) (W T : ℕ) (c : Reached k) (b : AllowedFrame
     shear-most : (h : Hazard) → Ready unit h T → unit * h .a ≤ 100_000_000 * e .most → shear unit k h f W T ≤ v
     unfolding shear
     shear-most h y a =
-        let q = le-trans (ratio-within unit h T (g .unit) y) (spectrum-below unit (h .a) (h .b) T (e .most) (y .shape .b-positive) a) in
+        let x = spectrum-below unit (h .a) (h .b) T (e .most) (y .shape .b-positive) a in
+        let q = le-trans (ratio-within unit h T (g .unit) y) x in
         newtons-most (k .divisor) _ _ (g .divisor .0) (modified-rises (k .lines) (c .meeting) unit _ _ q) (e .shears-within)
 
     star-most : star unit k f W T ≤ v

@@ -1,5 +1,5 @@
--- Demand 3 of every accepted job, and of `job` itself: of the base shear that it answers and of the cells of shears that it writes.
--- The one premise is that it answered with figures.
+-- Demand 3 of every accepted job, and of `job` itself: of the base shear that it answers and of the cells of shears that it
+-- writes. The one premise is that it answered with figures.
 -- Assumes nothing.
 use mathlib.Core.Path.{_≡_, sym, ap, subst}
 use mathlib.Core.List.{List}

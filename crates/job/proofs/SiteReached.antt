@@ -3,7 +3,7 @@
 -- Assumes nothing.
 use mathlib.Core.Path.{_≡_, refl}
 use mathlib.Core.Bool.{Bool, _&&_}
-use Prim.Native.Nat.{ℕ, _+_, _-_, _*_, _≤_}
+use Prim.Native.Nat.{ℕ, _+_, _-_, _*_, _/_, _≤_}
 use native.Mathlib.Omega.{arith}
 use lib.Dec.{T, leb, leb→le}
 use mir.Facts.{and-yes}
@@ -71,8 +71,11 @@ module _ (c : Class) (ss s1 na nv : ℕ) (m : Mapped ss s1 na nv) where
         t-most = omega arith;
       }
 
--- m of 1.5 g is 0.7 of it
-m-most : modified unit lines 1_500_000 ≡ 1_050_000
+-- 1.5 g, and m of it: 0.7 of it
+abbrev spectrumMost : ℕ
+spectrumMost = 3 * unit / 2
+
+m-most : 10 * modified unit lines spectrumMost ≡ 7 * spectrumMost
 unfolding modified bent up
 m-most = refl
 
@@ -89,7 +92,7 @@ module _ (site : Site) (R : ℕ) (a : AllowedSite site) (lo : 100 ≤ R) (hi : R
   pub site-bounded : (v : ℕ) → 1_125_000_000 ≤ v → Bounded v (hazardsOf site R)
   site-bounded v h =
       record {
-        most = 1_500_000;
+        most = spectrumMost;
         design = omega (arith, a-within (site .class) _ _ _ _ design-mapped);
         mce = omega (arith, a-within (site .class) _ _ _ _ mce-mapped);
         star = omega (arith, a-within (site .class) _ _ _ _ plain-mapped);

@@ -30,7 +30,8 @@ use Rattle.storeys.specs.Storeys.{weightHeight}
 use Rattle.margin.specs.Roots.{Lowering, Raising}
 use Rattle.margin.proofs.Bound.{at-least-number, below-number}
 use Rattle.job.proofs.Demand3.{demand3-accepted}
-use Rattle.job.proofs.JobNumbers.{Job, siteLine, frameLine, jobOn, IsAccepted, Demand3Of, hazards, printed, printedUnder, exact, exactUnder, margin}
+use Rattle.job.proofs.JobNumbers.{Job, siteLine, frameLine, jobOn, IsAccepted, Demand3Of, hazards}
+use Rattle.job.proofs.JobNumbers.{printed, printedUnder, exact, exactUnder, margin}
 
 abbrev pub Meets : (Job → ℕ) → (Job → ℕ → ℕ) → Type 0
 Meets v u = (j : Job) → IsAccepted j → Demand3Of j (v j) (u j)

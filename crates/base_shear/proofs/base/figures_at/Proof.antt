@@ -33,11 +33,14 @@ larger-requires-2 c κs = search needs
 returns : tie.Need-returns
 unfolding figuresAt base shear star
 returns c =
-    let a = c .before .before .before .before .before .before .before .before .before .before .before .before .args in
+    let third = c .before .before in
+    let second = third .before .before in
+    let first = second .before .before in
+    let a = first .before .before .before .before .before .before .args in
     let k = a .k in
-    let v = c .before .before .before .before .before .before .newtons .ensures ∙ ap (newtons (a .s) (k .divisor) (a .f) (a .w)) (c .before .before .before .before .before .before .before .modified-at .ensures .0) in
-    let vm = c .before .before .before .before .newtons2 .ensures ∙ ap (newtons (a .s) (k .divisor) (a .f) (a .w)) (c .before .before .before .before .before .modified-at2 .ensures .0) in
-    let star = c .before .before .newtons3 .ensures ∙ ap (newtons (a .s) (k .stardivisor) (a .f) (a .w)) (c .before .before .before .blended-at .ensures .0) in
+    let v = first .newtons .ensures ∙ ap (newtons (a .s) (k .divisor) (a .f) (a .w)) (first .before .modified-at .ensures .0) in
+    let vm = second .newtons2 .ensures ∙ ap (newtons (a .s) (k .divisor) (a .f) (a .w)) (second .before .modified-at2 .ensures .0) in
+    let star = third .newtons3 .ensures ∙ ap (newtons (a .s) (k .stardivisor) (a .f) (a .w)) (third .before .blended-at .ensures .0) in
     let vd = c .larger2 .ensures ∙ ap₂ max (c .before .larger .ensures ∙ ap₂ max v vm) star in
     λ i. record { v = v i; vm = vm i; star = star i; vd = vd i; t = a .t }
 

@@ -1,6 +1,5 @@
 -- `base_shear::shears::blended_at` meets its contract. Assumes nothing.
 use mathlib.Core.Path.{ap₂, _∙_}
-use Prim.Native.Nat.{_*_, _≤_}
 use native.Mathlib.Omega.{arith}
 use Rattle.response.proofs.Most.{spectrum-most, upper-factor-most, blended-most}
 use Rattle.response.specs.Factor.{upperFactor}
@@ -24,11 +23,10 @@ blended-requires c κs =
     let h = a .h in
     let u = b .pre .0 in
     let r = b .pre .2 in
-    let m = u .most in (
-      b .pre .1,
-      omega (arith, c .before .before .before .spectrum .ensures, spectrum-most (a .s) (h .a) (h .b) (a .t) (r .shape .b-positive) (r .shape .a-most)),
-      omega (arith, c .upper-factor .ensures, upper-factor-most (a .s) (h .a) (h .b) (a .t) (h .capacity) (h .square) u (r .shape) (r .ductile)),
-    )
+    let m = u .most in
+    let most = spectrum-most (a .s) (h .a) (h .b) (a .t) (r .shape .b-positive) (r .shape .a-most) in
+    let small = upper-factor-most (a .s) (h .a) (h .b) (a .t) (h .capacity) (h .square) u (r .shape) (r .ductile) in
+    (b .pre .1, omega (arith, c .before .before .before .spectrum .ensures, most), omega (arith, c .upper-factor .ensures, small))
 
 returns : tie.Need-returns
 returns c =
@@ -40,9 +38,10 @@ returns c =
     let m = u .most in
     let Sa = spectrum (a .s) (h .a) (h .b) (a .t) in
     let F = upperFactor (a .s) (h .a) (h .b) (a .t) (h .capacity) (h .square) in
-    let e = c .blended .ensures ∙ ap₂ (blended (a .l)) (c .before .before .before .before .spectrum .ensures) (c .before .upper-factor .ensures) in
-    let most : Sa ≤ 2 * a .s = spectrum-most (a .s) (h .a) (h .b) (a .t) (r .shape .b-positive) (r .shape .a-most) in
-    let small : F ≤ 6 * a .s = upper-factor-most (a .s) (h .a) (h .b) (a .t) (h .capacity) (h .square) u (r .shape) (r .ductile) in
+    let sa = c .before .before .before .before .spectrum .ensures in
+    let e = c .blended .ensures ∙ ap₂ (blended (a .l)) sa (c .before .upper-factor .ensures) in
+    let most = spectrum-most (a .s) (h .a) (h .b) (a .t) (r .shape .b-positive) (r .shape .a-most) in
+    let small = upper-factor-most (a .s) (h .a) (h .b) (a .t) (h .capacity) (h .square) u (r .shape) (r .ductile) in
     (e, omega (arith, e, blended-most (a .l) Sa F (b .pre .1), most, small))
 
 pub blended-at-spec : {M : Type 1} → statement M

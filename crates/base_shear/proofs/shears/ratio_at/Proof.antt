@@ -22,11 +22,10 @@ ratio-requires c κs =
     let u = b .pre .0 in
     let r = b .pre .1 in
     let m = u .most in
-    let p = u .positive in (
-      m,
-      omega (arith, c .before .before .before .spectrum .ensures, spectrum-most (a .s) (h .a) (h .b) (a .t) (r .shape .b-positive) (r .shape .a-most)),
-      omega (arith, c .lower-factor .ensures, lower-factor-least (a .s) (h .a) (h .b) (a .t) (h .capacity) (h .square) u (r .shape) (r .ductile)),
-    )
+    let p = u .positive in
+    let most = spectrum-most (a .s) (h .a) (h .b) (a .t) (r .shape .b-positive) (r .shape .a-most) in
+    let least = lower-factor-least (a .s) (h .a) (h .b) (a .t) (h .capacity) (h .square) u (r .shape) (r .ductile) in
+    (m, omega (arith, c .before .before .before .spectrum .ensures, most), omega (arith, c .lower-factor .ensures, least))
 
 returns : tie.Need-returns
 returns c =
