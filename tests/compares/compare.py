@@ -104,7 +104,7 @@ def run_sharp(library, tally, seed, count):
     """The jobs that show how sharp the margin is."""
     rng = random.Random(seed)
     for inputs in SHARP:
-        compare_job(tally, library, 'the jobs of Sharp.antt', with_buffers(rng, inputs), True)
+        compare_job(tally, library, 'the jobs of SharpMargin.antt', with_buffers(rng, inputs), True)
 
 
 def run_plain(library, tally, seed, count):

@@ -1,4 +1,2 @@
 pub mod Literal
-pub mod Within
-pub mod Accepted
-pub mod Largest
+pub mod Bounds

@@ -1,4 +1,4 @@
--- The shears in millionths, in document 01's own numbers: I·m·W/(1400·alpha-y) and I·p·W/(4200·alpha-y).
+-- The shears in the unit in use, in document 01's own numbers: I·m·W/(1400·alpha-y) and I·p·W/(4200·alpha-y).
 -- Assumes nothing.
 use mathlib.Core.Path.{_≡_, refl, ap₂, _∙_}
 use Prim.Native.Nat.{ℕ, _*_, _<_}
@@ -9,17 +9,17 @@ use Rattle.limits.specs.declared.frame.Frame.{Frame}
 use Rattle.response.specs.Unit.{unit}
 use Rattle.base_shear.specs.Shears.{newtons}
 
-in-millionths : (n : ℕ) (f : Frame) (W x : ℕ) → 0 < n * f .alpha
+newtons-in-units : (n : ℕ) (f : Frame) (W x : ℕ) → 0 < n * f .alpha
     → newtons unit n f W x ≡ up (f .i * x * W) (100 * (n * f .alpha))
 unfolding newtons
-in-millionths n f W x p =
+newtons-in-units n f W x p =
     ap₂ up refl (omega arith)
     ∙ up-scale 10_000 (f .i * x * W) (100 * (n * f .alpha)) (omega arith) (omega arith)
 
-pub shear-in-millionths : (f : Frame) (W m : ℕ) → 0 < f .alpha
+pub shear-in-units : (f : Frame) (W m : ℕ) → 0 < f .alpha
     → newtons unit 14 f W m ≡ up (f .i * m * W) (1400 * f .alpha)
-shear-in-millionths f W m p = in-millionths 14 f W m (omega arith) ∙ ap₂ up refl (omega arith)
+shear-in-units f W m p = newtons-in-units 14 f W m (omega arith) ∙ ap₂ up refl (omega arith)
 
-pub star-in-millionths : (f : Frame) (W p : ℕ) → 0 < f .alpha
+pub star-in-units : (f : Frame) (W p : ℕ) → 0 < f .alpha
     → newtons unit 42 f W p ≡ up (f .i * p * W) (4200 * f .alpha)
-star-in-millionths f W p q = in-millionths 42 f W p (omega arith) ∙ ap₂ up refl (omega arith)
+star-in-units f W p q = newtons-in-units 42 f W p (omega arith) ∙ ap₂ up refl (omega arith)

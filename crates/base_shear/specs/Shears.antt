@@ -2,20 +2,19 @@
 --   newtons s n f W x     I·x·W/(n/10·alpha-y) in N, of x s-ths: the hundredths of I and alpha-y cancel, and ten tenths times 1000 N in
 --                         a kN are 10⁴. In millionths I·x·W/(1400·alpha-y) for n = 14 and I·x·W/(4200·alpha-y) for n = 42
 --   ratioAt s h T         q of a hazard: its spectrum over its lower factor
+--   modifiedAt s l h T    m of a hazard
 --   shear s k h f W T     V of the design hazard and V_M of the MCE hazard: I·m·W/(1400·alpha-y)
---   starAt s l h T        p of a hazard: its spectrum against its upper factor
+--   blendedAt s l h T     p of a hazard: its spectrum against its upper factor
 --   star s k f W T        V*: I·p·W/(4200·alpha-y), p by the upper factor of the hazard without near-fault factors
 --   base s k f W T        V_D, the largest of the three
---   figures s k f W T     V, V_M, V*, V_D and T
---   figuresOf site f W h  those of a site, a frame, a total weight and a top height h in dm, in millionths
+--   figuresAt s k f W T   V, V_M, V*, V_D and T
+--   baseFigures k f W h   those of hazards, a frame, a total weight and a top height h in dm, in the unit in use
 use Prim.Native.Nat.{ℕ, _*_, max}
 use Rattle.whole.specs.Rounding.{up}
 use Rattle.limits.specs.declared.frame.Frame.{Frame}
-use Rattle.limits.specs.declared.site.Site.{Site}
-use Rattle.site.specs.declared.hazard.Lines.{Lines}
+use Rattle.site.specs.declared.lines.Lines.{Lines}
 use Rattle.site.specs.declared.hazard.Hazard.{Hazard}
 use Rattle.site.specs.declared.hazard.Hazards.{Hazards}
-use Rattle.site.specs.Hazards.{hazardsOf}
 use Rattle.response.specs.Period.{periodOf}
 use Rattle.response.specs.Unit.{unit}
 use Rattle.response.specs.Spectrum.{spectrum}
@@ -30,21 +29,24 @@ abbrev pub ratioAt : ℕ → Hazard → ℕ → ℕ
 ratioAt s h T =
     ratio s (spectrum s (h .a) (h .b) T) (lowerFactor s (h .a) (h .b) T (h .capacity) (h .square))
 
-unfoldable pub shear : ℕ → Hazards → Hazard → Frame → ℕ → ℕ → ℕ
-shear s k h f W T = newtons s (k .divisor) f W (modified s (k .lines) (ratioAt s h T))
+abbrev pub modifiedAt : ℕ → Lines → Hazard → ℕ → ℕ
+modifiedAt s l h T = modified s l (ratioAt s h T)
 
-abbrev pub starAt : ℕ → Lines → Hazard → ℕ → ℕ
-starAt s l h T =
+unfoldable pub shear : ℕ → Hazards → Hazard → Frame → ℕ → ℕ → ℕ
+shear s k h f W T = newtons s (k .divisor) f W (modifiedAt s (k .lines) h T)
+
+abbrev pub blendedAt : ℕ → Lines → Hazard → ℕ → ℕ
+blendedAt s l h T =
     blended l (spectrum s (h .a) (h .b) T) (upperFactor s (h .a) (h .b) T (h .capacity) (h .square))
 
 unfoldable pub star : ℕ → Hazards → Frame → ℕ → ℕ → ℕ
-star s k f W T = newtons s (k .stardivisor) f W (starAt s (k .lines) (k .star) T)
+star s k f W T = newtons s (k .stardivisor) f W (blendedAt s (k .lines) (k .star) T)
 
 unfoldable pub base : ℕ → Hazards → Frame → ℕ → ℕ → ℕ
 base s k f W T = max (max (shear s k (k .design) f W T) (shear s k (k .mce) f W T)) (star s k f W T)
 
-unfoldable pub figures : ℕ → Hazards → Frame → ℕ → ℕ → Figures
-figures s k f W T =
+unfoldable pub figuresAt : ℕ → Hazards → Frame → ℕ → ℕ → Figures
+figuresAt s k f W T =
     record {
       v = shear s k (k .design) f W T;
       vm = shear s k (k .mce) f W T;
@@ -53,5 +55,5 @@ figures s k f W T =
       t = T;
     }
 
-abbrev pub figuresOf : Site → Frame → ℕ → ℕ → Figures
-figuresOf site f W h = figures unit (hazardsOf site (f .r)) f W (periodOf (f .kind) (f .calculated) h)
+abbrev pub baseFigures : Hazards → Frame → ℕ → ℕ → Figures
+baseFigures k f W h = figuresAt unit k f W (periodOf (f .kind) (f .calculated) h)

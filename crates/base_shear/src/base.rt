@@ -4,17 +4,15 @@ use crate::shears::blended_at;
 use crate::shears::modified_at;
 use crate::shears::newtons;
 use limits::frame::Frame;
-use limits::site::Site;
 use response::UNIT;
 use response::period::period_of;
 use site::hazard::Hazards;
-use site::hazards::hazards_of;
 ghost use mathlib.Core.Path.{_≡_};
 ghost use Prim.Native.Nat.{_≤_, max};
-ghost use Rattle.limits.specs.Allowed.{AllowedFrame, AllowedSite};
+ghost use Rattle.limits.specs.Allowed.{AllowedFrame};
 ghost use Rattle.limits.specs.Levels.{totalMost};
-ghost use Rattle.base_shear.specs.Ready.{Shearing};
-ghost use Rattle.base_shear.specs.Shears.{figures, figuresOf};
+ghost use Rattle.base_shear.specs.Ready.{Reached, Shearing};
+ghost use Rattle.base_shear.specs.Shears.{baseFigures, figuresAt};
 
 fn larger(a: u64, b: u64) -> u64
     ensures { λ r. ⌜ r ≡ max a b ⌝ }
@@ -25,10 +23,10 @@ fn larger(a: u64, b: u64) -> u64
     a
 }
 
-// The figures of three hazards, whatever made them: s is the unit.
-pub fn figures_of(s: u64, k: Hazards, f: Frame, w: u64, t: u64) -> Figures
+// The figures of three hazards at a period: s is the unit.
+pub fn figures_at(s: u64, k: Hazards, f: Frame, w: u64, t: u64) -> Figures
     requires { ⌜ Shearing s k t × AllowedFrame f × (w ≤ totalMost) ⌝ }
-    ensures { λ r. ⌜ r ≡ figures s k f w t ⌝ }
+    ensures { λ r. ⌜ r ≡ figuresAt s k f w t ⌝ }
 {
     let lines = k.lines;
     let design = k.design;
@@ -41,13 +39,12 @@ pub fn figures_of(s: u64, k: Hazards, f: Frame, w: u64, t: u64) -> Figures
     Figures { v, vm, star, vd, t }
 }
 
-// The five figures of a judged site and frame, a total weight in kN and a top height in dm.
-pub fn base_figures(site: Site, frame: Frame, weight: u64, height: u64) -> Figures
-    requires { ⌜ AllowedSite site × AllowedFrame frame × (weight ≤ totalMost) × (1 ≤ height) × (height ≤ 2000) ⌝ }
-    ensures { λ r. ⌜ r ≡ figuresOf site frame weight height ⌝ }
+// The five figures of three hazards, whatever made them, a judged frame, a total weight in kN and a top height in dm.
+pub fn base_figures(hazards: Hazards, frame: Frame, weight: u64, height: u64) -> Figures
+    requires { ⌜ Reached hazards × AllowedFrame frame × (weight ≤ totalMost) × (1 ≤ height) × (height ≤ 2000) ⌝ }
+    ensures { λ r. ⌜ r ≡ baseFigures hazards frame weight height ⌝ }
 {
     let kind = frame.kind;
     let t = period_of(kind, frame.calculated, height);
-    let hazards = hazards_of(site, frame.r);
-    figures_of(UNIT, hazards, frame, weight, t)
+    figures_at(UNIT, hazards, frame, weight, t)
 }

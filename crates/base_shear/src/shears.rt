@@ -7,16 +7,16 @@ use response::ratio::modified;
 use response::ratio::ratio;
 use response::spectrum::spectrum;
 use site::hazard::Hazard;
-use site::hazard::Lines;
+use site::lines::Lines;
 use whole::quotients::up;
 ghost use mathlib.Core.Path.{_≡_};
-ghost use Prim.Native.Nat.{_+_, _*_, _/_, _≤_, _<_};
+ghost use Prim.Native.Nat.{_*_, _/_, _≤_, _<_};
 ghost use Rattle.limits.specs.Allowed.{AllowedFrame};
 ghost use Rattle.limits.specs.Levels.{totalMost};
-ghost use Rattle.response.specs.Reach.{Unit, Thousandths};
+ghost use Rattle.response.specs.Reach.{FineUnit, Thousandths};
 ghost use Rattle.response.specs.Ratio.{blended, modified};
 ghost use Rattle.base_shear.specs.Ready.{Ready};
-ghost use Rattle.base_shear.specs.Shears.{newtons, ratioAt, starAt};
+ghost use Rattle.base_shear.specs.Shears.{blendedAt, modifiedAt, newtons, ratioAt};
 
 // What a unit is made of, so that 10⁴ s-ths cancel against the ten tenths and the 1000 N of a kN.
 const CANCELS: u64 = 10_000;
@@ -31,7 +31,7 @@ pub fn newtons(s: u64, n: u64, f: Frame, w: u64, x: u64) -> u64
 
 // q of a hazard.
 pub fn ratio_at(s: u64, h: Hazard, t: u64) -> u64
-    requires { ⌜ Unit s × Ready s h t ⌝ }
+    requires { ⌜ FineUnit s × Ready s h t ⌝ }
     ensures { λ r. ⌜ r ≡ ratioAt s h t ⌝ }
 {
     let sa = spectrum(s, h.a, h.b, t);
@@ -43,16 +43,16 @@ pub fn ratio_at(s: u64, h: Hazard, t: u64) -> u64
 
 // m of a hazard.
 pub fn modified_at(s: u64, l: Lines, h: Hazard, t: u64) -> u64
-    requires { ⌜ Unit s × Thousandths l × Ready s h t ⌝ }
-    ensures { λ r. ⌜ (r ≡ modified s l (ratioAt s h t)) × (r ≤ 100_000_000) ⌝ }
+    requires { ⌜ FineUnit s × Thousandths l × Ready s h t ⌝ }
+    ensures { λ r. ⌜ (r ≡ modifiedAt s l h t) × (r ≤ 100_000_000) ⌝ }
 {
     modified(s, l, ratio_at(s, h, t))
 }
 
 // p of the hazard of V*.
 pub fn blended_at(s: u64, l: Lines, h: Hazard, t: u64) -> u64
-    requires { ⌜ Unit s × Thousandths l × Ready s h t ⌝ }
-    ensures { λ r. ⌜ (r ≡ starAt s l h t) × (r ≤ 100_000_000) ⌝ }
+    requires { ⌜ FineUnit s × Thousandths l × Ready s h t ⌝ }
+    ensures { λ r. ⌜ (r ≡ blendedAt s l h t) × (r ≤ 100_000_000) ⌝ }
 {
     let sa = spectrum(s, h.a, h.b, t);
     let capacity = h.capacity;

@@ -3,32 +3,28 @@
 use mathlib.Core.Path.{_≡_, refl, sym, ap, _∙_}
 use mathlib.Core.List.{List, [], _∷_}
 use Prim.Native.Nat.{ℕ}
-use Rattle.whole.specs.Cells.{sum}
 use Rattle.limits.specs.declared.frame.FrameValues.{FrameValues}
 use Rattle.limits.specs.declared.judging.Given.{Given}
 use Rattle.limits.specs.declared.refusal.Refusal.{Refusal}
 use Rattle.limits.specs.declared.site.SiteValues.{SiteValues}
 use Rattle.limits.specs.Judging.{judgedJob}
-use Rattle.limits.specs.Levels.{topHeight}
 use Rattle.limits.specs.Outcome.{Outcome, accepted, refused, number, place, values}
 use Rattle.limits.proofs.Passed.{never, one-value}
 use Rattle.limits.proofs.Reading.{success, refusal}
 use Rattle.base_shear.specs.declared.Figures.{Figures}
-use Rattle.base_shear.specs.Shears.{figuresOf}
-use Rattle.job.specs.declared.JobAnswer.{JobAnswer}
 use Rattle.job.specs.declared.JobAnswer.the-variants.{Taken, Refused}
-use Rattle.job.specs.Job.{Results, resultsAt, jobOf, figuresOnly, five, answerOutcome, Buffers, shortest, written, Answers}
+use Rattle.job.specs.Job.{Results, givenFigures, resultsAt, jobOf, figuresOnly, five, answerOutcome, Buffers, shortest, written, Answers}
 use Rattle.job.proofs.Stages.{job-refused, job-accepted}
 
 one-refusal : {A : Type 0} {n p m q : ℕ} → _≡_ {A = Outcome A} (refused n p) (refused m q) → (n ≡ m) × (p ≡ q)
 one-refusal e = (ap number e, ap place e)
 
 module _ (s : SiteValues) (f : FrameValues) (ws hs : List ℕ) (b : Buffers) where
-  -- of a taken answer: the judgments accept, n is what `figuresOf` gives, and each level's cells are written
+  -- of a taken answer: the judgments accept, n is what `givenFigures` gives, and each level's cells are written
   pub record Accepted (n : Figures) (b′ : Buffers) : Type 0 where
     pub given : Given
     pub judged : judgedJob s f ws hs (shortest b) ≡ accepted given
-    pub figures : n ≡ figuresOf (given .site) (given .frame) (sum ws) (topHeight hs)
+    pub figures : n ≡ givenFigures given ws hs
     pub cells : b′ ≡ written (accepted (resultsAt n ws hs)) b
 
   module _ (n : Figures) (b′ : Buffers) (a : Answers s f ws hs b (Taken n) b′) where

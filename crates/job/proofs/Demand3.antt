@@ -1,5 +1,5 @@
--- Demand 3 of `job` itself: of the base shear that it answers and of the cells of shears that it writes. The one premise is that it
--- answered with figures.
+-- Demand 3 of every accepted job, and of `job` itself: of the base shear that it answers and of the cells of shears that it
+-- writes. The one premise is that it answered with figures.
 -- Assumes nothing.
 use mathlib.Core.Path.{_≡_, sym, ap, subst}
 use mathlib.Core.List.{List}
@@ -11,19 +11,30 @@ use Rattle.limits.specs.declared.site.SiteValues.{SiteValues}
 use Rattle.limits.specs.Judging.{judgedJob}
 use Rattle.limits.specs.Levels.{topHeight}
 use Rattle.limits.specs.Outcome.{accepted}
-use Rattle.site.specs.Hazards.{hazardsOf}
+use Rattle.limits.proofs.Accepted.{given-allowed}
 use Rattle.response.specs.Period.{periodOf}
 use Rattle.response.specs.Unit.{unit}
 use Rattle.base_shear.specs.declared.Figures.{Figures}
-use Rattle.base_shear.specs.Shears.{figures}
+use Rattle.base_shear.specs.Shears.{figuresAt}
 use Rattle.storeys.specs.Storeys.{shearUnder}
 use Rattle.margin.specs.Demand3.{Demand3}
-use Rattle.margin.proofs.Accepted.{demand3-accepted}
 use Rattle.margin.proofs.Demand3.{of-cells}
+use Rattle.margin.proofs.Reached.{demand3-reached}
 use Rattle.job.specs.declared.JobAnswer.the-variants.{Taken}
-use Rattle.job.specs.Job.{Buffers, shortest, Answers}
+use Rattle.job.specs.Job.{givenHazards, givenFigures, Buffers, shortest, Answers}
 use Rattle.job.proofs.Answered.{taken-accepted}
 use Rattle.job.proofs.Storeys.{shear-cell}
+use Rattle.job.proofs.GivenReached.{standing, given-reached, given-between}
+
+pub demand3-accepted : (s : SiteValues) (f : FrameValues) (ws hs : List ℕ) (room : ℕ) (g : Given)
+    → judgedJob s f ws hs room ≡ accepted g
+    → let n = givenFigures g ws hs in
+    Demand3 unit (givenHazards g) (g .frame) ws hs (n .t) (n .vd) (shearUnder (n .t) (n .vd) ws hs)
+unfolding figuresAt
+demand3-accepted s f ws hs room g e =
+    let a = given-allowed s f ws hs room g e .0 in
+    demand3-reached (givenHazards g) (g .frame) ws hs _ (given-reached g ws hs a) (a .frame) (given-between g ws hs a .3)
+    (standing ws hs (a .levels) .positive)
 
 module _ (s : SiteValues) (f : FrameValues) (ws hs : List ℕ) (b : Buffers) where
   -- at the period in use of the judged site and frame, with square roots unrounded
@@ -31,15 +42,15 @@ module _ (s : SiteValues) (f : FrameValues) (ws hs : List ℕ) (b : Buffers) whe
     pub given : Given
     pub judged : judgedJob s f ws hs (shortest b) ≡ accepted given
     pub period : n .t ≡ periodOf (given .frame .kind) (given .frame .calculated) (topHeight hs)
-    pub kept : Demand3 unit (hazardsOf (given .site) (given .frame .r)) (given .frame) ws hs (n .t) (n .vd) (λ x. getD (b′ .shears) x 0)
+    pub kept : Demand3 unit (givenHazards given) (given .frame) ws hs (n .t) (n .vd) (λ x. getD (b′ .shears) x 0)
 
   pub demand-3 : (n : Figures) (b′ : Buffers) → Answers s f ws hs b (Taken n) b′ → Kept n b′
-  unfolding figures
+  unfolding figuresAt
   demand-3 n b′ a =
       let t = taken-accepted s f ws hs b n b′ a in
       let g = t .given in
       let exact = demand3-accepted s f ws hs (shortest b) g (t .judged) in
-      let k = hazardsOf (g .site) (g .frame .r) in
+      let k = givenHazards g in
       record {
         given = g;
         judged = t .judged;

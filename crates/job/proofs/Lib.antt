@@ -1,10 +1,15 @@
-pub mod Within
+pub mod SiteReached
+pub mod GivenReached
 pub mod Stages
 pub mod Unique
 pub mod Answered
+pub mod FigureBounds
 pub mod Refusing
 pub mod Independent
 pub mod Calls
 pub mod Storeys
 pub mod Demand3
 pub mod Worked
+pub mod JobNumbers
+pub mod SharpMargin
+pub mod WrongCores

@@ -3,18 +3,16 @@
 use mathlib.Core.Path.{_≡_, sym, ap, _∙_}
 use mathlib.Core.List.{List}
 use Prim.Native.Nat.{ℕ}
-use Rattle.whole.specs.Cells.{sum, laid}
+use Rattle.whole.specs.Cells.{laid}
 use Rattle.limits.specs.declared.frame.FrameValues.{FrameValues}
 use Rattle.limits.specs.declared.judging.Given.{Given}
 use Rattle.limits.specs.declared.refusal.Refusal.{Refusal}
 use Rattle.limits.specs.declared.site.SiteValues.{SiteValues}
 use Rattle.limits.specs.Judging.{judgedJob}
-use Rattle.limits.specs.Levels.{topHeight}
 use Rattle.limits.specs.Outcome.{Outcome, accepted, refused, _>>=_}
 use Rattle.base_shear.specs.declared.Figures.{Figures}
-use Rattle.base_shear.specs.Shears.{figuresOf}
 use Rattle.job.specs.declared.JobAnswer.the-variants.{Taken, Refused}
-use Rattle.job.specs.Job.{Results, resultsAt, resultsOf, jobOf, figuresOnly, Buffers, shortest, written, Answers}
+use Rattle.job.specs.Job.{Results, givenFigures, resultsAt, resultsOf, jobOf, figuresOnly, Buffers, shortest, written, Answers}
 
 module _ (s : SiteValues) (f : FrameValues) (ws hs : List ℕ) (room : ℕ) where
   pub job-refused : {n p : ℕ} → judgedJob s f ws hs room ≡ refused n p → jobOf s f ws hs room ≡ refused n p
@@ -33,7 +31,7 @@ module _ (s : SiteValues) (f : FrameValues) (ws hs : List ℕ) (room : ℕ) wher
 
     -- what the storeys' code wrote, at the figures that it was handed
     pub accepted-answers : (g : Given) (n : Figures) {ps us ms : List ℕ} → judgedJob s f ws hs room ≡ accepted g
-        → n ≡ figuresOf (g .site) (g .frame) (sum ws) (topHeight hs)
+        → n ≡ givenFigures g ws hs
         → us ≡ laid (resultsAt n ws hs .shears) (b .shears)
         → ps ≡ laid (resultsAt n ws hs .forces) (b .forces)
         → ms ≡ laid (resultsAt n ws hs .overturnings) (b .overturnings)

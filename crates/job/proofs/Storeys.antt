@@ -19,7 +19,7 @@ use Rattle.job.specs.declared.JobAnswer.the-variants.{Taken}
 use Rattle.job.specs.Job.{Buffers, shortest, Answers}
 use Rattle.job.proofs.Answered.{taken-accepted}
 use Rattle.job.proofs.Independent.{taken-written, shears-cells}
-use Rattle.job.proofs.Within.{load, standing}
+use Rattle.job.proofs.GivenReached.{load, standing}
 
 module _ (s : SiteValues) (f : FrameValues) (ws hs : List ℕ) (b : Buffers) (n : Figures) (b′ : Buffers) (a : Answers s f ws hs b (Taken n) b′) where
   -- the cells that were written

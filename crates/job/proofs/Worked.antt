@@ -18,7 +18,7 @@ use Rattle.response.specs.Factor.{factor, lowerFactor, upperFactor}
 use Rattle.response.specs.Period.{approximate, inUse}
 use Rattle.response.specs.Ratio.{bent, ratio, modified, blended}
 use Rattle.response.specs.Spectrum.{exactSpectrum, spectrum}
-use Rattle.base_shear.specs.Shears.{newtons, shear, star, base, figures}
+use Rattle.base_shear.specs.Shears.{newtons, shear, star, base, figuresAt}
 use Rattle.storeys.specs.Storeys.{weightHeight, about}
 use Rattle.job.specs.Job.{jobOf}
 
@@ -33,6 +33,6 @@ pub worked : jobOf (record { ssd = 80; s1d = 45; ssm = 100; s1m = 55; na = 100; 
     })
 unfolding jobOf judgedJob judgedLevels weighed raised within inRange among listed judgedSite judgedMapped judgedNearFault
     judgedClass judgedFrame judgedKind judgedPeriod cells sum between lowerRoot upperRoot up down largest smallest bitsFrom factor
-    lowerFactor upperFactor approximate inUse bent ratio modified blended exactSpectrum spectrum newtons shear star base figures
+    lowerFactor upperFactor approximate inUse bent ratio modified blended exactSpectrum spectrum newtons shear star base figuresAt
     weightHeight about floor ceiling
 worked = refl

@@ -1,7 +1,9 @@
 -- The job: one building, one horizontal direction. Weights ws in kN and heights hs in dm, lowest level first.
 --   Results                    V, V_M, V*, V_D and T; per level, lowest first, force, shear and overturning
 --   resultsAt n ws hs          those of five figures: the storeys at V_D and T
---   resultsOf g ws hs          those of a judged site and frame: W is the sum of the weights, h the last height
+--   givenHazards g             the hazards of a judged site, with the R of the frame
+--   givenFigures g ws hs       the five figures of a judged site and frame: W is the sum of the weights, h the last height
+--   resultsOf g ws hs          the results of these
 --   jobOf s f ws hs room       the results, or the first refusal; room is the length of the shortest result buffer
 --   figuresOnly o              what is left of an outcome without the levels
 --   five n                     the figures in the listing's order: the values of an answer
@@ -21,8 +23,10 @@ use Rattle.limits.specs.declared.site.SiteValues.{SiteValues}
 use Rattle.limits.specs.Judging.{judgedJob}
 use Rattle.limits.specs.Levels.{topHeight}
 use Rattle.limits.specs.Outcome.{Outcome, accepted, refused, _>>=_}
+use Rattle.site.specs.Hazards.{hazardsOf}
+use Rattle.site.specs.declared.hazard.Hazards.{Hazards}
 use Rattle.base_shear.specs.declared.Figures.{Figures}
-use Rattle.base_shear.specs.Shears.{figuresOf}
+use Rattle.base_shear.specs.Shears.{baseFigures}
 use Rattle.storeys.specs.Storeys.{shears, forces, overturnings}
 use Rattle.job.specs.declared.JobAnswer.{JobAnswer}
 use Rattle.job.specs.declared.JobAnswer.the-variants.{Taken, Refused}
@@ -38,8 +42,14 @@ resultsAt n ws hs =
     let us = shears (n .t) (n .vd) ws hs in
     record { figures = n; forces = forces us; shears = us; overturnings = overturnings (forces us) hs }
 
+abbrev pub givenHazards : Given → Hazards
+givenHazards g = hazardsOf (g .site) (g .frame .r)
+
+abbrev pub givenFigures : Given → List ℕ → List ℕ → Figures
+givenFigures g ws hs = baseFigures (givenHazards g) (g .frame) (sum ws) (topHeight hs)
+
 abbrev pub resultsOf : Given → List ℕ → List ℕ → Results
-resultsOf g ws hs = resultsAt (figuresOf (g .site) (g .frame) (sum ws) (topHeight hs)) ws hs
+resultsOf g ws hs = resultsAt (givenFigures g ws hs) ws hs
 
 unfoldable pub jobOf : SiteValues → FrameValues → List ℕ → List ℕ → ℕ → Outcome Results
 jobOf s f ws hs room = do

@@ -7,14 +7,14 @@ use limits::judging::Given;
 use limits::judging::GivenAnswer;
 use limits::judging::judged;
 use limits::site::SiteValues;
+use site::hazards::hazards_of;
 ghost use mathlib.Core.Path.{_≡_};
 ghost use Rattle.whole.specs.Cells.{sum};
 ghost use Prim.Native.Nat.{_≤_, _<_};
 ghost use lib.ListN.{length};
 ghost use Rattle.limits.specs.Allowed.{AllowedGiven};
 ghost use Rattle.limits.specs.Levels.{topHeight, totalMost};
-ghost use Rattle.base_shear.specs.Shears.{figuresOf};
-ghost use Rattle.job.specs.Job.{Figured};
+ghost use Rattle.job.specs.Job.{Figured, givenFigures};
 
 // W: the weights of all levels.
 pub fn total_weight(weights: &[u64]) -> u64
@@ -41,10 +41,11 @@ pub fn top_height(heights: &[u64]) -> u64
 // The five figures of a judged site and frame.
 pub fn given_figures(given: Given, weights: &[u64], heights: &[u64]) -> Figures
     requires { ⌜ AllowedGiven given (now weights) (now heights) ⌝ }
-    ensures { λ r. ⌜ r ≡ figuresOf (given .site) (given .frame) (sum (now (weights .entry))) (topHeight (now (heights .entry))) ⌝ }
+    ensures { λ r. ⌜ r ≡ givenFigures given (now (weights .entry)) (now (heights .entry)) ⌝ }
 {
+    let hazards = hazards_of(given.site, given.frame.r);
     base_figures(
-        given.site,
+        hazards,
         given.frame,
         total_weight(weights),
         top_height(heights),

@@ -7,7 +7,7 @@ use Rattle.whole.specs.Fraction.{over, AtMost}
 use Rattle.whole.proofs.Order.{larger-positive}
 use Rattle.limits.specs.declared.frame.Frame.{Frame}
 use Rattle.site.specs.declared.hazard.Hazards.{Hazards}
-use Rattle.response.proofs.Bent.{Meeting}
+use Rattle.response.specs.Reach.{Meeting}
 use Rattle.base_shear.specs.Exact.{Roots, exactBase}
 use Rattle.base_shear.specs.Ready.{Shearing}
 use Rattle.base_shear.specs.Shears.{base}

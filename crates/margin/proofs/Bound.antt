@@ -13,7 +13,7 @@ use Rattle.limits.specs.declared.frame.Frame.{Frame}
 use Rattle.base_shear.specs.Exact.{exactNewtons}
 use Rattle.base_shear.specs.Shears.{newtons}
 use Rattle.margin.specs.Demand3.{AtLeast, LessBy, marginOf}
-use Rattle.margin.proofs.Off.{Over}
+use Rattle.margin.proofs.Offsets.{Over}
 
 -- ---- newtons of m s-ths, over any C / D
 module _ (s C D m v : ℕ) (x : Fraction) where

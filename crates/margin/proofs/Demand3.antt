@@ -10,7 +10,7 @@ use Rattle.whole.specs.Rounding.{up}
 use Rattle.whole.proofs.Rounding.{up-law}
 use Rattle.limits.specs.declared.frame.Frame.{Frame}
 use Rattle.site.specs.declared.hazard.Hazards.{Hazards}
-use Rattle.response.proofs.Bent.{Meeting}
+use Rattle.response.specs.Reach.{Meeting}
 use Rattle.base_shear.specs.Exact.{exactBase}
 use Rattle.base_shear.specs.Ready.{Shearing}
 use Rattle.base_shear.specs.Shears.{base}

@@ -13,14 +13,14 @@ use Rattle.whole.proofs.Root.{lower-root-is, upper-root-is}
 use Rattle.whole.proofs.Rounding.{up-law, down-law}
 use Rattle.site.specs.declared.hazard.Hazard.{Hazard}
 use Rattle.response.specs.Factor.{exactFactor, lowerFactor, upperFactor}
-use Rattle.response.specs.Reach.{Unit}
+use Rattle.response.specs.Reach.{FineUnit}
 use Rattle.response.proofs.Branches.{weights-positive, lower-is-mean, upper-is-mean}
 use Rattle.response.proofs.Exact.{mean-rises, exact-factor-positive, exact-factor-is, exact-factor-least}
 use Rattle.response.proofs.Mean.{Weights, total, mean, weights}
 use Rattle.response.proofs.Reached.{small}
 use Rattle.base_shear.specs.Ready.{Ready}
 use Rattle.margin.specs.Roots.{High, Low}
-use Rattle.margin.proofs.Off.{Over, Short, over-same, short-same}
+use Rattle.margin.proofs.Offsets.{Over, Short, over-same, short-same}
 use Rattle.margin.proofs.Root.{lower-below-high, low-below-upper, low-near-lower, upper-near-high}
 
 -- ---- a mean at the root k/s, rounded to f, beside the mean at the root r
@@ -56,7 +56,7 @@ upperAt s h T = upperFactor s (h .a) (h .b) T (h .capacity) (h .square)
 abbrev meanAt : Hazard → ℕ → Fraction → Fraction
 meanAt h T r = mean (weights (h .a) (h .b) T) r (h .capacity)
 
-module _ (s : ℕ) (h : Hazard) (T : ℕ) (u : Unit s) (y : Ready s h T) where
+module _ (s : ℕ) (h : Hazard) (T : ℕ) (u : FineUnit s) (y : Ready s h T) where
   mean-positive : (r : Fraction) → 0 < r .den → 0 < meanAt h T r .den
   mean-positive r p =
       mul-pos (weights-positive (h .a) (h .b) T (y .shape .b-positive)) (mul-pos p (y .ductile .cap-positive))

@@ -1,25 +1,15 @@
 -- The three lines of the modified ratio where they meet: how `bent` moves with the spectrum and with the factor.
---   Meeting l    the lines meet where they change, at a ratio of at most 1; none is steeper than the first, and the last not
---                steeper than 0.75
 -- Assumes nothing.
 use mathlib.Core.Path.{_≡_, refl, ap}
-use Prim.Native.Nat.{ℕ, _+_, _*_, _≤_, max, min}
-use native.Mathlib.Nat.{mul-le-mul-left, mul-le-mul-right, le-dest}
+use Prim.Native.Nat.{ℕ, _+_, _*_, _≤_, _<_, max, min}
+use native.Mathlib.Nat.{mul-le-mul-left, mul-le-mul-right, mul-pos, le-dest}
 use native.Mathlib.Decide.{decLe}
 use native.Mathlib.Omega.{arith}
 use Rattle.whole.proofs.Choice.{by-leb}
-use Rattle.site.specs.declared.hazard.Lines.{Lines}
+use Rattle.site.specs.declared.lines.Lines.{Lines}
 use Rattle.site.specs.Hazards.{lines}
 use Rattle.response.specs.Ratio.{bent}
-
-pub record Meeting (l : Lines) : Type 0 where
-  pub order : l .first ≤ l .second
-  pub soon : l .second ≤ 1000
-  pub steeper : l .slope ≤ l .last
-  pub gentle : l .last ≤ 750
-  pub half : 2 * l .add ≤ 1000
-  pub meet-first : l .slope * l .first + 1000 * l .add ≡ 1000 * l .first
-  pub meet-second : l .slope * l .second + 1000 * l .add ≡ l .last * l .second
+use Rattle.response.specs.Reach.{Meeting}
 
 -- (8), (18)
 pub lines-meet : Meeting lines
@@ -27,6 +17,7 @@ lines-meet =
     record {
       order = omega arith;
       soon = omega arith;
+      rising = omega arith;
       steeper = omega arith;
       gentle = omega arith;
       half = omega arith;
@@ -40,6 +31,7 @@ draft-lines-meet =
     record {
       order = omega arith;
       soon = omega arith;
+      rising = omega arith;
       steeper = omega arith;
       gentle = omega arith;
       half = omega arith;
@@ -79,6 +71,12 @@ module _ (l : Lines) (m : Meeting l) where
   bent-is x y =
       by-line (λ (z : ℕ). z ≡ min (1000 * x) (max (l .slope * x + l .add * y) (l .last * x))) x y
       (λ h. omega arith) (λ h k. omega arith) (λ h k. omega arith)
+
+  pub bent-within : (x y : ℕ) → bent l x y ≤ 1000 * x
+  bent-within x y = rw (bent-is x y) (omega arith)
+
+  pub bent-some : (x y : ℕ) → 0 < x → 0 < bent l x y
+  bent-some x y p = rw (bent-is x y) (omega (arith, p, mul-pos (m .rising) p))
 
   pub bent-rises : (x y x′ y′ : ℕ) → x ≤ x′ → y ≤ y′ → bent l x y ≤ bent l x′ y′
   bent-rises x y x′ y′ h k =

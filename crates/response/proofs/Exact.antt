@@ -10,10 +10,11 @@ use Rattle.whole.specs.Fraction.{Same, AtMost, times}
 use Rattle.whole.specs.Signed.{natural}
 use Rattle.whole.proofs.Order.{at-most-trans, same-at-most}
 use Rattle.whole.proofs.Stands.{unsigned-same, stands-natural}
-use Rattle.site.specs.declared.hazard.Lines.{Lines}
+use Rattle.site.specs.declared.lines.Lines.{Lines}
 use Rattle.response.specs.Factor.{factor, exactFactor}
 use Rattle.response.specs.Ratio.{bent, exactRatio, exactModified, exactBlended}
-use Rattle.response.proofs.Bent.{Meeting, bent-rises, bent-scale}
+use Rattle.response.specs.Reach.{Meeting}
+use Rattle.response.proofs.Bent.{bent-rises, bent-scale}
 use Rattle.response.proofs.Branches.{weights-positive, factor-positive}
 use Rattle.response.proofs.Mean.{Weights, total, mean, weights, factor-stands}
 use Rattle.response.proofs.Most.{mean-least}

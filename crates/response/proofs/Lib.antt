@@ -9,3 +9,4 @@ pub mod Reached
 pub mod Most
 pub mod Bent
 pub mod Exact
+pub mod Least

@@ -1,23 +1,23 @@
 -- How large the printed stages come: the spectrum at most 2 g, the factors 1 to 6, the ratio at most the spectrum.
 -- Assumes nothing.
-use mathlib.Core.Path.{_≡_, refl, sym, subst}
-use Prim.Native.Nat.{ℕ, _+_, _-_, _*_, _^_, _≤_, _<_}
-use native.Mathlib.Nat.{mul-le-mul-left, mul-le-mul-right, mul-pos, le-of-mul-le-mul-right}
+use mathlib.Core.Path.{refl, sym, subst}
+use Prim.Native.Nat.{ℕ, _+_, _-_, _*_, _≤_, _<_}
+use native.Mathlib.Nat.{le-refl, mul-le-mul-left, mul-le-mul-right, mul-pos, le-of-mul-le-mul-right}
 use native.Mathlib.Omega.{arith}
 use Rattle.whole.specs.declared.Fraction.{Fraction}
-use Rattle.whole.specs.Fraction.{over, upIn, downIn}
+use Rattle.whole.specs.Fraction.{over}
 use Rattle.whole.specs.Root.{lowerRoot, upperRoot}
-use Rattle.whole.specs.Rounding.{up, down}
 use Rattle.whole.proofs.Choice.{by-leb}
-use Rattle.whole.proofs.Rounding.{up-most, down-is}
-use Rattle.site.specs.declared.hazard.Lines.{Lines}
+use Rattle.whole.proofs.Rounding.{up-most, up-mono, down-is}
+use Rattle.site.specs.declared.lines.Lines.{Lines}
 use Rattle.response.specs.Factor.{lowerFactor, upperFactor}
 use Rattle.response.specs.Ratio.{bent, ratio, modified, blended}
-use Rattle.response.specs.Reach.{Unit, Shape, Ductile, Thousandths}
+use Rattle.response.specs.Reach.{FineUnit, Shape, Ductile, Thousandths, Meeting}
 use Rattle.response.specs.Spectrum.{exactSpectrum, spectrum}
+use Rattle.response.proofs.Bent.{bent-rises, bent-within}
 use Rattle.response.proofs.Branches.{weights-positive, lower-is-mean, upper-is-mean}
-use Rattle.response.proofs.Mean.{Weights, total, mean, weights}
-use Rattle.response.proofs.Reached.{root-least, roots-ordered}
+use Rattle.response.proofs.Mean.{Weights, mean, weights}
+use Rattle.response.proofs.Reached.{root-least}
 use Rattle.response.proofs.Spectra.{left-positive}
 
 -- ---- the spectrum
@@ -47,12 +47,15 @@ spectrum-within n d A B T h =
     (λ _. omega (arith, mul-le-mul-right T h, mul-le-mul-right d past))
     (λ _. omega (arith, h))))
 
-pub spectrum-most : (s A B T : ℕ) → 0 < B → A ≤ 200_000_000 → spectrum s A B T ≤ 2 * s
+-- and A of at most m s-ths of g one of at most m
+pub spectrum-below : (s A B T m : ℕ) → 0 < B → s * A ≤ 100_000_000 * m → spectrum s A B T ≤ m
 unfolding spectrum
-spectrum-most s A B T pb h =
+spectrum-below s A B T m pb h =
     let x = exactSpectrum A B T in
-    up-most (s * x .num) (x .den) (2 * s) (spectrum-positive A B T pb)
-    (omega (arith, mul-le-mul-left s (spectrum-within 2 1 A B T (omega arith))))
+    up-most (s * x .num) (x .den) m (spectrum-positive A B T pb) (omega (arith, spectrum-within m s A B T (omega arith)))
+
+pub spectrum-most : (s A B T : ℕ) → 0 < B → A ≤ 200_000_000 → spectrum s A B T ≤ 2 * s
+spectrum-most s A B T pb h = spectrum-below s A B T (2 * s) pb (omega (arith, mul-le-mul-left s h))
 
 -- ---- the factors: a mean of 1, a root from 1 on and a capacity from 1 on is at least 1
 pub mean-least : (w : Weights) (r c : Fraction) → r .den ≤ r .num → c .den ≤ c .num → mean w r c .den ≤ mean w r c .num
@@ -67,7 +70,7 @@ mean-most w r c h k =
       mul-le-mul-right (w .cap * r .den) k,
     )
 
-module _ (s A B T : ℕ) (c ρ : Fraction) (u : Unit s) (sh : Shape A B T) (d : Ductile s c ρ) where
+module _ (s A B T : ℕ) (c ρ : Fraction) (u : FineUnit s) (sh : Shape A B T) (d : Ductile s c ρ) where
   mean-positive : (k : ℕ) → 0 < mean (weights A B T) (over k s) c .den
   mean-positive k = mul-pos (weights-positive A B T (sh .b-positive)) (mul-pos (u .positive) (d .cap-positive))
 
@@ -112,3 +115,14 @@ modified-most s l q t = up-most (bent l q s) 1000 (q + s) (omega arith) (bent-mo
 pub blended-most : (l : Lines) (Sa F : ℕ) → Thousandths l → blended l Sa F ≤ Sa + F
 unfolding blended
 blended-most l Sa F t = up-most (bent l Sa F) 1000 (Sa + F) (omega arith) (bent-most l Sa F t)
+
+-- of lines that meet
+module _ (l : Lines) (m : Meeting l) where
+  pub modified-rises : (s q q′ : ℕ) → q ≤ q′ → modified s l q ≤ modified s l q′
+  unfolding modified
+  modified-rises s q q′ h =
+      up-mono (bent l q s) 1000 (bent l q′ s) 1000 (omega arith) (omega arith) (bent-rises l m q s q′ s h (le-refl s))
+
+  pub blended-within : (Sa F : ℕ) → blended l Sa F ≤ Sa
+  unfolding blended
+  blended-within Sa F = up-most (bent l Sa F) 1000 Sa (omega arith) (bent-within l m Sa F)

@@ -1,31 +1,54 @@
 -- What the reach of the leaves gives their proofs: where the roots lie, and which products fit.
 -- Assumes nothing.
-use mathlib.Core.Path.{_≡_, ap, _∙_}
-use Prim.Native.Nat.{ℕ, _+_, _-_, _*_, _/_, _^_, _≤_, _<_}
-use native.Mathlib.Nat.{mul-le-mul, mul-le-mul-left, mul-le-mul-right, le-of-mul-le-mul-right, div-le-self}
+use mathlib.Core.Path.{_≡_, refl, ap}
+use Prim.Native.Nat.{ℕ, _-_, _*_, _/_, _^_, _≤_, _<_}
+use native.Mathlib.Nat.{mul-le-mul, mul-le-mul-left, le-of-mul-le-mul-right, div-le-self}
 use native.Mathlib.Omega.{arith}
 use Rattle.whole.specs.declared.Fraction.{Fraction}
+use Rattle.whole.specs.Fraction.{over}
 use Rattle.whole.specs.Root.{lowerRoot, upperRoot}
 use Rattle.whole.specs.Rounding.{up, down}
 use Rattle.whole.proofs.Root.{radicand, unit-most, lower-most}
 use Rattle.whole.proofs.Rounding.{up-most, down-most}
-use Rattle.response.specs.Reach.{Unit, Shape, Ductile}
+use Rattle.response.specs.Reach.{FineUnit, Shape, Ductile}
+use Rattle.response.specs.Unit.{unit}
 use Rattle.response.proofs.Spectra.{left-positive}
 
--- ---- the unit: d of 10⁻⁸ g in one s-th
-module _ (s : ℕ) (u : Unit s) where
+pub unit-fine : FineUnit unit
+unit-fine = record { positive = omega arith; most = omega arith; divides = refl }
+
+-- ---- a unit: d of 10⁻⁸ g in one s-th
+module _ (s : ℕ) (u : FineUnit s) where
   pub parts-positive : 0 < 100_000_000 / s
   parts-positive = left-positive (100_000_000 / s) s 100_000_000 (u .divides) (omega arith)
 
   pub parts-most : 100_000_000 / s ≤ 100_000_000
   parts-most = div-le-self 100_000_000 s
 
+-- ---- a capacity n/d and a square m/e
+pub ductile-of : (s n d m e : ℕ)
+    → (0 < d) × (d ≤ 1000) × (d ≤ n) × (n ≤ 6 * d) × (0 < e) × (e ≤ 1000) × (e ≤ m) × (m ≤ 11 * e)
+    → 3 * s / d * d ≡ 3 * s → upperRoot s (over m e) * d ≤ s * n → Ductile s (over n d) (over m e)
+ductile-of s n d m e h t r =
+    record {
+      cap-positive = h .0;
+      cap-small = h .1;
+      cap-one = h .2;
+      cap-most = h .3;
+      thirds = t;
+      square-positive = h .4;
+      square-small = h .5;
+      square-one = h .6;
+      square-most = h .7;
+      root-most = r;
+    }
+
 -- ---- T·A
 pub ta-most : (a b t : ℕ) → Shape a b t → t * a ≤ 101_800_000_000_000
 ta-most a b t h = mul-le-mul (h .t-most) (h .a-most)
 
 -- ---- capacity and roots
-module _ (s : ℕ) (c ρ : Fraction) (u : Unit s) (d : Ductile s c ρ) where
+module _ (s : ℕ) (c ρ : Fraction) (u : FineUnit s) (d : Ductile s c ρ) where
   pub small : ρ .num * (s * s) < 2 ^ 64 * ρ .den
   small =
       let p = d .square-positive in

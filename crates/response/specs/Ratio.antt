@@ -11,7 +11,7 @@ use Rattle.whole.specs.declared.Fraction.{Fraction}
 use Rattle.whole.specs.Choice.{pick}
 use Rattle.whole.specs.Rounding.{up}
 use Rattle.whole.specs.Fraction.{over, quotient}
-use Rattle.site.specs.declared.hazard.Lines.{Lines}
+use Rattle.site.specs.declared.lines.Lines.{Lines}
 
 unfoldable pub bent : Lines → ℕ → ℕ → ℕ
 bent l x y =

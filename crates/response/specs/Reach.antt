@@ -1,15 +1,17 @@
 -- What the leaves are made for, wide enough for every unit, profile and curve to come.
---   Unit s           a divisor of 10⁸ up to 10⁷: millionths and ten-millionths among them
+--   FineUnit s       a divisor of 10⁸ up to 10⁷: millionths and ten-millionths among them
 --   Shape a b t      A and B to 2 g, T to 509,000 ms
 --   Thousandths l    lines whose constants are at most 1
+--   Meeting l        lines that meet where they change, at a ratio of at most 1; the second rises, none is steeper than the
+--                    first, and the last not steeper than 0.75
 --   Ductile s c ρ    a capacity of 1 to 6 in whole thirds of the unit, a square of 1 to 11, and an upper root not above the capacity
 use mathlib.Core.Path.{_≡_}
-use Prim.Native.Nat.{ℕ, _*_, _/_, _≤_, _<_}
+use Prim.Native.Nat.{ℕ, _+_, _*_, _/_, _≤_, _<_}
 use Rattle.whole.specs.declared.Fraction.{Fraction}
 use Rattle.whole.specs.Root.{upperRoot}
-use Rattle.site.specs.declared.hazard.Lines.{Lines}
+use Rattle.site.specs.declared.lines.Lines.{Lines}
 
-pub record Unit (s : ℕ) : Type 0 where
+pub record FineUnit (s : ℕ) : Type 0 where
   pub positive : 0 < s
   pub most : s ≤ 10_000_000
   pub divides : 100_000_000 / s * s ≡ 100_000_000
@@ -39,3 +41,13 @@ pub record Thousandths (l : Lines) : Type 0 where
   pub slope : l .slope ≤ 1000
   pub add : l .add ≤ 1000
   pub last : l .last ≤ 1000
+
+pub record Meeting (l : Lines) : Type 0 where
+  pub order : l .first ≤ l .second
+  pub soon : l .second ≤ 1000
+  pub rising : 0 < l .slope
+  pub steeper : l .slope ≤ l .last
+  pub gentle : l .last ≤ 750
+  pub half : 2 * l .add ≤ 1000
+  pub meet-first : l .slope * l .first + 1000 * l .add ≡ 1000 * l .first
+  pub meet-second : l .slope * l .second + 1000 * l .add ≡ l .last * l .second

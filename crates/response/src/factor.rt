@@ -13,10 +13,10 @@ ghost use mathlib.Core.Path.{_≡_};
 ghost use Prim.Native.Nat.{_-_, _*_, _/_, _≤_, _<_};
 ghost use Rattle.whole.specs.Rounding.{up, down};
 ghost use Rattle.response.specs.Factor.{lowerFactor, upperFactor};
-ghost use Rattle.response.specs.Reach.{Unit, Shape, Ductile};
+ghost use Rattle.response.specs.Reach.{FineUnit, Shape, Ductile};
 
 pub fn lower_factor(s: u64, a: u64, b: u64, t: u64, capacity: Fraction, square: Fraction) -> u64
-    requires { ⌜ Unit s × Shape a b t × Ductile s capacity square ⌝ }
+    requires { ⌜ FineUnit s × Shape a b t × Ductile s capacity square ⌝ }
     ensures { λ f. ⌜ f ≡ lowerFactor s a b t capacity square ⌝ }
 {
     let ta = t * a;
@@ -35,7 +35,7 @@ pub fn lower_factor(s: u64, a: u64, b: u64, t: u64, capacity: Fraction, square: 
 }
 
 pub fn upper_factor(s: u64, a: u64, b: u64, t: u64, capacity: Fraction, square: Fraction) -> u64
-    requires { ⌜ Unit s × Shape a b t × Ductile s capacity square ⌝ }
+    requires { ⌜ FineUnit s × Shape a b t × Ductile s capacity square ⌝ }
     ensures { λ f. ⌜ f ≡ upperFactor s a b t capacity square ⌝ }
 {
     let ta = t * a;

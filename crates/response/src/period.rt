@@ -6,13 +6,13 @@ use whole::roots::largest;
 use whole::roots::power;
 ghost use mathlib.Core.Path.{_≡_};
 ghost use Prim.Native.Nat.{_≤_, _<_};
-ghost use Rattle.response.specs.Period.{c, approximate, inUse, periodOf};
+ghost use Rattle.response.specs.Period.{coefficient, approximate, inUse, periodOf};
 
 // A period that is past every root: 1000 t^4 there is past 85^4 2000^3.
 const PAST: u64 = 8192;
 
 pub fn coefficient(kind: Kind) -> u64
-    ensures { λ r. ⌜ r ≡ c kind ⌝ }
+    ensures { λ r. ⌜ r ≡ coefficient kind ⌝ }
 {
     match kind {
         Kind::Steel => 85,

@@ -1,5 +1,5 @@
 // The modified ratio, and p of V*: three straight lines of one number against another.
-use site::hazard::Lines;
+use site::lines::Lines;
 use whole::quotients::up;
 ghost use mathlib.Core.Path.{_≡_};
 ghost use Prim.Native.Nat.{_≤_, _<_};

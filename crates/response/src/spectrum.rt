@@ -1,7 +1,7 @@
 // The spectrum: T is compared with the corner 1000 B / A by products, and there is one rounding, up.
 use whole::quotients::up;
 ghost use mathlib.Core.Path.{_≡_};
-ghost use Rattle.response.specs.Reach.{Unit, Shape};
+ghost use Rattle.response.specs.Reach.{FineUnit, Shape};
 ghost use Prim.Native.Nat.{_+_, _*_, _≤_, _<_};
 ghost use Rattle.whole.specs.Rounding.{up};
 ghost use Rattle.response.specs.Spectrum.{spectrum};
@@ -10,7 +10,7 @@ ghost use Rattle.response.specs.Spectrum.{spectrum};
 const G: u64 = 100_000_000;
 
 pub fn spectrum(s: u64, a: u64, b: u64, t: u64) -> u64
-    requires { ⌜ Unit s × Shape a b t ⌝ }
+    requires { ⌜ FineUnit s × Shape a b t ⌝ }
     ensures { λ r. ⌜ r ≡ spectrum s a b t ⌝ }
 {
     let d = G / s;

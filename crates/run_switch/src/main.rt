@@ -1,14 +1,15 @@
 // One job with class 2, 3 and 2 again: the first and the third run agree, and the second is that of a fresh run.
 use base_shear::Figures;
-use base_shear::base::base_figures;
+use job::JobAnswer;
+use job::figures::figures;
 use libc::STDOUT_FILENO;
-use limits::frame::Frame;
+use limits::frame::FrameValues;
 use limits::frame::Kind;
 use limits::site::Class;
-use limits::site::Site;
+use limits::site::SiteValues;
 
-fn run(class: Class) -> Figures {
-    let site = Site {
+fn run(class: u64) -> Figures {
+    let site = SiteValues {
         ssd: 70,
         s1d: 40,
         ssm: 90,
@@ -17,14 +18,26 @@ fn run(class: Class) -> Figures {
         nv: 123,
         class,
     };
-    let frame = Frame {
-        kind: Kind::Concrete,
+    let frame = FrameValues {
+        kind: Kind::CONCRETE,
         calculated: 700,
         r: 480,
         i: 125,
         alpha: 150,
     };
-    base_figures(site, frame, 15_000, 300)
+    let weights = [15_000];
+    let heights = [300];
+    let a = figures(site, frame, &weights, &heights);
+    let JobAnswer::Taken(f) = a else {
+        return Figures {
+            v: 0,
+            vm: 0,
+            star: 0,
+            vd: 0,
+            t: 0,
+        };
+    };
+    f
 }
 
 fn number(n: u64) {
@@ -59,9 +72,9 @@ fn same(a: Figures, b: Figures) -> bool {
 }
 
 fn main() {
-    let first = run(Class::Normal);
-    let second = run(Class::Soft);
-    let third = run(Class::Normal);
+    let first = run(Class::NORMAL);
+    let second = run(Class::SOFT);
+    let third = run(Class::NORMAL);
     say(b"class 2", first);
     say(b"class 3", second);
     say(b"class 2", third);

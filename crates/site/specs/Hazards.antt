@@ -12,7 +12,7 @@ use Rattle.whole.specs.declared.Fraction.{Fraction}
 use Rattle.limits.specs.declared.site.Class.{Class}
 use Rattle.limits.specs.declared.site.Site.{Site}
 use Rattle.site.specs.declared.hazard.Hazard.{Hazard}
-use Rattle.site.specs.declared.hazard.Lines.{Lines}
+use Rattle.site.specs.declared.lines.Lines.{Lines}
 use Rattle.site.specs.declared.hazard.Hazards.{Hazards}
 use Rattle.site.specs.declared.hazards.SiteAccelerations.{SiteAccelerations}
 use Rattle.site.specs.Coefficients.{factored, accelerationA, accelerationB}

@@ -1,4 +1,5 @@
 // What the shears are worked out from: three hazards and constants, whatever made them.
+use crate::lines::Lines;
 use whole::Fraction;
 
 // One hazard: A and B in 10⁻⁸ g, the ductility capacity, and the square of its root.
@@ -7,16 +8,6 @@ pub struct Hazard {
     pub b: u64,
     pub capacity: Fraction,
     pub square: Fraction,
-}
-
-// The three lines of the modified ratio, in thousandths: where the second and the third begin, the second's slope and
-// what it adds, and the third's slope.
-pub struct Lines {
-    pub first: u64,
-    pub second: u64,
-    pub slope: u64,
-    pub add: u64,
-    pub last: u64,
 }
 
 // The hazards of V, V_M and V*, the lines, and the divisors in tenths: 1.4 of V and V_M, 4.2 of V*.

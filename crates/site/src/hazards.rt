@@ -7,7 +7,7 @@ use crate::coefficients::acceleration_a;
 use crate::coefficients::acceleration_b;
 use crate::hazard::Hazard;
 use crate::hazard::Hazards;
-use crate::hazard::Lines;
+use crate::lines::Lines;
 use limits::site::Class;
 use limits::site::Site;
 ghost use mathlib.Core.Path.{_≡_};

@@ -4,4 +4,5 @@ pub mod capacity;
 pub mod coefficients;
 pub mod hazard;
 pub mod hazards;
+pub mod lines;
 pub mod table2;

@@ -2,8 +2,6 @@
 use mathlib.Core.Path.{_≡_, refl}
 use mathlib.Core.Bool.{Bool, true, _&&_}
 use mathlib.Core.List.{List, [], _∷_}
-use Prim.Native.Nat.{ℕ}
-use lib.Dec.{T}
 use lib.ListN.{length}
 use Rattle.whole.specs.Rounding.{up, down}
 use Rattle.whole.specs.Search.{largest, smallest, bitsFrom}
@@ -15,7 +13,7 @@ use Rattle.response.specs.Period.{approximate, inUse}
 use Rattle.response.specs.Spectrum.{spectrum, exactSpectrum}
 use Rattle.response.specs.Factor.{factor, lowerFactor, upperFactor}
 use Rattle.response.specs.Ratio.{ratio, modified, blended, bent}
-use Rattle.base_shear.specs.Shears.{newtons, shear, star, base, figures}
+use Rattle.base_shear.specs.Shears.{newtons, shear, star, base, figuresAt}
 use Rattle.storeys.specs.Storeys.{weightHeight, about}
 use Rattle.vectors.specs.Vector.{Vector, agrees, printed, exact, stages, starStages, period, places, sameNumbers, sameFractions}
 use Rattle.vectors.specs.Rows.{rows}
@@ -32,5 +30,5 @@ pub all-agree : every rows ≡ true
 unfolding every rows agrees printed exact stages starStages period places sameNumbers sameFractions
     up down largest smallest bitsFrom lowerRoot upperRoot cells sum between floor ceiling
     approximate inUse spectrum exactSpectrum factor lowerFactor upperFactor ratio modified blended bent
-    newtons shear star base figures weightHeight about
+    newtons shear star base figuresAt weightHeight about
 all-agree = refl

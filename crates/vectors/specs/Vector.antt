@@ -8,7 +8,7 @@ use mathlib.Core.Bool.{Bool, true, false, _&&_}
 use mathlib.Core.List.{List, [], _∷_, _++_}
 use Prim.Native.Nat.{ℕ, zero, suc, _*_}
 use lib.Dec.{eqb}
-use lib.ListN.{length, getD}
+use lib.ListN.{length}
 use Rattle.whole.specs.declared.Fraction.{Fraction}
 use Rattle.whole.specs.Fraction.{over}
 use Rattle.whole.specs.Cells.{sum}
@@ -24,9 +24,8 @@ use Rattle.site.specs.Hazards.{hazardsOf}
 use Rattle.response.specs.Period.{approximate, periodOf}
 use Rattle.response.specs.Spectrum.{spectrum}
 use Rattle.response.specs.Factor.{lowerFactor, upperFactor}
-use Rattle.response.specs.Ratio.{modified, blended}
-use Rattle.base_shear.specs.declared.Figures.{Figures}
-use Rattle.base_shear.specs.Shears.{ratioAt, figures}
+use Rattle.response.specs.Ratio.{blended}
+use Rattle.base_shear.specs.Shears.{ratioAt, modifiedAt, figuresAt}
 use Rattle.base_shear.specs.Exact.{Roots, exactShear, exactStar, exactBase}
 use Rattle.storeys.specs.Storeys.{shears, forces, overturnings}
 use Rattle.storeys.specs.Exact.{exactShearUnder}
@@ -62,7 +61,7 @@ stages s k h T =
     ∷ lowerRoot s (h .square)
     ∷ lowerFactor s (h .a) (h .b) T (h .capacity) (h .square)
     ∷ ratioAt s h T
-    ∷ modified s (k .lines) (ratioAt s h T)
+    ∷ modifiedAt s (k .lines) h T
     ∷ []
 
 -- of the hazard of V*: spectrum, upper root, upper factor, p
@@ -79,7 +78,7 @@ unfoldable pub printed : Vector → List ℕ
 printed v =
     let k = hazardsOf (v .site) (v .frame .r) in
     let T = period v in
-    let f = figures (v .unit) k (v .frame) (sum (v .weights)) T in
+    let f = figuresAt (v .unit) k (v .frame) (sum (v .weights)) T in
     let us = shears T (f .vd) (v .weights) (v .heights) in
     let fs = forces us in
     (k .design .a ∷ k .design .b ∷ k .mce .a ∷ k .mce .b ∷ k .star .a ∷ k .star .b ∷ [])

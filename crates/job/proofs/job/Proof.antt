@@ -10,7 +10,7 @@ use Rattle.limits.specs.Judging.{givenOutcome}
 use Rattle.base_shear.specs.declared.Figures.{Figures}
 use Rattle.storeys.specs.Reach.{Load}
 use Rattle.job.proofs.Stages.{refused-answers, accepted-answers}
-use Rattle.job.proofs.Within.{load, standing}
+use Rattle.job.proofs.GivenReached.{load, standing}
 use Rattle.job.proofs.job.Statement.{statement}
 use Rattle.job.proofs.job.Tie as tie
 

@@ -9,47 +9,40 @@ use Rattle.base_shear.proofs.shears.blended_at.Statement.{statement}
 use Rattle.base_shear.proofs.shears.blended_at.Tie as tie
 
 spectrum-requires : tie.Need-spectrum-requires
-spectrum-requires c κs =
-    let a = c .args in
-    let h = a .h in
-    let u = c .pre .0 in
-    let r = c .pre .2 in
-    let sh = r .shape in
-    let d = r .ductile in
-    (u, sh)
+spectrum-requires c κs = (c .pre .0, c .pre .2 .shape)
 
 upper-factor-requires : tie.Need-upper-factor-requires
 upper-factor-requires c κs =
-    let a = c .before .before .before .args in
-    let h = a .h in
-    let u = c .before .before .before .pre .0 in
-    let r = c .before .before .before .pre .2 in
-    let sh = r .shape in
-    let d = r .ductile in
-    (u, sh, d)
+    let p = c .before .before .before .pre in
+    (p .0, p .2 .shape, p .2 .ductile)
 
 blended-requires : tie.Need-blended-requires
 blended-requires c κs =
-    let a = c .before .before .before .before .args in
+    let b = c .before .before .before .before in
+    let a = b .args in
     let h = a .h in
-    let u = c .before .before .before .before .pre .0 in
-    let r = c .before .before .before .before .pre .2 in
-    let sh = r .shape in
-    let d = r .ductile in
+    let u = b .pre .0 in
+    let r = b .pre .2 in
     let m = u .most in
-    (c .before .before .before .before .pre .1, omega (arith, c .before .before .before .spectrum .ensures, spectrum-most (a .s) (h .a) (h .b) (a .t) (sh .b-positive) (sh .a-most)), omega (arith, c .upper-factor .ensures, upper-factor-most (a .s) (h .a) (h .b) (a .t) (h .capacity) (h .square) u sh d))
+    let most = spectrum-most (a .s) (h .a) (h .b) (a .t) (r .shape .b-positive) (r .shape .a-most) in
+    let small = upper-factor-most (a .s) (h .a) (h .b) (a .t) (h .capacity) (h .square) u (r .shape) (r .ductile) in
+    (b .pre .1, omega (arith, c .before .before .before .spectrum .ensures, most), omega (arith, c .upper-factor .ensures, small))
 
 returns : tie.Need-returns
 returns c =
-    let a = c .before .before .before .before .before .args in
+    let b = c .before .before .before .before .before in
+    let a = b .args in
     let h = a .h in
-    let u = c .before .before .before .before .before .pre .0 in
-    let r = c .before .before .before .before .before .pre .2 in
-    let sh = r .shape in
-    let d = r .ductile in
+    let u = b .pre .0 in
+    let r = b .pre .2 in
     let m = u .most in
-    let e = c .blended .ensures ∙ ap₂ (blended (a .l)) (c .before .before .before .before .spectrum .ensures) (c .before .upper-factor .ensures) in
-    (e, omega (arith, e, blended-most (a .l) (spectrum (a .s) (h .a) (h .b) (a .t)) (upperFactor (a .s) (h .a) (h .b) (a .t) (h .capacity) (h .square)) (c .before .before .before .before .before .pre .1), spectrum-most (a .s) (h .a) (h .b) (a .t) (sh .b-positive) (sh .a-most), upper-factor-most (a .s) (h .a) (h .b) (a .t) (h .capacity) (h .square) u sh d))
+    let Sa = spectrum (a .s) (h .a) (h .b) (a .t) in
+    let F = upperFactor (a .s) (h .a) (h .b) (a .t) (h .capacity) (h .square) in
+    let sa = c .before .before .before .before .spectrum .ensures in
+    let e = c .blended .ensures ∙ ap₂ (blended (a .l)) sa (c .before .upper-factor .ensures) in
+    let most = spectrum-most (a .s) (h .a) (h .b) (a .t) (r .shape .b-positive) (r .shape .a-most) in
+    let small = upper-factor-most (a .s) (h .a) (h .b) (a .t) (h .capacity) (h .square) u (r .shape) (r .ductile) in
+    (e, omega (arith, e, blended-most (a .l) Sa F (b .pre .1), most, small))
 
 pub blended-at-spec : {M : Type 1} → statement M
 blended-at-spec =

@@ -2,7 +2,7 @@
 use borrow.Author.Needs.{needs}
 use mathlib.Core.Path.{ap, _∙_}
 use native.Mathlib.Omega.{arith}
-use Rattle.base_shear.proofs.Within.{ratio-at-most}
+use Rattle.base_shear.proofs.Bounds.{ratio-at-most}
 use Rattle.base_shear.specs.Shears.{ratioAt}
 use Rattle.response.proofs.Most.{modified-most}
 use Rattle.response.specs.Ratio.{modified}

@@ -1,8 +1,6 @@
 -- `base_shear::shears::newtons` meets its contract: 10⁴ cancels. Assumes nothing.
 use mathlib.Core.Path.{_≡_, ap, _∙_}
-use mathlib.Core.Path.{ap, _∙_}
 use Prim.Native.Nat.{ℕ, _*_, _/_, _≤_, _<_}
-use Prim.Native.Nat.{ℕ, _*_, _/_, _≤_}
 use native.Mathlib.Nat.{mul-le-mul, mul-pos}
 use native.Mathlib.Omega.{arith}
 use Rattle.base_shear.specs.Shears.{newtons}
@@ -17,18 +15,12 @@ crossed x n u al s e = omega (arith, ap (λ (z : ℕ). x * n * al * z) e)
 
 mul-up : tie.Need-mul-up
 mul-up c =
-    let a = c .before .args in
     let p = c .before .pre in
-    let u = a .s / 10_000 in
-    let us : u ≤ 1000 = omega (arith, p .0, p .2) in
     omega (arith, mul-le-mul (p .5 .i .1) (p .7))
 
 mul-up-2 : tie.Need-mul-up-2
 mul-up-2 c =
-    let a = c .before .args in
     let p = c .before .pre in
-    let u = a .s / 10_000 in
-    let us : u ≤ 1000 = omega (arith, p .0, p .2) in
     omega (arith, mul-le-mul (mul-le-mul (p .5 .i .1) (p .7)) (p .6))
 
 mul-up-3 : tie.Need-mul-up-3
@@ -52,7 +44,6 @@ up-requires c κs =
     let a = c .before .before .args in
     let p = c .before .before .pre in
     let u = a .s / 10_000 in
-    let us : u ≤ 1000 = omega (arith, p .0, p .2) in
     mul-pos (mul-pos (p .3) (left-positive u 10_000 (a .s) (p .0) (p .1))) (omega (arith, p .5 .alpha .0))
 
 returns : tie.Need-returns
@@ -61,7 +52,6 @@ returns c =
     let a = c .before .before .before .args in
     let p = c .before .before .before .pre in
     let u = a .s / 10_000 in
-    let us : u ≤ 1000 = omega (arith, p .0, p .2) in
     let al = a .f .alpha in
     let pa : 0 < al = omega (arith, p .5 .alpha .0) in
     let pu = mul-pos (mul-pos (p .3) (left-positive u 10_000 (a .s) (p .0) (p .1))) pa in

@@ -7,39 +7,30 @@ use Rattle.base_shear.proofs.shears.ratio_at.Statement.{statement}
 use Rattle.base_shear.proofs.shears.ratio_at.Tie as tie
 
 spectrum-requires : tie.Need-spectrum-requires
-spectrum-requires c κs =
-    let a = c .args in
-    let h = a .h in
-    let u = c .pre .0 in
-    let r = c .pre .1 in
-    let sh = r .shape in
-    let d = r .ductile in
-    (u, sh)
+spectrum-requires c κs = (c .pre .0, c .pre .1 .shape)
 
 lower-factor-requires : tie.Need-lower-factor-requires
 lower-factor-requires c κs =
-    let a = c .before .before .before .args in
-    let h = a .h in
-    let u = c .before .before .before .pre .0 in
-    let r = c .before .before .before .pre .1 in
-    let sh = r .shape in
-    let d = r .ductile in
-    (u, sh, d)
+    let p = c .before .before .before .pre in
+    (p .0, p .1 .shape, p .1 .ductile)
 
 ratio-requires : tie.Need-ratio-requires
 ratio-requires c κs =
-    let a = c .before .before .before .before .args in
+    let b = c .before .before .before .before in
+    let a = b .args in
     let h = a .h in
-    let u = c .before .before .before .before .pre .0 in
-    let r = c .before .before .before .before .pre .1 in
-    let sh = r .shape in
-    let d = r .ductile in
+    let u = b .pre .0 in
+    let r = b .pre .1 in
     let m = u .most in
     let p = u .positive in
-    (m, omega (arith, c .before .before .before .spectrum .ensures, spectrum-most (a .s) (h .a) (h .b) (a .t) (sh .b-positive) (sh .a-most)), omega (arith, c .lower-factor .ensures, lower-factor-least (a .s) (h .a) (h .b) (a .t) (h .capacity) (h .square) u sh d))
+    let most = spectrum-most (a .s) (h .a) (h .b) (a .t) (r .shape .b-positive) (r .shape .a-most) in
+    let least = lower-factor-least (a .s) (h .a) (h .b) (a .t) (h .capacity) (h .square) u (r .shape) (r .ductile) in
+    (m, omega (arith, c .before .before .before .spectrum .ensures, most), omega (arith, c .lower-factor .ensures, least))
 
 returns : tie.Need-returns
-returns c = c .ratio .ensures ∙ ap₂ (ratio (c .before .before .before .before .before .args .s)) (c .before .before .before .before .spectrum .ensures) (c .before .lower-factor .ensures)
+returns c =
+    let s = c .before .before .before .before .before .args .s in
+    c .ratio .ensures ∙ ap₂ (ratio s) (c .before .before .before .before .spectrum .ensures) (c .before .lower-factor .ensures)
 
 pub ratio-at-spec : {M : Type 1} → statement M
 ratio-at-spec = tie.close (tie.spec spectrum-requires lower-factor-requires ratio-requires returns)

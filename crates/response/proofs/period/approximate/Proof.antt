@@ -1,11 +1,10 @@
 -- `response::period::approximate` meets its contract. Assumes nothing.
 use borrow.Author.Needs.{needs}
-use mathlib.Core.Path.{_≡_, ap, ap₂, subst, _∙_}
+use mathlib.Core.Path.{ap, ap₂, subst, _∙_}
 use Prim.Native.Nat.{ℕ, _*_, _^_, _≤_}
-use native.Mathlib.Nat.{mul-le-mul, pow-le-pow-left}
+use native.Mathlib.Nat.{pow-le-pow-left}
 use native.Mathlib.Omega.{arith}
-use Rattle.response.proofs.Periods.{c-most, c-least, radicand-most, approximate-is}
-use Rattle.response.specs.Period.{c}
+use Rattle.response.proofs.Periods.{coefficient-most, coefficient-least, radicand-most, approximate-is}
 use Rattle.whole.proofs.Extreme.{largest-unique}
 use Rattle.whole.specs.Extreme.{Largest}
 use Rattle.response.proofs.period.approximate.Statement.{statement}
@@ -16,8 +15,8 @@ coefficient-requires c κs = search needs
 
 power-requires : tie.Need-power-requires
 power-requires c κs =
-    let b : c .coefficient .result ≤ 85 = omega (arith, c .coefficient .ensures, c-most (c .before .args .kind)) in
-    (omega (arith, c .coefficient .ensures, c-least (c .before .args .kind)), omega (arith, pow-le-pow-left b 4))
+    let b : c .coefficient .result ≤ 85 = omega (arith, c .coefficient .ensures, coefficient-most (c .before .args .kind)) in
+    (omega (arith, c .coefficient .ensures, coefficient-least (c .before .args .kind)), omega (arith, pow-le-pow-left b 4))
 
 power-requires-2 : tie.Need-power-requires-2
 power-requires-2 c κs = (c .before .before .pre .0, omega (arith, pow-le-pow-left (c .before .before .pre .1) 3))

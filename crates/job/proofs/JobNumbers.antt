@@ -1,4 +1,4 @@
--- A job by its numbers, and what it comes to in millionths.
+-- A job by its numbers, and what it comes to in the unit in use.
 --   Job                  site line, frame line, weights, heights, and what is given where they are accepted
 --   jobOn ..             a job of the lines of a sheet, as its numbers stand there, with its class and kind
 --   IsAccepted j         they are accepted, with result buffers of as many cells as levels
@@ -6,7 +6,7 @@
 --   printed j, printedUnder j x       V_D, and the shear under level x, from 0
 --   exact j r, exactUnder j r x       the same of the exact chain, at fractions r for the roots
 --   Demand3Of j v u      demand 3 of a base shear v and storey shears u
---   margin e j           e millionths of I·W/(1.4·alpha-y), plus one newton
+--   margin e j           e s-ths of I·W/(1.4·alpha-y), plus one newton
 -- Assumes nothing.
 use mathlib.Core.Path.{_≡_}
 use mathlib.Core.List.{List}
@@ -24,7 +24,6 @@ use Rattle.limits.specs.declared.frame.Kind.{Kind}
 use Rattle.limits.specs.declared.judging.Given.{Given}
 use Rattle.limits.specs.declared.site.Class.{Class}
 use Rattle.limits.specs.declared.site.SiteValues.{SiteValues}
-use Rattle.site.specs.Hazards.{hazardsOf}
 use Rattle.site.specs.declared.hazard.Hazards.{Hazards}
 use Rattle.response.specs.Period.{periodOf}
 use Rattle.response.specs.Unit.{unit}
@@ -32,7 +31,8 @@ use Rattle.base_shear.specs.Exact.{Roots, exactBase}
 use Rattle.base_shear.specs.Shears.{base}
 use Rattle.storeys.specs.Exact.{exactShearUnder}
 use Rattle.storeys.specs.Storeys.{shearUnder}
 use Rattle.margin.specs.Demand3.{Demand3, marginOf}
+use Rattle.job.specs.Job.{givenHazards}
 
 pub record Job : Type 0 where
   pub site : SiteValues
@@ -61,7 +61,7 @@ abbrev pub IsAccepted : Job → Type 0
 IsAccepted j = judgedJob (j .site) (j .frame) (j .weights) (j .heights) (length (j .weights)) ≡ accepted (j .given)
 
 abbrev pub hazards : Job → Hazards
-hazards j = hazardsOf (j .given .site) (j .given .frame .r)
+hazards j = givenHazards (j .given)
 
 abbrev pub period : Job → ℕ
 period j = periodOf (j .given .frame .kind) (j .given .frame .calculated) (topHeight (j .heights))

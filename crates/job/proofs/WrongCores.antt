@@ -25,13 +25,21 @@ use Rattle.response.specs.Period.{approximate, inUse}
 use Rattle.response.specs.Ratio.{bent}
 use Rattle.response.specs.Spectrum.{exactSpectrum}
 use Rattle.base_shear.specs.Exact.{Roots}
+use Rattle.base_shear.specs.Shears.{figuresAt}
 use Rattle.storeys.specs.Storeys.{weightHeight}
 use Rattle.margin.specs.Roots.{Lowering, Raising}
 use Rattle.margin.proofs.Bound.{at-least-number, below-number}
-use Rattle.margin.proofs.Job.{Job, siteLine, frameLine, jobOn, IsAccepted, Demand3Of, hazards, exact, exactUnder, margin}
+use Rattle.job.proofs.Demand3.{demand3-accepted}
+use Rattle.job.proofs.JobNumbers.{Job, siteLine, frameLine, jobOn, IsAccepted, Demand3Of, hazards}
+use Rattle.job.proofs.JobNumbers.{printed, printedUnder, exact, exactUnder, margin}
 
 abbrev pub Meets : (Job → ℕ) → (Job → ℕ → ℕ) → Type 0
 Meets v u = (j : Job) → IsAccepted j → Demand3Of j (v j) (u j)
+
+-- the core is none of them
+pub core-meets : Meets printed printedUnder
+unfolding figuresAt
+core-meets j e = demand3-accepted (j .site) (j .frame) (j .weights) (j .heights) _ (j .given) e
 
 -- ---- the sheet, at any weights
 abbrev sheet : List ℕ → Job

@@ -13,7 +13,7 @@ use Rattle.site.specs.declared.hazard.Hazard.{Hazard}
 use Rattle.site.specs.declared.hazard.Hazards.{Hazards}
 use Rattle.response.specs.Factor.{exactFactor}
 use Rattle.response.specs.Spectrum.{exactSpectrum}
-use Rattle.response.proofs.Bent.{Meeting}
+use Rattle.response.specs.Reach.{Meeting}
 use Rattle.response.proofs.Exact.{exact-factor-rises, exact-modified-rises, exact-blended-rises}
 use Rattle.base_shear.specs.Exact.{Roots, exactShear, exactStar, exactBase}
 use Rattle.base_shear.specs.Ready.{Shearing}

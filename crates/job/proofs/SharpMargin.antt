@@ -1,7 +1,7 @@
 -- Three accepted jobs that show how sharp demand 3 is, worked out by the checker: its margins cannot be much smaller, and its
 -- fractions cannot stand the other way round.
---   heavy     a million kN: the base shear is above the exact one by more than four millionths and a newton
---   tall      2,000 dm: the shear under the roof is above the exact one by more than six millionths and two newtons
+--   heavy     a million kN: the base shear is above the exact one by more than four s-ths and a newton
+--   tall      2,000 dm: the shear under the roof is above the exact one by more than six s-ths and two newtons
 --   stiff     with a low fraction in V the chain is above the printed base shear
 -- Assumes nothing.
 use mathlib.Core.Path.{refl}
@@ -30,9 +30,9 @@ use Rattle.response.specs.Unit.{unit}
 use Rattle.base_shear.specs.Exact.{Roots}
 use Rattle.base_shear.specs.Shears.{newtons, shear, star, base}
 use Rattle.storeys.specs.Storeys.{weightHeight}
 use Rattle.margin.specs.Demand3.{LessBy, allowed, allowedUnder}
 use Rattle.margin.specs.Roots.{High, Low, Raising}
-use Rattle.margin.proofs.Job.{Job, siteLine, frameLine, jobOn, IsAccepted, hazards, printed, printedUnder, exact, exactUnder, margin}
+use Rattle.job.proofs.JobNumbers.{Job, siteLine, frameLine, jobOn, IsAccepted, hazards, printed, printedUnder, exact, exactUnder, margin}
 
 -- 50 levels of 20,000 kN, a decimetre apart
 abbrev pub heavy : Job
@@ -68,11 +68,11 @@ heavy-raising =
     }
 
 -- printed 1,047,228,215 N, exact at these fractions 1,047,223,890.96 N; a millionth is 1,071.43 N
-pub over-four-millionths : AtMost (plus (exact heavy heavyRoots) (margin 4 heavy)) (over (printed heavy) 1)
+pub over-four-units : AtMost (plus (exact heavy heavyRoots) (margin 4 heavy)) (over (printed heavy) 1)
     × LessBy (printed heavy) (exact heavy heavyRoots) (allowed unit (hazards heavy) (heavy .given .frame) (sum (heavy .weights)))
 unfolding cells sum between up down largest smallest bitsFrom lowerRoot upperRoot floor ceiling approximate inUse spectrum
     exactSpectrum factor lowerFactor upperFactor ratio modified blended bent newtons shear star base
-over-four-millionths = (lit≤ tt, lit< tt)
+over-four-units = (lit≤ tt, lit< tt)
 
 -- ---- the storeys
 abbrev pub tallRoots : Roots

@@ -1,0 +1,90 @@
+-- Between which numbers the base shear comes, of hazards within reach: at least 1 N, and at most what `Bounded` says. The ratio
+-- is at most 2.
+-- Assumes nothing.
+use Prim.Native.Nat.{ℕ, _*_, _≤_, _<_}
+use native.Mathlib.Nat.{le-trans, lt-of-lt-of-le, mul-le-mul, mul-le-mul-right, mul-pos, le-max-left, max-le}
+use native.Mathlib.Omega.{arith}
+use Rattle.whole.proofs.Rounding.{up-most}
+use Rattle.limits.specs.Allowed.{AllowedFrame}
+use Rattle.limits.specs.Levels.{totalMost}
+use Rattle.limits.specs.declared.frame.Frame.{Frame}
+use Rattle.site.specs.declared.hazard.Hazard.{Hazard}
+use Rattle.site.specs.declared.hazard.Hazards.{Hazards}
+use Rattle.response.specs.Factor.{lowerFactor}
+use Rattle.response.specs.Period.{periodMost}
+use Rattle.response.specs.Reach.{FineUnit}
+use Rattle.response.specs.Spectrum.{spectrum}
+use Rattle.response.specs.Unit.{unit}
+use Rattle.response.proofs.Least.{up-some, spectrum-some, ratio-some, modified-some}
+use Rattle.response.proofs.Most.{spectrum-below, spectrum-most, lower-factor-least, ratio-most, modified-rises, blended-within}
+use Rattle.base_shear.specs.Ready.{Ready, Shearing, Within, Bounded, Reached}
+use Rattle.base_shear.specs.Shears.{newtons, ratioAt, shear, star, base}
+
+-- ---- the ratio of a hazard within reach
+module _ (s : ℕ) (h : Hazard) (t : ℕ) (u : FineUnit s) (r : Ready s h t) where
+  least : s ≤ lowerFactor s (h .a) (h .b) t (h .capacity) (h .square)
+  least = lower-factor-least s (h .a) (h .b) t (h .capacity) (h .square) u (r .shape) (r .ductile)
+
+  factor-some : 0 < lowerFactor s (h .a) (h .b) t (h .capacity) (h .square)
+  factor-some = lt-of-lt-of-le (u .positive) least
+
+  ratio-within : ratioAt s h t ≤ spectrum s (h .a) (h .b) t
+  ratio-within = ratio-most s _ _ factor-some least
+
+  pub ratio-at-most : ratioAt s h t ≤ 2 * s
+  ratio-at-most = le-trans ratio-within (spectrum-most s (h .a) (h .b) t (r .shape .b-positive) (r .shape .a-most))
+
+  ratio-at-some : 0 < ratioAt s h t
+  ratio-at-some =
+      ratio-some s _ _ (u .positive)
+      (spectrum-some s (h .a) (h .b) t (u .positive) (r .shape .a-positive) (r .shape .b-positive))
+      factor-some
+
+module _ (k : Hazards) (f : Frame) (W T : ℕ) (c : Reached k) (b : AllowedFrame f) (t : T ≤ periodMost) where
+  abbrev g : Shearing unit k T
+  g = c .shearing T t
+
+  -- ---- at most v
+  module _ (v : ℕ) (e : Bounded v k) (w : W ≤ totalMost) where
+    newtons-most : (n x y : ℕ) → 0 < n → x ≤ y → Within v n y → newtons unit n f W x ≤ v
+    unfolding newtons
+    newtons-most n x y p l h =
+        let ix : f .i * x ≤ 150 * y = mul-le-mul (b .i .1) l in
+        let ixw : f .i * x * W ≤ 150 * y * totalMost = mul-le-mul ix w in
+        let small : 100 * (n * v) ≤ f .alpha * (n * v) = mul-le-mul-right (n * v) (b .alpha .0) in
+        up-most (10_000 * (f .i * x * W)) (n * unit * f .alpha) v (mul-pos (mul-pos p (omega arith)) (omega (arith, b .alpha)))
+        (omega (arith, ixw, small, h))
+
+    shear-most : (h : Hazard) → Ready unit h T → unit * h .a ≤ 100_000_000 * e .most → shear unit k h f W T ≤ v
+    unfolding shear
+    shear-most h y a =
+        let x = spectrum-below unit (h .a) (h .b) T (e .most) (y .shape .b-positive) a in
+        let q = le-trans (ratio-within unit h T (g .unit) y) x in
+        newtons-most (k .divisor) _ _ (g .divisor .0) (modified-rises (k .lines) (c .meeting) unit _ _ q) (e .shears-within)
+
+    star-most : star unit k f W T ≤ v
+    unfolding star
+    star-most =
+        let h = k .star in
+        newtons-most (k .stardivisor) _ _ (g .stardivisor .0)
+        (le-trans (blended-within (k .lines) (c .meeting) _ _)
+        (spectrum-below unit (h .a) (h .b) T (e .most) (g .star .shape .b-positive) (e .star)))
+        (e .star-within)
+
+    pub base-most : base unit k f W T ≤ v
+    unfolding base
+    base-most =
+        max-le (max-le (shear-most (k .design) (g .design) (e .design)) (shear-most (k .mce) (g .mce) (e .mce))) star-most
+
+  -- ---- at least 1
+  shear-some : 0 < W → 0 < shear unit k (k .design) f W T
+  unfolding shear newtons
+  shear-some w =
+      let m = modified-some unit (k .lines) _ (c .meeting) (ratio-at-some unit (k .design) T (g .unit) (g .design)) in
+      let i : 0 < f .i = omega (arith, b .i) in
+      up-some _ (k .divisor * unit * f .alpha) (mul-pos (mul-pos (g .divisor .0) (omega arith)) (omega (arith, b .alpha)))
+      (mul-pos {m = 10_000} (omega arith) (mul-pos (mul-pos i m) w))
+
+  pub base-least : 0 < W → 1 ≤ base unit k f W T
+  unfolding base
+  base-least w = le-trans (shear-some w) (le-trans (le-max-left _ _) (le-max-left _ _))
