@@ -2,9 +2,9 @@
  * writes.
  *
  * Every input is taken, and nothing is kept between calls. Number and place are 0 on success; where data is refused they are those of
- * the first refusal that applies (1 to 17 of document 01's table), every figure is 0, and no buffer is touched. A list is a pointer and
- * its length, and may be NULL with 0. The buffers that are written must not overlap each other or the lists. No entry uses the heap;
- * README says how much stack each one takes.
+ * the first refusal that applies (1 to 17 of document 01's table), every figure is 0, and no buffer is touched. A list or a
+ * buffer is a pointer and its length; with a length of 0 the pointer may be NULL, which is tried and not proved (docs/LIMITS.md). The
+ * buffers that are written must not overlap each other or the lists. No entry uses the heap; README says how much stack each one takes.
  */
 #ifndef RUKESHOMAJI_H
 #define RUKESHOMAJI_H

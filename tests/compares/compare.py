@@ -2,11 +2,13 @@
 
 usage: python3 -m tests.compares.compare [JOBS [BAD [LOGS [SHEETS [SEED]]]]]
 
-It prints the count of each stratum, the largest excess over the exact figure of demand 3, and the number of differences.
+It prints the count of each stratum, the largest excess over the exact figure of demand 3, and the number of differences; on standard
+error it says how far it is. It needs x86-64.
 """
 
 import random
 import sys
+import time
 from collections import Counter
 from concurrent import futures
 
@@ -21,6 +23,7 @@ from tests.writes import log_cases
 
 JOBS, BAD, LOGS, SHEETS, SEED = 1_000_000, 120_000, 100_000, 120_000, 1
 A_STRATUM, CHUNK, SHOWN = 500, 2_500, 5
+SAID_EACH = 10          # seconds
 WITHOUT = 'the same without buffers'
 MEASURED_EACH = 10      # of the jobs drawn from all that is allowed, the exact figure of every tenth is worked out
 OLD = (7_000_000, 8_000_000, 9_000_000)       # what the buffers held: all cells differ
@@ -199,6 +202,19 @@ def strata():
     return [*((each, A_STRATUM) for each in all_strata()), *rare_strata()]
 
 
+def told(tallies, parts):
+    """The tallies as they come; how many of them have come is said on standard error, at most once in ten seconds."""
+    start = said = time.monotonic()
+    compared = 0
+    for done, tally in enumerate(tallies, 1):
+        compared += tally.compared
+        now = time.monotonic()
+        if now - said >= SAID_EACH or done == parts:
+            print(f'{done} of {parts} parts, {compared} comparisons, {now - start:.0f} s', file=sys.stderr, flush=True)
+            said = now
+        yield tally
+
+
 def main(job_count=JOBS, bad=BAD, logs=LOGS, sheets=SHEETS, seed=SEED):
     """Run all, print all; 1 where anything differs. No fewer jobs are drawn than the strata ask for."""
     core.build()
@@ -210,7 +226,7 @@ def main(job_count=JOBS, bad=BAD, logs=LOGS, sheets=SHEETS, seed=SEED):
     tasks += [(run_stored_sheets, seed, 0), *chunks(run_sheets, seed, sheets)]
     total = Tally()
     with futures.ProcessPoolExecutor() as pool:     # a core that crashes ends this with an error
-        for tally in pool.map(run, tasks):
+        for tally in told(pool.map(run, tasks), len(tasks)):
             total.add(tally)
     for name, count in sorted(total.counts.items()):
         print(f'{count:9}  {name}')

@@ -2,7 +2,9 @@
 
 import ctypes
 import pathlib
+import platform
 import subprocess
+import sys
 
 ROOT = pathlib.Path(__file__).resolve().parents[2]
 ARCHIVE = ROOT / 'target' / 'staticlib' / 'liblinked.a'
@@ -45,14 +47,23 @@ class SheetReply(ctypes.Structure):
     _fields_ = [('bytes', ctypes.c_uint8 * 4_610), ('length', SIZE)]
 
 
+def needs_x86_64():
+    """End at once on another machine."""
+    if platform.machine() not in ('x86_64', 'AMD64'):
+        sys.exit(f'This needs an x86-64 machine, for which the core is compiled; this one is {platform.machine()}.')
+
+
 def build():
     """Prove the core and write the archive, then a shared library of the same machine code."""
+    needs_x86_64()
+    print('proving and building the core, which takes minutes where it has changed', file=sys.stderr, flush=True)
     subprocess.run(['rt', 'staticlib', 'linked'], cwd=ROOT, check=True, stdout=subprocess.DEVNULL)
     subprocess.run(['cc', '-shared', '-o', SHARED, '-Wl,--whole-archive', ARCHIVE, '-Wl,--no-whole-archive'], check=True)
 
 
 def load():
     """The functions, with their types."""
+    needs_x86_64()
     library = ctypes.CDLL(str(SHARED))
     slices = [ctypes.POINTER(U64), SIZE]
     library.rukeshomaji_job.argtypes = [Site, Frame] + slices * 5

@@ -46,7 +46,7 @@ class Case(NamedTuple):
 
 
 def answer(result):
-    """An answer, tab-parted."""
+    """The parts of an answer, separated by tabs."""
     if result[0] == 'refused':
         return '\t'.join(map(str, result))
     return '\t'.join(map(str, ('taken', result.V, result.V_M, result.V_star, result.V_D, result.T)))

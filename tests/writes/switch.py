@@ -9,7 +9,7 @@ SITE, FRAME, WEIGHT, HEIGHT = (70, 40, 90, 50, 112, 123), (2, 700, 480, 125, 150
 
 
 def figures(number):
-    """The figures of one class, tab-parted."""
+    """The figures of one class, separated by tabs."""
     result = job((*SITE, number), FRAME, [WEIGHT], [HEIGHT])
     return '\t'.join(map(str, (result.V, result.V_M, result.V_star, result.V_D, result.T)))
 

@@ -8,7 +8,6 @@ use fields::THICKNESS_COUNT;
 use fields::THICKNESSES;
 use fields::VALUE_COUNT;
 use fields::VALUES;
-use fields::plain;
 use libc::STDIN_FILENO;
 use libc::STDOUT_FILENO;
 use limits::layer::Layer;
@@ -29,13 +28,60 @@ ghost use lib.ListN.{length};
 // value.
 const CASE: usize = 9;
 
+// So many layers of one thickness, each with the same measured velocity.
+fn plain(layers: u64, thickness: u64, velocity: u64) -> [u64; 160] {
+    let mut log = [0u64; 160];
+    log[THICKNESS_COUNT] = layers;
+    log[KIND_COUNT] = layers;
+    log[VALUE_COUNT] = layers;
+    let mut i = 0;
+    while i < LISTED {
+        log[THICKNESSES + i] = thickness;
+        log[KINDS + i] = Layer::MEASURED;
+        log[VALUES + i] = velocity;
+        i += 1;
+    }
+    log
+}
+
+// Writes a field's name, its layer where it has one, and its value.
+fn say_field(at: usize, value: u64) {
+    if at == THICKNESS_COUNT {
+        io::write_all(STDOUT_FILENO, b"thicknesses ");
+    } else if at == KIND_COUNT {
+        io::write_all(STDOUT_FILENO, b"kinds ");
+    } else if at == VALUE_COUNT {
+        io::write_all(STDOUT_FILENO, b"values ");
+    } else if at < KINDS {
+        io::write_all(STDOUT_FILENO, b"thickness ");
+        say_layer(at, THICKNESSES);
+    } else if at < VALUES {
+        io::write_all(STDOUT_FILENO, b"kind ");
+        say_layer(at, KINDS);
+    } else {
+        io::write_all(STDOUT_FILENO, b"value ");
+        say_layer(at, VALUES);
+    }
+    io::print_decimal(STDOUT_FILENO, value);
+    io::write_all(STDOUT_FILENO, b"; ");
+}
+
+fn say_layer(at: usize, first: usize) {
+    if first <= at {
+        if at < FIELDS {
+            io::print_decimal(STDOUT_FILENO, (at - first) as u64 + 1);
+            io::write_all(STDOUT_FILENO, b": ");
+        }
+    }
+}
+
 // The log with one field changed; a field that there is none of changes nothing.
 fn changed(log: [u64; 160], field: u64, value: u64) -> [u64; 160] {
     let mut next = log;
     let at = field as usize;
     if at < FIELDS {
         next[at] = value;
-        fields::say(at, value);
+        say_field(at, value);
     }
     next
 }

@@ -24,13 +24,50 @@ ghost use lib.ListN.{length};
 // The numbers of a case: up to four changes, each a field and its value.
 const CHANGES: usize = 8;
 
+// Writes a field's name, eight bytes wide, its level where it has one, and its value.
+fn say_field(at: usize, value: u64) {
+    if at <= ROOM {
+        say_name(
+            b"S_S D   S_1 D   S_S M   S_1 M   N_A     N_V     class   kind    period  R       I       alpha-y weights heights room    ",
+            at,
+        );
+    } else if at < HEIGHTS {
+        io::write_all(STDOUT_FILENO, b"weight  ");
+        say_level(at, WEIGHTS);
+    } else {
+        io::write_all(STDOUT_FILENO, b"height  ");
+        say_level(at, HEIGHTS);
+    }
+    io::print_decimal(STDOUT_FILENO, value);
+    io::write_all(STDOUT_FILENO, b"; ");
+}
+
+fn say_name(names: &[u8], at: usize) {
+    if at <= ROOM {
+        let from = 8 * at;
+        let end = from + 8;
+        if end <= names.len() {
+            io::write_all(STDOUT_FILENO, &names[from..end]);
+        }
+    }
+}
+
+fn say_level(at: usize, first: usize) {
+    if first <= at {
+        if at < FIELDS {
+            io::print_decimal(STDOUT_FILENO, (at - first) as u64 + 1);
+            io::write_all(STDOUT_FILENO, b": ");
+        }
+    }
+}
+
 // The job with one field changed; a field that there is none of changes nothing.
 fn changed(job: [u64; 140], field: u64, value: u64) -> [u64; 140] {
     let mut next = job;
     let at = field as usize;
     if at < FIELDS {
         next[at] = value;
-        fields::say(at, value);
+        say_field(at, value);
     }
     next
 }

@@ -1,11 +1,15 @@
 // Runs the reader and the listing on each sheet of data/ that the file `names` names, one name a line, and writes each listing under
 // the sheet's name.
 use libc::STDOUT_FILENO;
+use limits::sheet::Sheet;
 use sheet::sheet_listing;
 ghost use Prim.Native.Nat.{_≤_, _<_};
 ghost use lib.ListN.{length};
 
 const LF: u8 = 10;
+
+// One byte more than a sheet may have: the file of a sheet that is too long need not be read further.
+const ROOM: usize = Sheet::BYTES_MOST as usize + 1;
 
 fn print(s: &[u8]) {
     let l = sheet_listing(s);
@@ -23,7 +27,7 @@ fn one(name: &[u8]) {
         io::write_all(STDOUT_FILENO, b"not there\n");
         return;
     }
-    let mut input = [0; 4_097];
+    let mut input = [0; ROOM];
     let n = io::read_full(fd, &mut input);
     libc::close(fd);
     print(&input[..n]);

@@ -2,7 +2,18 @@
 use libc::STDERR_FILENO;
 use libc::STDIN_FILENO;
 use libc::STDOUT_FILENO;
+use limits::sheet::Sheet;
 use sheet::sheet_listing;
+ghost use Rattle.io.specs.Counts.{Counts};
+
+// One byte more than a sheet may have says that it is too long, and the rest is left unread.
+const ROOM: usize = Sheet::BYTES_MOST as usize + 1;
+
+// How many bytes came before the input ended or the cells were full, and whether a read failed before that.
+struct Arrived {
+    count: usize,
+    failed: bool,
+}
 
 fn say(words: &[u8]) {
     io::write_all(STDERR_FILENO, words);
@@ -17,21 +28,42 @@ fn print(s: &[u8]) {
     }
 }
 
-// One read more brings nothing at the end of the input. A read that fails ends no sheet, and neither does input that has not arrived.
-fn ended() -> bool {
-    let mut more = [0; 1];
-    libc::read(STDIN_FILENO, &mut more) == 0
+// The first read that brings nothing is the end: a terminal has to say so only once. A read that fails ends no sheet, and neither does
+// input that has not arrived.
+fn fill(input: &mut [u8]) -> Arrived
+    ensures { λ r. ⌜ Counts (r .count) (now (input .exit)) ⌝ }
+{
+    let mut n = 0;
+    while n < input.len() {
+        let got = libc::read(STDIN_FILENO, &mut input[n..]);
+        if got < 0 {
+            return Arrived {
+                count: n,
+                failed: true,
+            };
+        }
+        let more = io::count(got, &input[n..]);
+        if more == 0 {
+            return Arrived {
+                count: n,
+                failed: false,
+            };
+        }
+        n += more;
+    }
+    Arrived {
+        count: n,
+        failed: false,
+    }
 }
 
-// A sheet has 4,096 bytes at the most: one byte more says that it is too long, and the rest is left unread.
 fn main() {
-    let mut input = [0; 4_097];
-    let n = io::read_full(STDIN_FILENO, &mut input);
-    if n < 4_097 {
-        if !ended() {
-            say(b"shear: standard input could not be read to its end\n");
-            return;
-        }
+    let mut input = [0; ROOM];
+    let arrived = fill(&mut input);
+    if arrived.failed {
+        say(b"shear: standard input could not be read to its end\n");
+        return;
     }
+    let n = arrived.count;
     print(&input[..n]);
 }

@@ -1,4 +1,4 @@
--- A line: 'Fields are parted by one tab, lines end in LF'.
+-- A line: its fields are separated by one tab, and LF ends it.
 --   tab, lf           the two bytes
 --   field             one tab, and a number
 --   fields k          k of them

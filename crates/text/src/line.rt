@@ -1,4 +1,4 @@
-// A line of a sheet: its word, so many numbers parted by tabs, and LF.
+// A line of a sheet: its word, so many numbers separated by tabs, and LF.
 use crate::number::NumberAnswer;
 use crate::number::number;
 use crate::reading::Cursor;

@@ -15,7 +15,7 @@ use Rattle.response.specs.Factor.{factor, lowerFactor, upperFactor}
 use Rattle.response.specs.Ratio.{ratio, modified, blended, bent}
 use Rattle.base_shear.specs.Shears.{newtons, shear, star, base, figuresAt}
 use Rattle.storeys.specs.Storeys.{weightHeight, about}
-use Rattle.vectors.specs.Vector.{Vector, agrees, printed, exact, stages, starStages, period, places, sameNumbers, sameFractions}
+use Rattle.vectors.specs.Vector.{Vector, agrees, printed, exact, stages, starStages, period, places, sameNumbers, sameFraction, sameFractions}
 use Rattle.vectors.specs.Rows.{rows}
 
 unfoldable pub every : List Vector → Bool
@@ -27,7 +27,7 @@ unfolding rows
 counted = refl
 
 pub all-agree : every rows ≡ true
-unfolding every rows agrees printed exact stages starStages period places sameNumbers sameFractions
+unfolding every rows agrees printed exact stages starStages period places sameNumbers sameFraction sameFractions
     up down largest smallest bitsFrom lowerRoot upperRoot cells sum between floor ceiling
     approximate inUse spectrum exactSpectrum factor lowerFactor upperFactor ratio modified blended bent
     newtons shear star base figuresAt weightHeight about

@@ -3,11 +3,12 @@
 --   printed v        A and B of the three hazards, t, T, the three spectra, lower root, lower factor, q and m of V and of V_M,
 --                    upper root, upper factor and p of V*, V, V_M, V*, V_D; then shears, forces and overturning moments
 --   exact v          V, V_M, V* and V_D at the fractions, then the storey shears
+--   sameFraction a b one value, of two fractions with a divisor above 0: n/0 is the same as nothing
 --   agrees v         both are the model's
 use mathlib.Core.Bool.{Bool, true, false, _&&_}
 use mathlib.Core.List.{List, [], _∷_, _++_}
 use Prim.Native.Nat.{ℕ, zero, suc, _*_}
-use lib.Dec.{eqb}
+use lib.Dec.{eqb, leb}
 use lib.ListN.{length}
 use Rattle.whole.specs.declared.Fraction.{Fraction}
 use Rattle.whole.specs.Fraction.{over}
@@ -114,11 +115,14 @@ sameNumbers [] (b ∷ m) = false
 sameNumbers (a ∷ l) [] = false
 sameNumbers (a ∷ l) (b ∷ m) = eqb a b && sameNumbers l m
 
+unfoldable pub sameFraction : Fraction → Fraction → Bool
+sameFraction a b = leb 1 (a .den) && leb 1 (b .den) && eqb (a .num * b .den) (b .num * a .den)
+
 unfoldable pub sameFractions : List Fraction → List Fraction → Bool
 sameFractions [] [] = true
 sameFractions [] (b ∷ m) = false
 sameFractions (a ∷ l) [] = false
-sameFractions (a ∷ l) (b ∷ m) = eqb (a .num * b .den) (b .num * a .den) && sameFractions l m
+sameFractions (a ∷ l) (b ∷ m) = sameFraction a b && sameFractions l m
 
 unfoldable pub agrees : Vector → Bool
 agrees v = sameNumbers (printed v) (v .printed) && sameFractions (exact v) (v .exact)

@@ -1,10 +1,10 @@
--- `run_logs::fields::plain` writes below the end of its array, and ends. Assumes nothing.
+-- `run_logs::plain` writes below the end of its array, and ends. Assumes nothing.
 use borrow.Author.Needs.{needs}
 use mathlib.Core.Path.{_≡_}
 use Prim.Native.Nat.{_-_, _≤_}
 use lib.ListN.{length}
-use Rattle.run_logs.proofs.fields.plain.Statement.{statement}
-use Rattle.run_logs.proofs.fields.plain.Tie as tie
+use Rattle.run_logs.proofs.plain.Statement.{statement}
+use Rattle.run_logs.proofs.plain.Tie as tie
 
 abbrev Inv-loop : tie.InvT-loop
 Inv-loop layers thickness velocity log₀ i₀ log i = (i ≤ 41) × (length log ≡ 160)

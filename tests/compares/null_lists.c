@@ -1,0 +1,47 @@
+/* Calls each entry with its lists and buffers as they are, and with each set of them as NULL with 0; prints what comes back, and what the
+ * buffers then hold. tests/compares/null_lists.py compiles it, runs it and compares. */
+#include <inttypes.h>
+#include <stdio.h>
+#include "rukeshomaji.h"
+
+#define LEVELS 3
+
+static const RukeshomajiSite site = {80, 45, 100, 55, 100, 100, 1};
+static const RukeshomajiFrame frame = {2, 1000, 480, 100, 150};
+static const uint64_t weights[LEVELS] = {5000, 5000, 5000}, heights[LEVELS] = {100, 200, 300};
+static const uint64_t thicknesses[LEVELS] = {1000, 1000, 1000}, kinds[LEVELS] = {1, 2, 3}, values[LEVELS] = {3000, 20, 40};
+static const char sheet[] = "site\t80\t45\t100\t55\t100\t100\t1\nframe\t2\t1000\t480\t100\t150\n"
+                            "level\t5000\t100\nlevel\t5000\t200\nlevel\t5000\t300\n";
+
+/* the list, or NULL where its bit is set; and how many there are */
+#define LIST(list, bit) (set >> (bit) & 1 ? NULL : (list)), (size_t)(set >> (bit) & 1 ? 0 : LEVELS)
+
+static void figures(const char *name, unsigned set, RukeshomajiFigures f) {
+    printf("%s %u: %" PRIu64 " %" PRIu64 " %" PRIu64 " %" PRIu64 " %" PRIu64 " %" PRIu64 " %" PRIu64, name, set, f.number, f.place, f.v,
+           f.vm, f.star, f.vd, f.t);
+}
+
+int main(void) {
+    for (unsigned set = 0; set < 32; set++) {
+        uint64_t cells[3][LEVELS] = {{7, 7, 7}, {8, 8, 8}, {9, 9, 9}};
+        figures("job", set, rukeshomaji_job(site, frame, LIST(weights, 0), LIST(heights, 1), LIST(cells[0], 2), LIST(cells[1], 3),
+                                            LIST(cells[2], 4)));
+        for (int i = 0; i < 3 * LEVELS; i++) printf(" %" PRIu64, cells[i / LEVELS][i % LEVELS]);
+        printf("\n");
+    }
+    for (unsigned set = 0; set < 4; set++) {
+        figures("figures", set, rukeshomaji_figures(site, frame, LIST(weights, 0), LIST(heights, 1)));
+        printf("\n");
+    }
+    for (unsigned set = 0; set < 8; set++) {
+        RukeshomajiClass c = rukeshomaji_site_class(LIST(thicknesses, 0), LIST(kinds, 1), LIST(values, 2));
+        printf("site_class %u: %" PRIu64 " %" PRIu64 " %" PRIu64 "\n", set, c.number, c.place, c.class_number);
+    }
+    for (unsigned set = 0; set < 2; set++) {
+        RukeshomajiListing l = rukeshomaji_sheet(set ? NULL : (const uint8_t *)sheet, set ? 0 : sizeof sheet - 1);
+        printf("sheet %u: ", set);
+        for (size_t i = 0; i < l.length; i++) printf("%02x", l.bytes[i]);
+        printf("\n");
+    }
+    return 0;
+}

@@ -1,0 +1,105 @@
+"""Lists and buffers that are NULL with 0, from C and from Python: each set of them, of each entry that takes one, against the model.
+
+usage: python3 -m tests.compares.null_lists             builds the core, the program null_lists.c over it, and runs both
+       python3 -m tests.compares.null_lists FILE        compares FILE, which null_lists.c wrote on an x86-64 machine, and calls nothing
+
+The language says nothing of such a pointer: to the core a list is a place and a length. It needs `rt`, `cc` and x86-64.
+"""
+
+import pathlib
+import subprocess
+import sys
+
+from tests.compares import core
+from tests.model import job as jobs, limits, sheet, soil
+
+SITE, FRAME = limits.Site(80, 45, 100, 55, 100, 100, 1), limits.Frame(2, 1000, 480, 100, 150)
+LEVELS = 3
+LISTS = {
+    'job': ([5000] * LEVELS, [100, 200, 300], [7] * LEVELS, [8] * LEVELS, [9] * LEVELS),
+    'figures': ([5000] * LEVELS, [100, 200, 300]),
+    'site_class': ([1000] * LEVELS, [1, 2, 3], [3000, 20, 40]),
+    'sheet': (sheet.write(SITE, FRAME, [5000] * LEVELS, [100, 200, 300]),),
+}
+
+
+def chosen(lists, chosen_set):
+    """The lists, those of the set as None."""
+    return [None if chosen_set >> place & 1 else each for place, each in enumerate(lists)]
+
+
+def job_line(result):
+    """Number, place, figures."""
+    return [*result[1:], 0, 0, 0, 0, 0] if result[0] == 'refused' else [0, 0, result.V, result.V_M, result.V_star, result.V_D, result.T]
+
+
+def by_model(entry, lists):
+    """What the model answers: None is a list of nothing."""
+    empty = [each if each is not None else type(old)() for each, old in zip(lists, LISTS[entry])]
+    if entry == 'job':
+        result = jobs.job(SITE, FRAME, *empty[:2], tuple(map(len, empty[2:])))
+        cells = LISTS['job'][2:] if result[0] == 'refused' else (result.forces, result.shears, result.moments)
+        return [*job_line(result), *(cell for buffer in cells for cell in buffer)]
+    if entry == 'figures':
+        return job_line(jobs.job(SITE, FRAME, *empty, (len(empty[0]),) * 3))
+    if entry == 'site_class':
+        answer = soil.log(*empty)
+        return [0, 0, answer.cls] if isinstance(answer, soil.Log) else [*answer[1:], 0]
+    return [sheet.shear(empty[0]).hex()]
+
+
+def lent(each):
+    """A list as a pointer and its length, NULL and 0 for None."""
+    return (None, 0) if each is None else core.lent(each)
+
+
+def by_ctypes(library, entry, lists):
+    """What the core answers to Python."""
+    if entry == 'sheet':
+        reply = library.rukeshomaji_sheet(lists[0], len(lists[0] or b''))
+        return [bytes(reply.bytes[:reply.length]).hex()]
+    pairs = [lent(each) for each in lists]
+    arguments = [part for pair in pairs for part in pair]
+    if entry == 'site_class':
+        return list(core.numbers_of(library.rukeshomaji_site_class(*arguments)))
+    called = getattr(library, f'rukeshomaji_{entry}')(core.Site(*SITE), core.Frame(*FRAME), *arguments)
+    held = [cell for (array, _), old in zip(pairs[2:], LISTS[entry][2:]) for cell in (old if array is None else array)]
+    return [*core.numbers_of(called), *held]
+
+
+def lines(answer):
+    """One line a call: each set of the lists of each entry."""
+    for entry, lists in LISTS.items():
+        for number in range(2 ** len(lists)):
+            yield f'{entry} {number}: ' + ' '.join(map(str, answer(entry, chosen(lists, number))))
+
+
+def by_c():
+    """What the core answers to the program in C."""
+    program = core.ARCHIVE.parent / 'null_lists'
+    subprocess.run(['cc', '-I', core.ROOT / 'include', '-o', program, pathlib.Path(__file__).with_suffix('.c'), core.ARCHIVE], check=True)
+    return subprocess.run([program], check=True, capture_output=True, text=True).stdout.splitlines()
+
+
+def main(stored=None):
+    """Compare all, say how many; 1 where one differs."""
+    expected, answers = list(lines(by_model)), {}
+    if stored is None:
+        core.build()
+        library = core.load()
+        answers = {'C': by_c(), 'Python': list(lines(lambda *call: by_ctypes(library, *call)))}
+    else:
+        answers = {stored: pathlib.Path(stored).read_text().splitlines()}
+    wrong = 0
+    for name, got in answers.items():
+        differing = [(one, other) for one, other in zip(got, expected) if one != other]
+        wrong += len(differing) + abs(len(got) - len(expected))
+        for one, other in differing:
+            print(f'DIFFERS from {name}: {one}, wanted {other}')
+        print(f'{name}: {len(got)} calls, {len(expected)} wanted')
+    print(wrong, 'differences')
+    return 1 if wrong else 0
+
+
+if __name__ == '__main__':
+    sys.exit(main(*sys.argv[1:]))
