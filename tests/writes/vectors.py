@@ -23,8 +23,8 @@ HEAD = """-- {count} jobs with what the model of tests/ makes of them: data.
 -- fractions for the roots; the printed stages; the exact figures.
 use mathlib.Core.List.{{List, [], _∷_}}
 use Rattle.whole.specs.Fraction.{{over}}
-use Rattle.limits.specs.declared.site.Class.the-variants.{{Hard, Normal, Soft}}
-use Rattle.limits.specs.declared.frame.Kind.the-variants.{{Steel, Concrete, Braced, Other}}
+use Rattle.limits.specs.declared.class.Class.the-variants.{{Hard, Normal, Soft}}
+use Rattle.limits.specs.declared.kind.Kind.the-variants.{{Steel, Concrete, Braced, Other}}
 use Rattle.vectors.specs.Vector.{{Vector, vector, siteOf, frameOf, rootsOf}}
 
 unfoldable pub rows : List Vector

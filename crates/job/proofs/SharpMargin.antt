@@ -20,8 +20,8 @@ use Rattle.limits.specs.Judging.{judgedJob}
 use Rattle.limits.specs.Levels.{weighed, raised, judgedLevels}
 use Rattle.limits.specs.Ranges.{inRange, within, among, listed}
 use Rattle.limits.specs.Site.{judgedClass, judgedMapped, judgedNearFault, judgedSite}
-use Rattle.limits.specs.declared.frame.Kind.the-variants.{Steel, Concrete}
-use Rattle.limits.specs.declared.site.Class.the-variants.{Hard, Soft}
+use Rattle.limits.specs.declared.kind.Kind.the-variants.{Steel, Concrete}
+use Rattle.limits.specs.declared.class.Class.the-variants.{Hard, Soft}
 use Rattle.response.specs.Factor.{factor, lowerFactor, upperFactor}
 use Rattle.response.specs.Period.{approximate, inUse}
 use Rattle.response.specs.Ratio.{bent, ratio, modified, blended}

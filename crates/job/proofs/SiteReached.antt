@@ -12,7 +12,7 @@ use Rattle.whole.specs.Rounding.{up}
 use Rattle.whole.specs.Search.{largest, smallest, bitsFrom}
 use Rattle.whole.proofs.Range.{allBelow, all-from}
 use Rattle.limits.specs.Allowed.{AllowedSite}
-use Rattle.limits.specs.declared.site.Class.{Class}
+use Rattle.limits.specs.declared.class.Class.{Class}
 use Rattle.limits.specs.declared.site.Site.{Site}
 use Rattle.site.specs.Capacity.{designCapacity, designSquare, mceCapacity, mceSquare}
 use Rattle.site.specs.Coefficients.{factored, accelerationA, accelerationB}

@@ -13,9 +13,9 @@ use Rattle.whole.specs.Cells.{below}
 use Rattle.whole.specs.Choice.{pick}
 use Rattle.limits.specs.declared.frame.Frame.{Frame}
 use Rattle.limits.specs.declared.frame.FrameValues.{FrameValues}
-use Rattle.limits.specs.declared.frame.Kind.{Kind}
+use Rattle.limits.specs.declared.kind.Kind.{Kind}
 use Rattle.limits.specs.declared.judging.Given.{Given}
-use Rattle.limits.specs.declared.site.Class.{Class}
+use Rattle.limits.specs.declared.class.Class.{Class}
 use Rattle.limits.specs.declared.site.Site.{Site}
 use Rattle.limits.specs.declared.site.SiteValues.{SiteValues}
 use Rattle.limits.specs.Allowed.{AllowedSite, AllowedFrame, AllowedLevels, AllowedGiven}

@@ -15,7 +15,7 @@ use Rattle.limits.specs.Levels.{judgedWeight, weighed, judgedHeight, rai
 use Rattle.limits.specs.Order.{NoLater}
 use Rattle.limits.specs.Outcome.{require}
 use Rattle.limits.specs.Ranges.{within}
-use Rattle.limits.proofs.Ahead.{Stops, Yields, UpTo, both-up-to, require-up-to, within-up-to, first-stops, later-stops, both-yield, require-yields, require-stops, within-yields}
+use Rattle.limits.proofs.Precedence.{Stops, Yields, UpTo, both-up-to, require-up-to, within-up-to, first-stops, later-stops, both-yield, require-yields, require-stops, within-yields}
 use Rattle.limits.proofs.NotAllowed.{range-stops}
 
 pub weighed-up-to : (m : ℕ) → NoLater 3 m → (p : ℕ) (ws : List ℕ) → UpTo m (weighed p ws)

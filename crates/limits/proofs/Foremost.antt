@@ -15,7 +15,7 @@ use Rattle.limits.specs.Levels.{judgedLevels}
 use Rattle.limits.specs.Order.{NoLater}
 use Rattle.limits.specs.Outcome.{accepted, refused}
 use Rattle.limits.specs.Site.{judgedSite}
-use Rattle.limits.proofs.Ahead.{Stops, up-to-yields, stopped-number, stopped-place, first-stops, later-stops, bound-stops, value-stops}
+use Rattle.limits.proofs.Precedence.{Stops, up-to-yields, stopped-number, stopped-place, first-stops, later-stops, bound-stops, value-stops}
 use Rattle.limits.proofs.Ascending.{lowest-first}
 use Rattle.limits.proofs.LevelsStage.{levels-up-to, levels-stop}
 use Rattle.limits.proofs.SiteStage.{site-up-to, site-stops, site-later}

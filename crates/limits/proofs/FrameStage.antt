@@ -13,7 +13,7 @@ use Rattle.limits.specs.Applies.{OutOf, NotListed, FrameApplies, r, i, a
 use Rattle.limits.specs.Frame.{judgedKind, judgedPeriod, judgedFrame}
 use Rattle.limits.specs.Order.{Before}
 use Rattle.limits.specs.Ranges.{within, listed}
-use Rattle.limits.proofs.Ahead.{Stops, Yields, UpTo, up-to-yields, first-stops, later-stops, bound-stops, value-stops, within-yields}
+use Rattle.limits.proofs.Precedence.{Stops, Yields, UpTo, up-to-yields, first-stops, later-stops, bound-stops, value-stops, within-yields}
 use Rattle.limits.proofs.NotAllowed.{range-stops, listed-yields, listed-stops}
 
 module _ (f : FrameValues) where

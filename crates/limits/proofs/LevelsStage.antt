@@ -13,7 +13,7 @@ use Rattle.limits.specs.Applies.{OutOf, count, lists, buffer, weight, he
 use Rattle.limits.specs.Levels.{counted, paired, roomy, weighed, raised, judgedLevels}
 use Rattle.limits.specs.Order.{Before}
 use Rattle.limits.specs.Outcome.{_>>_}
-use Rattle.limits.proofs.Ahead.{Ahead, Stops, Yields, UpTo, up-to-yields, both-up-to, require-up-to, within-up-to, first-stops, later-stops, require-yields, require-stops, within-yields}
+use Rattle.limits.proofs.Precedence.{Ahead, Stops, Yields, UpTo, up-to-yields, both-up-to, require-up-to, within-up-to, first-stops, later-stops, require-yields, require-stops, within-yields}
 use Rattle.limits.proofs.EachLevel.{weighed-up-to, raised-up-to, weighed-stops, raised-stops}
 use Rattle.limits.proofs.NotAllowed.{range-stops}
 

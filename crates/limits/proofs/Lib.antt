@@ -5,8 +5,8 @@ pub mod Lists
 pub mod Unique
 pub mod Accepted
 pub mod Reading
-pub mod Told
-pub mod Ahead
+pub mod GivenApplies
+pub mod Precedence
 pub mod Ascending
 pub mod Refusing
 pub mod Places

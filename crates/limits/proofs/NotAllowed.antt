@@ -10,7 +10,7 @@ use borrow.Author.Tests.{ne-eqb}
 use Rattle.limits.specs.Applies.{OutOf, NotListed}
 use Rattle.limits.specs.Order.{NoLater}
 use Rattle.limits.specs.Ranges.{among, within, listed}
-use Rattle.limits.proofs.Ahead.{Ahead, Stops, Yields, UpTo, require-up-to, require-yields, require-stops, within-stops}
+use Rattle.limits.proofs.Precedence.{Ahead, Stops, Yields, UpTo, require-up-to, require-yields, require-stops, within-stops}
 
 outside : (least most x : ℕ) → OutOf least most x → (least ≤ x) × (x ≤ most) → ⊥
 outside least most x o inside = ⊎-elim (λ a. omega arith) (λ a. omega arith) o

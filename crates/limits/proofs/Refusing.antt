@@ -22,7 +22,7 @@ use Rattle.limits.specs.Outcome.{accepted, refused, require, _>>=_, _>>_
 use Rattle.limits.specs.Ranges.{among, within, listed}
 use Rattle.limits.specs.Site.{judgedClass, judgedMapped, judgedNearFault, judgedSite}
 use Rattle.limits.proofs.Passed.{differ}
-use Rattle.limits.proofs.Told.{Told, then-told, bind-told, require-told, within-told, given-applies, accepted-unless, told-as}
+use Rattle.limits.proofs.GivenApplies.{Told, then-told, bind-told, require-told, within-told, given-applies, accepted-unless, told-as}
 
 -- ---- values that are not listed
 not-among : (vs : List ℕ) (x : ℕ) → among vs x ≡ false → NotListed vs x

@@ -13,7 +13,7 @@ use Rattle.limits.specs.Applies.{OutOf, NotListed, SiteApplies, ss-desig
 use Rattle.limits.specs.Order.{Before}
 use Rattle.limits.specs.Ranges.{within, listed}
 use Rattle.limits.specs.Site.{judgedClass, judgedMapped, judgedNearFault, judgedSite}
-use Rattle.limits.proofs.Ahead.{Stops, Yields, UpTo, up-to-more, up-to-yields, both-up-to, bound-up-to, within-up-to, first-stops, later-stops, bound-stops, within-yields}
+use Rattle.limits.proofs.Precedence.{Stops, Yields, UpTo, up-to-more, up-to-yields, both-up-to, bound-up-to, within-up-to, first-stops, later-stops, bound-stops, within-yields}
 use Rattle.limits.proofs.NotAllowed.{range-stops, listed-yields, listed-stops, listed-up-to}
 
 -- a mapped value comes after those before it in sheet order

@@ -4,9 +4,9 @@ use mathlib.Core.Path.{_≡_, refl, sym, ap, _∙_}
 use Rattle.limits.specs.declared.frame.Frame.{Frame}
 use Rattle.limits.specs.declared.frame.FrameAnswer.{FrameAnswer}
 use Rattle.limits.specs.declared.frame.FrameAnswer.the-variants.{Taken as TakenFrame, Refused as RefusedFrame}
-use Rattle.limits.specs.declared.frame.Kind.{Kind}
-use Rattle.limits.specs.declared.frame.KindAnswer.{KindAnswer}
-use Rattle.limits.specs.declared.frame.KindAnswer.the-variants.{Taken as TakenKind, Refused as RefusedKind}
+use Rattle.limits.specs.declared.kind.Kind.{Kind}
+use Rattle.limits.specs.declared.kind.KindAnswer.{KindAnswer}
+use Rattle.limits.specs.declared.kind.KindAnswer.the-variants.{Taken as TakenKind, Refused as RefusedKind}
 use Rattle.limits.specs.declared.judging.Given.{Given}
 use Rattle.limits.specs.declared.judging.GivenAnswer.{GivenAnswer}
 use Rattle.limits.specs.declared.judging.GivenAnswer.the-variants.{Taken as TakenGiven, Refused as RefusedGiven}
@@ -16,9 +16,9 @@ use Rattle.limits.specs.declared.level.LevelAnswer.the-variants.{Taken a
 use Rattle.limits.specs.declared.refusal.Refusal.{Refusal}
 use Rattle.limits.specs.declared.refusal.Verdict.{Verdict}
 use Rattle.limits.specs.declared.refusal.Verdict.the-variants.{Passed, Refused as RefusedVerdict}
-use Rattle.limits.specs.declared.site.Class.{Class}
-use Rattle.limits.specs.declared.site.ClassAnswer.{ClassAnswer}
-use Rattle.limits.specs.declared.site.ClassAnswer.the-variants.{Taken as TakenClass, Refused as RefusedClass}
+use Rattle.limits.specs.declared.class.Class.{Class}
+use Rattle.limits.specs.declared.class.ClassAnswer.{ClassAnswer}
+use Rattle.limits.specs.declared.class.ClassAnswer.the-variants.{Taken as TakenClass, Refused as RefusedClass}
 use Rattle.limits.specs.declared.site.Site.{Site}
 use Rattle.limits.specs.declared.site.SiteAnswer.{SiteAnswer}
 use Rattle.limits.specs.declared.site.SiteAnswer.the-variants.{Taken as TakenSite, Refused as RefusedSite}

@@ -8,10 +8,10 @@ use mathlib.Core.List.{[], _∷_}
 use Prim.Native.Nat.{ℕ}
 use lib.Dec.{eqb}
 use Rattle.whole.specs.Choice.{pick}
-use Rattle.limits.specs.declared.frame.Kind.{Kind}
-use Rattle.limits.specs.declared.frame.Kind.the-variants.{Steel, Concrete, Braced, Other}
-use Rattle.limits.specs.declared.frame.KindAnswer.{KindAnswer}
-use Rattle.limits.specs.declared.frame.KindAnswer.the-variants.{Taken as TakenKind, Refused as RefusedKind}
+use Rattle.limits.specs.declared.kind.Kind.{Kind}
+use Rattle.limits.specs.declared.kind.Kind.the-variants.{Steel, Concrete, Braced, Other}
+use Rattle.limits.specs.declared.kind.KindAnswer.{KindAnswer}
+use Rattle.limits.specs.declared.kind.KindAnswer.the-variants.{Taken as TakenKind, Refused as RefusedKind}
 use Rattle.limits.specs.declared.frame.Frame.{Frame}
 use Rattle.limits.specs.declared.frame.FrameAnswer.{FrameAnswer}
 use Rattle.limits.specs.declared.frame.FrameAnswer.the-variants.{Taken as TakenFrame, Refused as RefusedFrame}

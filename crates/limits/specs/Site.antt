@@ -9,10 +9,10 @@ use mathlib.Core.List.{List, [], _∷_}
 use Prim.Native.Nat.{ℕ}
 use lib.Dec.{eqb}
 use Rattle.whole.specs.Choice.{pick}
-use Rattle.limits.specs.declared.site.Class.{Class}
-use Rattle.limits.specs.declared.site.Class.the-variants.{Hard, Normal, Soft}
-use Rattle.limits.specs.declared.site.ClassAnswer.{ClassAnswer}
-use Rattle.limits.specs.declared.site.ClassAnswer.the-variants.{Taken as TakenClass, Refused as RefusedClass}
+use Rattle.limits.specs.declared.class.Class.{Class}
+use Rattle.limits.specs.declared.class.Class.the-variants.{Hard, Normal, Soft}
+use Rattle.limits.specs.declared.class.ClassAnswer.{ClassAnswer}
+use Rattle.limits.specs.declared.class.ClassAnswer.the-variants.{Taken as TakenClass, Refused as RefusedClass}
 use Rattle.limits.specs.declared.site.Site.{Site}
 use Rattle.limits.specs.declared.site.SiteAnswer.{SiteAnswer}
 use Rattle.limits.specs.declared.site.SiteAnswer.the-variants.{Taken as TakenSite, Refused as RefusedSite}

@@ -1,67 +1,13 @@
 // The frame line of a job: kind, calculated period, R, I and alpha-y, with their limits and their judgments, 8 to 12.
+use crate::kind::Kind;
+use crate::kind::KindAnswer;
 use crate::ranges::listed;
 use crate::ranges::within;
 use crate::refusal::Refusal;
 use crate::refusal::Verdict;
 ghost use mathlib.Core.Path.{_≡_};
-ghost use Rattle.limits.specs.Frame.{judgedKind, kindOutcome, judgedPeriod, judgedFrame, frameOutcome};
+ghost use Rattle.limits.specs.Frame.{judgedPeriod, judgedFrame, frameOutcome};
 ghost use Rattle.limits.specs.Outcome.{refusalOf, verdictOutcome};
-
-// The frame kind: steel frame, RC or SRC frame, eccentric brace, other.
-pub enum Kind {
-    Steel,
-    Concrete,
-    Braced,
-    Other,
-}
-
-pub enum KindAnswer {
-    Taken(Kind),
-    Refused(Refusal),
-}
-
-impl KindAnswer {
-    // What it refuses with; where it refuses nothing, zeros.
-    pub fn refusal(self) -> Refusal
-        ensures { λ r. ⌜ r ≡ refusalOf (kindOutcome self) ⌝ }
-    {
-        match self {
-            KindAnswer::Taken(_) => Refusal::none(),
-            KindAnswer::Refused(r) => r,
-        }
-    }
-}
-
-impl Kind {
-    pub const STEEL: u64 = 1;
-
-    pub const CONCRETE: u64 = 2;
-
-    pub const BRACED: u64 = 3;
-
-    pub const OTHER: u64 = 4;
-
-    pub fn judged(number: u64) -> KindAnswer
-        ensures { λ a. ⌜ kindOutcome a ≡ judgedKind number ⌝ }
-    {
-        if number == Self::STEEL {
-            return KindAnswer::Taken(Kind::Steel);
-        }
-        if number == Self::CONCRETE {
-            return KindAnswer::Taken(Kind::Concrete);
-        }
-        if number == Self::BRACED {
-            return KindAnswer::Taken(Kind::Braced);
-        }
-        if number == Self::OTHER {
-            return KindAnswer::Taken(Kind::Other);
-        }
-        KindAnswer::Refused(Refusal {
-            number: Refusal::KIND,
-            place: Refusal::NOWHERE,
-        })
-    }
-}
 
 // The frame line as it comes: kind; calculated period in ms; R, I and alpha-y in 0.01.
 pub struct FrameValues {

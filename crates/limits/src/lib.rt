@@ -1,7 +1,9 @@
 // The quantities of a job, of a soil log and of a sheet: their limits, who judges them, and what a refusal says.
 
+pub mod class;
 pub mod frame;
 pub mod judging;
+pub mod kind;
 pub mod layer;
 pub mod level;
 pub mod levels;

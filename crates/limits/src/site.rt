@@ -1,62 +1,14 @@
 // The site line of a job: mapped values, near-fault factors and class, with their limits and their judgments, 5 to 7.
+use crate::class::Class;
+use crate::class::ClassAnswer;
 use crate::ranges::listed;
 use crate::ranges::within;
 use crate::refusal::Refusal;
 use crate::refusal::Verdict;
 ghost use mathlib.Core.Path.{_≡_};
-ghost use Rattle.limits.specs.Site.{judgedClass, classOutcome, judgedMapped, judgedNearFault, judgedSite, siteOutcome};
+ghost use Rattle.limits.specs.Site.{judgedMapped, judgedNearFault, judgedSite, siteOutcome};
 ghost use Rattle.limits.specs.Outcome.{refusalOf, verdictOutcome};
 ghost use Rattle.limits.specs.Ranges.{listed};
-
-// The site class of Table 3.
-pub enum Class {
-    Hard,
-    Normal,
-    Soft,
-}
-
-pub enum ClassAnswer {
-    Taken(Class),
-    Refused(Refusal),
-}
-
-impl ClassAnswer {
-    // What it refuses with; where it refuses nothing, zeros.
-    pub fn refusal(self) -> Refusal
-        ensures { λ r. ⌜ r ≡ refusalOf (classOutcome self) ⌝ }
-    {
-        match self {
-            ClassAnswer::Taken(_) => Refusal::none(),
-            ClassAnswer::Refused(r) => r,
-        }
-    }
-}
-
-impl Class {
-    pub const HARD: u64 = 1;
-
-    pub const NORMAL: u64 = 2;
-
-    pub const SOFT: u64 = 3;
-
-    pub fn judged(number: u64) -> ClassAnswer
-        ensures { λ a. ⌜ classOutcome a ≡ judgedClass number ⌝ }
-    {
-        if number == Self::HARD {
-            return ClassAnswer::Taken(Class::Hard);
-        }
-        if number == Self::NORMAL {
-            return ClassAnswer::Taken(Class::Normal);
-        }
-        if number == Self::SOFT {
-            return ClassAnswer::Taken(Class::Soft);
-        }
-        ClassAnswer::Refused(Refusal {
-            number: Refusal::CLASS,
-            place: Refusal::NOWHERE,
-        })
-    }
-}
 
 // The site line as it comes: S_S and S_1 of the design level, S_S and S_1 of the MCE level, in 0.01 g; N_A and N_V in 0.01; class.
 pub struct SiteValues {

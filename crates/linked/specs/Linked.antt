@@ -9,7 +9,7 @@ use mathlib.Core.List.{List}
 use Prim.Native.Nat.{ℕ}
 use lib.ListN.{length}
 use Rattle.limits.specs.declared.frame.FrameValues.{FrameValues}
-use Rattle.limits.specs.declared.site.Class.{Class}
+use Rattle.limits.specs.declared.class.Class.{Class}
 use Rattle.limits.specs.declared.site.SiteValues.{SiteValues}
 use Rattle.limits.specs.Outcome.{Outcome, accepted, refused}
 use Rattle.base_shear.specs.declared.Figures.{Figures}

@@ -1,8 +1,8 @@
 // The entries as a program in C links them: numbers in and out, zeros where data is refused.
 use job::JobAnswer;
+use limits::class::Class;
+use limits::class::ClassAnswer;
 use limits::frame::FrameValues;
-use limits::site::Class;
-use limits::site::ClassAnswer;
 use limits::site::SiteValues;
 use sheet::listing::LONGEST;
 use sheet::put_in_array;

@@ -14,7 +14,7 @@ use Rattle.whole.specs.Rounding.{up, down}
 use Rattle.whole.specs.Signed.{Signed, natural, floorIn, ceilingIn}
 use Rattle.whole.proofs.Choice.{by-leb}
 use Rattle.whole.proofs.Rounding.{up-same, down-same, up-whole, down-whole, up-exact, down-exact}
-use Rattle.whole.proofs.Stands.{floor-stands, ceiling-stands}
+use Rattle.whole.proofs.SignedSame.{floor-stands, ceiling-stands}
 use Rattle.response.specs.Factor.{factor, lowerFactor, upperFactor}
 use Rattle.response.proofs.Mean.{Weights, total, mean, weights, factor-stands}
 

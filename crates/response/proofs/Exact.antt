@@ -9,7 +9,7 @@ use Rattle.whole.specs.declared.Fraction.{Fraction}
 use Rattle.whole.specs.Fraction.{Same, AtMost, times}
 use Rattle.whole.specs.Signed.{natural}
 use Rattle.whole.proofs.Order.{at-most-trans, same-at-most}
-use Rattle.whole.proofs.Stands.{unsigned-same, stands-natural}
+use Rattle.whole.proofs.SignedSame.{unsigned-same, stands-natural}
 use Rattle.site.specs.declared.lines.Lines.{Lines}
 use Rattle.response.specs.Factor.{factor, exactFactor}
 use Rattle.response.specs.Ratio.{bent, exactRatio, exactModified, exactBlended}

@@ -17,7 +17,7 @@ use Rattle.whole.specs.Choice.{pick}
 use Rattle.whole.specs.Fraction.{over, atMost}
 use Rattle.whole.specs.Signed.{Signed, signed, _⊕_, _⊖_, _⊗_}
 use Rattle.whole.proofs.Difference.{_⊝_, from-zero, plus-difference, times-whole, times-difference}
-use Rattle.whole.proofs.Stands.{Stands}
+use Rattle.whole.proofs.SignedSame.{Stands}
 use Rattle.response.specs.Corner.{corner, part, ms}
 use Rattle.response.specs.Factor.{x, y, one, factor}
 

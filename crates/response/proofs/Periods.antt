@@ -12,8 +12,8 @@ use Rattle.whole.proofs.Choice.{by-test}
 use Rattle.whole.proofs.Extreme.{largest-below}
 use Rattle.whole.proofs.Root.{powers-rise}
 use Rattle.whole.proofs.Search.{largest-is}
-use Rattle.limits.specs.declared.frame.Kind.{Kind}
-use Rattle.limits.specs.declared.frame.Kind.the-variants.{Steel, Concrete, Braced, Other}
+use Rattle.limits.specs.declared.kind.Kind.{Kind}
+use Rattle.limits.specs.declared.kind.Kind.the-variants.{Steel, Concrete, Braced, Other}
 use Rattle.response.specs.Period.{coefficient, approximate, inUse, periodOf, periodMost}
 
 pub coefficient-most : (k : Kind) → coefficient k ≤ 85

@@ -9,8 +9,8 @@ use Prim.Native.Nat.{ℕ}
 use Rattle.whole.specs.Rounding.{up, down}
 use Rattle.whole.specs.Search.{largest, bitsFrom}
 use Rattle.whole.specs.Line.{between}
-use Rattle.limits.specs.declared.site.Class.the-variants.{Hard, Normal, Soft}
-use Rattle.limits.specs.declared.frame.Kind.the-variants.{Steel, Concrete, Other}
+use Rattle.limits.specs.declared.class.Class.the-variants.{Hard, Normal, Soft}
+use Rattle.limits.specs.declared.kind.Kind.the-variants.{Steel, Concrete, Other}
 use Rattle.site.specs.Coefficients.{factored, fa, fv, accelerationA, accelerationB}
 use Rattle.site.specs.Capacity.{designSquare, mceSquare}
 use Rattle.site.specs.Hazards.{lines}

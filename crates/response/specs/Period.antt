@@ -9,8 +9,8 @@ use lib.Dec.{leb, eqb}
 use Rattle.whole.specs.Choice.{pick}
 use Rattle.whole.specs.Rounding.{down}
 use Rattle.whole.specs.Search.{largest}
-use Rattle.limits.specs.declared.frame.Kind.{Kind}
-use Rattle.limits.specs.declared.frame.Kind.the-variants.{Steel, Concrete, Braced, Other}
+use Rattle.limits.specs.declared.kind.Kind.{Kind}
+use Rattle.limits.specs.declared.kind.Kind.the-variants.{Steel, Concrete, Braced, Other}
 
 abbrev pub coefficient : Kind → ℕ
 coefficient Steel = 85

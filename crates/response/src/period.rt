@@ -1,6 +1,6 @@
 // The period in ms.
 use limits::frame::Frame;
-use limits::frame::Kind;
+use limits::kind::Kind;
 use whole::quotients::down;
 use whole::roots::largest;
 use whole::roots::power;

@@ -1,10 +1,10 @@
 // What is finite, exhausted: roots and capacities of every R, the period of every height and kind, both coefficients of every product
 // of a mapped value and a near-fault factor. (`run_logs` runs the velocity of every N.)
 use libc::STDOUT_FILENO;
+use limits::class::Class;
 use limits::frame::Frame;
-use limits::frame::Kind;
+use limits::kind::Kind;
 use limits::level::Level;
-use limits::site::Class;
 use limits::site::Site;
 use response::UNIT;
 use response::period::approximate;

@@ -1,10 +1,10 @@
 // Document 01's 'Figures to hold it to': each beside the figure that the document states.
 use job::JobAnswer;
 use libc::STDOUT_FILENO;
+use limits::class::Class;
 use limits::frame::FrameValues;
-use limits::frame::Kind;
+use limits::kind::Kind;
 use limits::layer::Layer;
-use limits::site::Class;
 use limits::site::SiteValues;
 use response::UNIT;
 use response::period::approximate;

@@ -3,9 +3,9 @@ use base_shear::Figures;
 use job::JobAnswer;
 use job::figures::figures;
 use libc::STDOUT_FILENO;
+use limits::class::Class;
 use limits::frame::FrameValues;
-use limits::frame::Kind;
-use limits::site::Class;
+use limits::kind::Kind;
 use limits::site::SiteValues;
 
 fn run(class: u64) -> Figures {

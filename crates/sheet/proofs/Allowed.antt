@@ -11,9 +11,9 @@ use borrow.Author.Tests.{eqb-true}
 use Rattle.whole.specs.Choice.{pick}
 use Rattle.limits.specs.declared.frame.Frame.{Frame}
 use Rattle.limits.specs.declared.frame.FrameValues.{FrameValues}
-use Rattle.limits.specs.declared.frame.Kind.{Kind}
+use Rattle.limits.specs.declared.kind.Kind.{Kind}
 use Rattle.limits.specs.declared.judging.Given.{Given}
-use Rattle.limits.specs.declared.site.Class.{Class}
+use Rattle.limits.specs.declared.class.Class.{Class}
 use Rattle.limits.specs.declared.site.Site.{Site}
 use Rattle.limits.specs.declared.site.SiteValues.{SiteValues}
 use Rattle.limits.specs.Allowed.{AllowedSite, AllowedFrame}

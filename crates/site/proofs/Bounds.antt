@@ -7,8 +7,8 @@ use native.Mathlib.Omega.{arith}
 use lib.Dec.{T}
 use Rattle.whole.proofs.Choice.{by-leb}
 use Rattle.whole.proofs.Table.{valued, lastOf, table-within, beyond-most}
-use Rattle.limits.specs.declared.site.Class.{Class}
-use Rattle.limits.specs.declared.site.Class.the-variants.{Hard, Normal, Soft}
+use Rattle.limits.specs.declared.class.Class.{Class}
+use Rattle.limits.specs.declared.class.Class.the-variants.{Hard, Normal, Soft}
 use Rattle.site.specs.Coefficients.{factored, fa, fv, accelerationA, accelerationB}
 use Rattle.site.specs.Table2.{columnsA, columnsV}
 use Rattle.site.proofs.Whole.{a-fits, v-fits}

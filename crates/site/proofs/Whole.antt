@@ -7,8 +7,8 @@ use Rattle.whole.specs.Fraction.{over, Same}
 use Rattle.whole.specs.Line.{between}
 use Rattle.whole.specs.Rounding.{down}
 use Rattle.whole.proofs.Table.{fitting, table-whole}
-use Rattle.limits.specs.declared.site.Class.{Class}
-use Rattle.limits.specs.declared.site.Class.the-variants.{Hard, Normal, Soft}
+use Rattle.limits.specs.declared.class.Class.{Class}
+use Rattle.limits.specs.declared.class.Class.the-variants.{Hard, Normal, Soft}
 use Rattle.site.specs.Coefficients.{fa, fv}
 use Rattle.site.specs.Table2.{columnsA, columnsV}
 

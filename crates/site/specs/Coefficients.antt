@@ -8,7 +8,7 @@ use Prim.Native.Nat.{ℕ, _*_}
 use Rattle.whole.specs.declared.Column.{Column}
 use Rattle.whole.specs.Fraction.{downIn}
 use Rattle.whole.specs.Line.{between}
-use Rattle.limits.specs.declared.site.Class.{Class}
+use Rattle.limits.specs.declared.class.Class.{Class}
 use Rattle.site.specs.Table2.{columnsA, columnsV}
 
 abbrev pub factored : ℕ → ℕ → ℕ

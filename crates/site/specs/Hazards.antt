@@ -9,7 +9,7 @@
 --                       (19), in tenths
 use Prim.Native.Nat.{ℕ, _≤_}
 use Rattle.whole.specs.declared.Fraction.{Fraction}
-use Rattle.limits.specs.declared.site.Class.{Class}
+use Rattle.limits.specs.declared.class.Class.{Class}
 use Rattle.limits.specs.declared.site.Site.{Site}
 use Rattle.site.specs.declared.hazard.Hazard.{Hazard}
 use Rattle.site.specs.declared.lines.Lines.{Lines}

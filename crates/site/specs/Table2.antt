@@ -4,8 +4,8 @@
 use mathlib.Core.List.{List, [], _∷_}
 use Rattle.whole.specs.declared.Column.{Column}
 use Rattle.whole.specs.Line.{column}
-use Rattle.limits.specs.declared.site.Class.{Class}
-use Rattle.limits.specs.declared.site.Class.the-variants.{Hard, Normal, Soft}
+use Rattle.limits.specs.declared.class.Class.{Class}
+use Rattle.limits.specs.declared.class.Class.the-variants.{Hard, Normal, Soft}
 
 abbrev pub columnsA : Class → List Column
 columnsA Hard = column 5000 10000 ∷ column 6000 10000 ∷ column 7000 10000 ∷ column 8000 10000 ∷ column 9000 10000 ∷ []

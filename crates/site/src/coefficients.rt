@@ -1,6 +1,6 @@
 // Site coefficients, and A and B: functions of the class and of S in the same call, and of nothing else.
 use crate::table2;
-use limits::site::Class;
+use limits::class::Class;
 use whole::columns::between;
 ghost use mathlib.Core.Path.{_≡_};
 ghost use Prim.Native.Nat.{_≤_};

@@ -8,7 +8,7 @@ use crate::coefficients::acceleration_b;
 use crate::hazard::Hazard;
 use crate::hazard::Hazards;
 use crate::lines::Lines;
-use limits::site::Class;
+use limits::class::Class;
 use limits::site::Site;
 ghost use mathlib.Core.Path.{_≡_};
 ghost use Prim.Native.Nat.{_≤_};

@@ -4,9 +4,9 @@ use mathlib.Core.Path.{_≡_, refl, sym}
 use mathlib.Core.List.{List}
 use Prim.Native.Nat.{ℕ, _+_, _≤_}
 use Rattle.limits.specs.declared.refusal.Refusal.{Refusal}
-use Rattle.limits.specs.declared.site.Class.{Class}
-use Rattle.limits.specs.declared.site.ClassAnswer.{ClassAnswer}
-use Rattle.limits.specs.declared.site.ClassAnswer.the-variants.{Taken, Refused}
+use Rattle.limits.specs.declared.class.Class.{Class}
+use Rattle.limits.specs.declared.class.ClassAnswer.{ClassAnswer}
+use Rattle.limits.specs.declared.class.ClassAnswer.the-variants.{Taken, Refused}
 use Rattle.limits.specs.Order.{NoLater}
 use Rattle.soil.specs.Applies.{Applies}
 use Rattle.soil.specs.Class.{table3}

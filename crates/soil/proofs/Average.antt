@@ -10,7 +10,7 @@ use native.Mathlib.Omega.{arith}
 use lib.ListN.{length}
 use Rattle.whole.specs.Fraction.{over, plus, AtMost, Less}
 use Rattle.whole.specs.Rounding.{up, down}
-use Rattle.limits.specs.declared.site.Class.the-variants.{Hard, Normal, Soft}
+use Rattle.limits.specs.declared.class.Class.the-variants.{Hard, Normal, Soft}
 use Rattle.soil.specs.declared.class.ClassLimits.{ClassLimits}
 use Rattle.soil.specs.Class.{classOf}
 use Rattle.soil.specs.Exact.{slowness, exactTime, timeAt}

@@ -8,8 +8,8 @@ use native.Mathlib.Omega.{arith}
 use lib.Dec.{ltb}
 use borrow.Author.Tests.{ltb-true, lt-ltb, le-ltb}
 use Rattle.whole.proofs.Choice.{by-test}
-use Rattle.limits.specs.declared.site.Class.{Class}
-use Rattle.limits.specs.declared.site.Class.the-variants.{Hard, Normal, Soft}
+use Rattle.limits.specs.declared.class.Class.{Class}
+use Rattle.limits.specs.declared.class.Class.the-variants.{Hard, Normal, Soft}
 use Rattle.limits.specs.Outcome.{accepted}
 use Rattle.limits.specs.Site.{judgedClass}
 use Rattle.soil.specs.declared.class.ClassLimits.{ClassLimits}

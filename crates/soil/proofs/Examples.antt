@@ -9,7 +9,7 @@ use Rattle.whole.specs.Cells.{sum}
 use Rattle.whole.specs.Fraction.{over, Less}
 use Rattle.whole.specs.Rounding.{up, down}
 use Rattle.whole.specs.Search.{bitsFrom, largest}
-use Rattle.limits.specs.declared.site.Class.the-variants.{Normal}
+use Rattle.limits.specs.declared.class.Class.the-variants.{Normal}
 use Rattle.limits.specs.Outcome.{accepted}
 use Rattle.limits.specs.Ranges.{inRange, within}
 use Rattle.soil.specs.Class.{table3, classOf}

@@ -12,7 +12,7 @@ use lib.ListN.{length, getD}
 use borrow.Author.Tests.{eqb-true, ne-eqb, eq-eqb}
 use Rattle.whole.specs.Cells.{sum}
 use Rattle.whole.proofs.Choice.{by-test}
-use Rattle.limits.specs.declared.site.Class.{Class}
+use Rattle.limits.specs.declared.class.Class.{Class}
 use Rattle.limits.specs.Levels.{paired}
 use Rattle.limits.specs.Order.{Before, NoLater}
 use Rattle.limits.specs.Outcome.{accepted, refused, require, _>>=_, _>>_}
@@ -26,7 +26,7 @@ use Rattle.limits.proofs.Passed.{require-passed}
 use Rattle.soil.proofs.Refusing.{refused-applies}
 use Rattle.soil.proofs.Sound.{log-sound}
 use Rattle.limits.proofs.Ascending.{lowest-first}
-use Rattle.limits.proofs.Ahead.{Ahead, Stops, Yields, stopped-number, stopped-place, first-stops, later-stops, bound-stops, value-stops, both-yield, require-yields, require-stops, within-yields, within-stops}
+use Rattle.limits.proofs.Precedence.{Ahead, Stops, Yields, stopped-number, stopped-place, first-stops, later-stops, bound-stops, value-stops, both-yield, require-yields, require-stops, within-yields, within-stops}
 
 -- ---- layers, one by one
 module _ (n q : ℕ) where

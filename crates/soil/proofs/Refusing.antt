@@ -11,7 +11,7 @@ use lib.Dec.{eqb}
 use lib.ListN.{length, getD}
 use borrow.Author.Tests.{eqb-true, eqb-false, not-false}
 use Rattle.whole.proofs.Choice.{by-test}
-use Rattle.limits.specs.declared.site.Class.{Class}
+use Rattle.limits.specs.declared.class.Class.{Class}
 use Rattle.limits.specs.Levels.{paired}
 use Rattle.limits.specs.Outcome.{accepted, refused, require, _>>=_, _>>_}
 use Rattle.limits.specs.Ranges.{within}
@@ -20,7 +20,7 @@ use Rattle.soil.specs.Applies.{Allowed, measured, cohesive, cohesionless
 use Rattle.soil.specs.Log.{counted, thick, deep, judgedLog, siteClass}
 use Rattle.soil.specs.Times.{judgedTimes, times}
 use Rattle.soil.specs.Velocity.{measured as measuredAt, byCount, velocity, velocities}
-use Rattle.limits.proofs.Told.{Told, then-told, bind-told, require-told, within-told, given-applies, accepted-unless}
+use Rattle.limits.proofs.GivenApplies.{Told, then-told, bind-told, require-told, within-told, given-applies, accepted-unless}
 use Rattle.soil.proofs.Sound.{log-sound}
 
 -- a kind and value that miss each range of their kind are not allowed

@@ -12,7 +12,7 @@ use lib.ListN.{length}
 use borrow.Author.Tests.{eqb-false, not-true}
 use Rattle.whole.specs.Cells.{sum}
 use Rattle.whole.specs.Fraction.{over, plus, AtMost, Less}
-use Rattle.limits.specs.declared.site.Class.the-variants.{Hard, Normal, Soft}
+use Rattle.limits.specs.declared.class.Class.the-variants.{Hard, Normal, Soft}
 use Rattle.limits.specs.Outcome.{accepted, require}
 use Rattle.soil.specs.Class.{table3}
 use Rattle.soil.specs.Exact.{slowness, average, exactTime, timeAt}

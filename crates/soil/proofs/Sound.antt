@@ -9,7 +9,7 @@ use Rattle.whole.specs.Cells.{sum}
 use Rattle.whole.specs.Rounding.{up, down}
 use Rattle.limits.specs.Levels.{paired}
 use Rattle.limits.specs.Outcome.{accepted}
-use Rattle.limits.specs.declared.site.Class.{Class}
+use Rattle.limits.specs.declared.class.Class.{Class}
 use Rattle.soil.specs.declared.class.ClassLimits.{ClassLimits}
 use Rattle.soil.specs.declared.times.Times.{Times}
 use Rattle.soil.specs.Class.{classOf}

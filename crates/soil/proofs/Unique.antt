@@ -5,7 +5,7 @@
 use mathlib.Core.Path.{_≡_, refl}
 use mathlib.Core.List.{List}
 use Prim.Native.Nat.{ℕ}
-use Rattle.limits.specs.declared.site.ClassAnswer.{ClassAnswer}
+use Rattle.limits.specs.declared.class.ClassAnswer.{ClassAnswer}
 use Rattle.limits.specs.Outcome.{Outcome}
 use Rattle.limits.proofs.Unique.{back, one-answer, class-unique}
 use Rattle.soil.specs.declared.times.Times.{Times}

@@ -12,8 +12,8 @@ use Prim.Native.Nat.{ℕ, _+_}
 use lib.Dec.{eqb}
 use lib.ListN.{length}
 use Rattle.whole.specs.Cells.{sum}
-use Rattle.limits.specs.declared.site.Class.{Class}
-use Rattle.limits.specs.declared.site.ClassAnswer.{ClassAnswer}
+use Rattle.limits.specs.declared.class.Class.{Class}
+use Rattle.limits.specs.declared.class.ClassAnswer.{ClassAnswer}
 use Rattle.limits.specs.Levels.{paired}
 use Rattle.limits.specs.Outcome.{Outcome, accepted, Done, require, _>>=_, _>>_}
 use Rattle.limits.specs.Ranges.{within}

@@ -1,6 +1,6 @@
 // Table 3: the site class of the times U and L.
 use crate::times::Times;
-use limits::site::Class;
+use limits::class::Class;
 ghost use mathlib.Core.Path.{_≡_};
 ghost use Prim.Native.Nat.{_*_, _^_, _<_};
 ghost use Rattle.soil.specs.Class.{table3, classOf};

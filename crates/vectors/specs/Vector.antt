@@ -15,9 +15,9 @@ use Rattle.whole.specs.Fraction.{over}
 use Rattle.whole.specs.Cells.{sum}
 use Rattle.whole.specs.Root.{lowerRoot, upperRoot}
 use Rattle.limits.specs.Levels.{topHeight}
-use Rattle.limits.specs.declared.site.Class.{Class}
+use Rattle.limits.specs.declared.class.Class.{Class}
 use Rattle.limits.specs.declared.site.Site.{Site}
-use Rattle.limits.specs.declared.frame.Kind.{Kind}
+use Rattle.limits.specs.declared.kind.Kind.{Kind}
 use Rattle.limits.specs.declared.frame.Frame.{Frame}
 use Rattle.site.specs.declared.hazard.Hazard.{Hazard}
 use Rattle.site.specs.declared.hazard.Hazards.{Hazards}

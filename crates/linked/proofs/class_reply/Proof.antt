@@ -2,7 +2,7 @@
 use borrow.Author.Needs.{needs}
 use mathlib.Core.Path.{sym, ap, _∙_}
 use Prim.Native.Nat.{ℕ}
-use Rattle.limits.specs.declared.site.ClassAnswer.{ClassAnswer}
+use Rattle.limits.specs.declared.class.ClassAnswer.{ClassAnswer}
 use Rattle.limits.specs.Site.{classOutcome}
 use Rattle.linked.specs.Linked.{classReply}
 use Rattle.linked.proofs.class_reply.Statement.{statement}

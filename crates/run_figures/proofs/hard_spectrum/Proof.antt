@@ -2,7 +2,7 @@
 use borrow.Author.Needs.{needs}
 use mathlib.Core.Path.{refl}
 use native.Mathlib.Omega.{arith}
-use Rattle.limits.specs.declared.site.Class.the-variants.{Hard}
+use Rattle.limits.specs.declared.class.Class.the-variants.{Hard}
 use Rattle.site.proofs.Bounds.{a-bounds, b-bounds}
 use Rattle.run_figures.proofs.hard_spectrum.Statement.{statement}
 use Rattle.run_figures.proofs.hard_spectrum.Tie as tie

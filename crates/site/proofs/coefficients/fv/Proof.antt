@@ -1,7 +1,7 @@
 -- `site::coefficients::fv` meets its contract: the constant table is the class's of Table 2. Assumes nothing.
 use borrow.Author.Needs.{needs}
 use mathlib.Core.Path.{sym, ap, _∙_}
-use Rattle.limits.specs.declared.site.Class.{Class}
+use Rattle.limits.specs.declared.class.Class.{Class}
 use Rattle.site.specs.Coefficients.{fv}
 use Rattle.site.proofs.coefficients.fv.Statement.{statement}
 use Rattle.site.proofs.coefficients.fv.Tie as tie

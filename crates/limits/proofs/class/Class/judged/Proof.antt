@@ -1,8 +1,8 @@
--- `limits::site::Class::judged` meets its contract. Assumes nothing.
+-- `limits::class::Class::judged` meets its contract. Assumes nothing.
 use borrow.Author.Tests.{eq-eqb, ne-eqb}
 use Rattle.limits.specs.Site.{judgedClass}
-use Rattle.limits.proofs.site.Class.judged.Statement.{statement}
-use Rattle.limits.proofs.site.Class.judged.Tie as tie
+use Rattle.limits.proofs.class.Class.judged.Statement.{statement}
+use Rattle.limits.proofs.class.Class.judged.Tie as tie
 
 returns : tie.Need-returns
 unfolding judgedClass

@@ -1,8 +1,8 @@
--- `limits::frame::Kind::judged` meets its contract. Assumes nothing.
+-- `limits::kind::Kind::judged` meets its contract. Assumes nothing.
 use borrow.Author.Tests.{eq-eqb, ne-eqb}
 use Rattle.limits.specs.Frame.{judgedKind}
-use Rattle.limits.proofs.frame.Kind.judged.Statement.{statement}
-use Rattle.limits.proofs.frame.Kind.judged.Tie as tie
+use Rattle.limits.proofs.kind.Kind.judged.Statement.{statement}
+use Rattle.limits.proofs.kind.Kind.judged.Tie as tie
 
 returns : tie.Need-returns
 unfolding judgedKind
