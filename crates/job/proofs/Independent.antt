@@ -12,6 +12,7 @@ use Rattle.limits.specs.declared.frame.FrameValues.{FrameValues}
 use Rattle.limits.specs.declared.judging.Given.{Given}
 use Rattle.limits.specs.declared.site.SiteValues.{SiteValues}
 use Rattle.limits.specs.Outcome.{Outcome, accepted, _>>=_}
+use Rattle.limits.proofs.Accepted.{given-allowed}
 use Rattle.limits.proofs.Room.{room-enough}
 use Rattle.base_shear.specs.declared.Figures.{Figures}
 use Rattle.storeys.specs.Storeys.{shears, forces, overturning, overturnings}
@@ -34,6 +35,9 @@ module _ (n : Figures) (ws hs : List ℕ) where
   overturnings-cells =
       cells-length (overturning (resultsAt n ws hs .forces) hs) (length (resultsAt n ws hs .forces)) ∙ forces-cells
 
+one-figures : {n m : Figures} → Taken n ≡ Taken m → n ≡ m
+one-figures e = cc
+
 module _ (s : SiteValues) (f : FrameValues) (ws hs : List ℕ) where
   job-room : (room room′ : ℕ) → length ws ≤ room → length ws ≤ room′ → jobOf s f ws hs room ≡ jobOf s f ws hs room′
   unfolding jobOf
@@ -49,6 +53,12 @@ module _ (s : SiteValues) (f : FrameValues) (ws hs : List ℕ) where
       → Answers s f ws hs b a b′ → Answers s f ws hs c a′ c′ → a ≡ a′
   longer-answer b c a a′ b′ c′ hb hc p q =
       answer-unique (p .0 ∙ ap figuresOnly (job-room (shortest b) (shortest c) hb hc)) (q .0)
+
+  -- as buffers have where figures are given
+  cells-enough : (b : Buffers) (n : Figures) (b′ : Buffers) → Answers s f ws hs b (Taken n) b′ → length ws ≤ shortest b
+  cells-enough b n b′ a =
+      let t = taken-accepted s f ws hs b n b′ a in
+      given-allowed s f ws hs (shortest b) (t .given) (t .judged) .1
 
   -- and it is the answer without buffers
   pub figured-answer : (b : Buffers) (a a′ : JobAnswer) (b′ : Buffers) → length ws ≤ shortest b
@@ -83,12 +93,18 @@ module _ (s : SiteValues) (f : FrameValues) (ws hs : List ℕ) where
             ∙ laid-rest (r .overturnings) (b .overturnings) m (overturnings-cells n ws hs);
       }
 
-  -- so the written cells do not depend on what the buffers held
-  pub same-cells : (b c : Buffers) (n : Figures) (b′ c′ : Buffers) → Answers s f ws hs b (Taken n) b′ → Answers s f ws hs c (Taken n) c′
-      → (take (length ws) (b′ .forces) ≡ take (length ws) (c′ .forces))
+  -- so neither the figures nor the written cells depend on what the buffers held, nor on how long they are
+  pub same-cells : (b c : Buffers) (n m : Figures) (b′ c′ : Buffers) → Answers s f ws hs b (Taken n) b′ → Answers s f ws hs c (Taken m) c′
+      → (n ≡ m)
+      × (take (length ws) (b′ .forces) ≡ take (length ws) (c′ .forces))
       × (take (length ws) (b′ .shears) ≡ take (length ws) (c′ .shears))
       × (take (length ws) (b′ .overturnings) ≡ take (length ws) (c′ .overturnings))
-  same-cells b c n b′ c′ p q =
+  same-cells b c n m b′ c′ p q =
+      let same = one-figures (longer-answer b c (Taken n) (Taken m) b′ c′ (cells-enough b n b′ p) (cells-enough c m c′ q) p q) in
       let x = taken-written b n b′ p in
-      let y = taken-written c n c′ q in
-      (x .forces ∙ sym (y .forces), x .shears ∙ sym (y .shears), x .overturnings ∙ sym (y .overturnings))
+      let y = taken-written c m c′ q in (
+        same,
+        x .forces ∙ ap (λ (k : Figures). resultsAt k ws hs .forces) same ∙ sym (y .forces),
+        x .shears ∙ ap (λ (k : Figures). resultsAt k ws hs .shears) same ∙ sym (y .shears),
+        x .overturnings ∙ ap (λ (k : Figures). resultsAt k ws hs .overturnings) same ∙ sym (y .overturnings),
+      )

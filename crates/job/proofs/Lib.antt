@@ -9,6 +9,7 @@ pub mod Independent
 pub mod Calls
 pub mod Storeys
 pub mod Demand3
+pub mod Results
 pub mod Worked
 pub mod JobNumbers
 pub mod SharpMargin

@@ -30,15 +30,15 @@ module _ (s : SiteValues) (f : FrameValues) (ws hs : List ℕ) (room : ℕ) wher
         (sym (ap figuresOnly o), sym (ap (λ (x : Outcome Results). written x b) o))
 
     -- what the storeys' code wrote, at the figures that it was handed
-    pub accepted-answers : (g : Given) (n : Figures) {ps us ms : List ℕ} → judgedJob s f ws hs room ≡ accepted g
+    pub accepted-answers : (g : Given) (n : Figures) {ps us os : List ℕ} → judgedJob s f ws hs room ≡ accepted g
         → n ≡ givenFigures g ws hs
         → us ≡ laid (resultsAt n ws hs .shears) (b .shears)
         → ps ≡ laid (resultsAt n ws hs .forces) (b .forces)
-        → ms ≡ laid (resultsAt n ws hs .overturnings) (b .overturnings)
-        → Answers s f ws hs b (Taken n) (record { forces = ps; shears = us; overturnings = ms })
-    accepted-answers g n {ps} {us} {ms} e same eu ep em =
+        → os ≡ laid (resultsAt n ws hs .overturnings) (b .overturnings)
+        → Answers s f ws hs b (Taken n) (record { forces = ps; shears = us; overturnings = os })
+    accepted-answers g n {ps} {us} {os} e same eu ep em =
         let o = ap (λ (n : ℕ). jobOf s f ws hs n) (sym short) ∙ job-accepted e in
-        let cells : record { forces = ps; shears = us; overturnings = ms } ≡ written (accepted (resultsAt n ws hs)) b
+        let cells : record { forces = ps; shears = us; overturnings = os } ≡ written (accepted (resultsAt n ws hs)) b
         = λ i. record { forces = ep i; shears = eu i; overturnings = em i } in (
           ap accepted same ∙ sym (ap figuresOnly o),
           cells

@@ -132,16 +132,16 @@ fn cell(name: &[u8], cells: &[u64], x: usize, stated: u64) {
 }
 
 // The listing's levels, roof first.
-fn levels(forces: &[u64], shears: &[u64], moments: &[u64]) {
+fn levels(forces: &[u64], shears: &[u64], overturnings: &[u64]) {
     cell(b"level 3, force", forces, 2, 573_215);
     cell(b"level 3, shear", shears, 2, 573_215);
-    cell(b"level 3, overturning", moments, 2, 57_321_500);
+    cell(b"level 3, overturning", overturnings, 2, 57_321_500);
     cell(b"level 2, force", forces, 1, 332_143);
     cell(b"level 2, shear", shears, 1, 905_358);
-    cell(b"level 2, overturning", moments, 1, 147_857_300);
+    cell(b"level 2, overturning", overturnings, 1, 147_857_300);
     cell(b"level 1, force", forces, 0, 166_071);
     cell(b"level 1, shear", shears, 0, 1_071_429);
-    cell(b"level 1, overturning", moments, 0, 255_000_200);
+    cell(b"level 1, overturning", overturnings, 0, 255_000_200);
 }
 
 // The worked sheet's listing, by the job call.
@@ -150,7 +150,7 @@ fn sheet(
     heights: &[u64],
     forces: &mut [u64],
     shears: &mut [u64],
-    moments: &mut [u64],
+    overturnings: &mut [u64],
 ) {
     let site = SiteValues {
         ssd: 80,
@@ -168,7 +168,7 @@ fn sheet(
         i: 100,
         alpha: 150,
     };
-    let a = job::job(site, frame, weights, heights, forces, shears, moments);
+    let a = job::job(site, frame, weights, heights, forces, shears, overturnings);
     let JobAnswer::Taken(f) = a else {
         return;
     };
@@ -177,7 +177,7 @@ fn sheet(
     hold(b"V*", f.star, 1_071_429);
     hold(b"V_D", f.vd, 1_071_429);
     hold(b"T", f.t, 1000);
-    levels(forces, shears, moments);
+    levels(forces, shears, overturnings);
 }
 
 fn listing() {
@@ -185,8 +185,14 @@ fn listing() {
     let heights = [100, 200, 300];
     let mut forces = [0; 3];
     let mut shears = [0; 3];
-    let mut moments = [0; 3];
-    sheet(&weights, &heights, &mut forces, &mut shears, &mut moments);
+    let mut overturnings = [0; 3];
+    sheet(
+        &weights,
+        &heights,
+        &mut forces,
+        &mut shears,
+        &mut overturnings,
+    );
 }
 
 fn main() {

@@ -97,13 +97,13 @@ fn called(
     heights: &[u64],
     forces: &mut [u64],
     shears: &mut [u64],
-    moments: &mut [u64],
+    overturnings: &mut [u64],
 ) {
-    let a = job::job(site, frame, weights, heights, forces, shears, moments);
+    let a = job::job(site, frame, weights, heights, forces, shears, overturnings);
     answer_said(a);
     cells_said(b"forces", forces);
     cells_said(b"shears", shears);
-    cells_said(b"moments", moments);
+    cells_said(b"moments", overturnings);
     io::write_all(STDOUT_FILENO, b"without buffers ");
     answer_said(job::figures::figures(site, frame, weights, heights));
 }
@@ -115,15 +115,15 @@ fn parted(
     row: &[u64],
     forces: &mut [u64],
     shears: &mut [u64],
-    moments: &mut [u64],
+    overturnings: &mut [u64],
 )
-    requires { ⌜ (140 ≤ length (now row)) × (60 ≤ length (now forces)) × (60 ≤ length (now shears)) × (60 ≤ length (now moments)) ⌝ }
+    requires { ⌜ (140 ≤ length (now row)) × (60 ≤ length (now forces)) × (60 ≤ length (now shears)) × (60 ≤ length (now overturnings)) ⌝ }
 {
     let weights = WEIGHTS + least(row[WEIGHT_COUNT]);
     let heights = HEIGHTS + least(row[HEIGHT_COUNT]);
     let force_cells = least(row[BUFFERS]);
     let shear_cells = least(row[BUFFERS + 1]);
-    let moment_cells = least(row[BUFFERS + 2]);
+    let overturning_cells = least(row[BUFFERS + 2]);
     called(
         site,
         frame,
@@ -131,21 +131,21 @@ fn parted(
         &row[HEIGHTS..heights],
         &mut forces[..force_cells],
         &mut shears[..shear_cells],
-        &mut moments[..moment_cells],
+        &mut overturnings[..overturning_cells],
     );
 }
 
 fn case(row: [u64; 140]) {
     let mut forces = [row[OLD]; 60];
     let mut shears = [row[OLD + 1]; 60];
-    let mut moments = [row[OLD + 2]; 60];
+    let mut overturnings = [row[OLD + 2]; 60];
     parted(
         site(row),
         frame(row),
         &row,
         &mut forces,
         &mut shears,
-        &mut moments,
+        &mut overturnings,
     );
 }
 

@@ -20,10 +20,10 @@ use Rattle.sheet.specs.Listing.{roofFirst, resultsListing, listing, jobO
 use Rattle.sheet.specs.Reading.{readSheet}
 use Rattle.sheet.specs.Sheet.{Sheet}
 
-results-listing-short : (n : Figures) (fs us ms : List ℕ) → Levelled fs us ms → length (resultsListing n fs us ms) ≤ longest
+results-listing-short : (n : Figures) (fs us os : List ℕ) → Levelled fs us os → length (resultsListing n fs us os) ≤ longest
 unfolding resultsListing
-results-listing-short n fs us ms l =
-    omega (arith, length-append (baseLine fs us ms n) (roofFirst fs us ms (length fs)), results-listing-room fs us ms n l)
+results-listing-short n fs us os l =
+    omega (arith, length-append (baseLine fs us os n) (roofFirst fs us os (length fs)), results-listing-room fs us os n l)
 
 results-short : (n : Figures) (ws hs : List ℕ) → length ws ≤ 50 → length (listing (accepted (resultsAt n ws hs))) ≤ longest
 unfolding listing

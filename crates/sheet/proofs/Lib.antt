@@ -17,3 +17,4 @@ pub mod Allowed
 pub mod Listable
 pub mod Cut
 pub mod Examples
+pub mod Demands

@@ -15,18 +15,18 @@ use Rattle.text.proofs.Spliced.{Wrote, wrote, wrote-none, wrote-more}
 use Rattle.sheet.specs.Listing.{roofFirst, refusal, longest, printed, Written, Levelled}
 
 -- ---- how long: 20 digits a number at the most
-module _ (fs us ms : List ℕ) where
+module _ (fs us os : List ℕ) where
   abbrev pub levelLine : ℕ → ℕ → List ℕ
-  levelLine n x = laidOut (bytes "level") (n ∷ getD fs x 0 ∷ getD us x 0 ∷ getD ms x 0 ∷ [])
+  levelLine n x = laidOut (bytes "level") (n ∷ getD fs x 0 ∷ getD us x 0 ∷ getD os x 0 ∷ [])
 
-  roof-most : (x : ℕ) → length (roofFirst fs us ms x) ≤ 90 * x
+  roof-most : (x : ℕ) → length (roofFirst fs us os x) ≤ 90 * x
   unfolding roofFirst
   roof-most zero = omega arith
   roof-most (suc x) =
       simp length-append
-      (omega (arith, roof-most x, line-most (bytes "level") (suc x ∷ getD fs x 0 ∷ getD us x 0 ∷ getD ms x 0 ∷ [])))
+      (omega (arith, roof-most x, line-most (bytes "level") (suc x ∷ getD fs x 0 ∷ getD us x 0 ∷ getD os x 0 ∷ [])))
 
-  roof-next : (n x : ℕ) → n ≡ suc x → roofFirst fs us ms n ≡ levelLine n x ++ roofFirst fs us ms x
+  roof-next : (n x : ℕ) → n ≡ suc x → roofFirst fs us os n ≡ levelLine n x ++ roofFirst fs us os x
   unfolding roofFirst
   roof-next n x e = rw e
 
@@ -34,27 +34,27 @@ module _ (fs us ms : List ℕ) where
   pub record Listed (old : List ℕ) (at : ℕ) (held : List ℕ) (p x : ℕ) : Type 0 where
     pub done : List ℕ
     pub lines : Wrote old at done held p
-    pub all : done ++ roofFirst fs us ms x ≡ roofFirst fs us ms (length fs)
+    pub all : done ++ roofFirst fs us os x ≡ roofFirst fs us os (length fs)
     pub under : x ≤ length fs
 
   pub listed-none : (old : List ℕ) (at : ℕ) → Listed old at old at (length fs)
   listed-none old at = record { done = []; lines = wrote-none old at; all = refl; under = omega arith }
 
   module _ {old : List ℕ} {at : ℕ} {held : List ℕ} {p n : ℕ} (l : Listed old at held p n)
-      (room : at + length (roofFirst fs us ms (length fs)) ≤ length old) where
-    sum : length (l .done) + length (roofFirst fs us ms n) ≡ length (roofFirst fs us ms (length fs))
-    sum = sym (length-append (l .done) (roofFirst fs us ms n)) ∙ ap length (l .all)
+      (room : at + length (roofFirst fs us os (length fs)) ≤ length old) where
+    sum : length (l .done) + length (roofFirst fs us os n) ≡ length (roofFirst fs us os (length fs))
+    sum = sym (length-append (l .done) (roofFirst fs us os n)) ∙ ap length (l .all)
 
-    pub listed-all : n ≡ 0 → (p ≡ at + length (roofFirst fs us ms (length fs)))
-        × (held ≡ spliced old at (roofFirst fs us ms (length fs)))
+    pub listed-all : n ≡ 0 → (p ≡ at + length (roofFirst fs us os (length fs)))
+        × (held ≡ spliced old at (roofFirst fs us os (length fs)))
     unfolding roofFirst
     listed-all e =
-        let same : l .done ≡ roofFirst fs us ms (length fs) = sym (append-nil (l .done)) ∙ rw e at (l .all) in
+        let same : l .done ≡ roofFirst fs us os (length fs) = sym (append-nil (l .done)) ∙ rw e at (l .all) in
         rw (← same) (l .lines .end, l .lines .holds)
 
     module _ (x : ℕ) (e : n ≡ suc x) where
-      parts : length (roofFirst fs us ms n) ≡ length (levelLine n x) + length (roofFirst fs us ms x)
-      parts = ap length (roof-next n x e) ∙ length-append (levelLine n x) (roofFirst fs us ms x)
+      parts : length (roofFirst fs us os n) ≡ length (levelLine n x) + length (roofFirst fs us os x)
+      parts = ap length (roof-next n x e) ∙ length-append (levelLine n x) (roofFirst fs us os x)
 
       pub listed-room : p + length (levelLine n x) ≤ length held
       listed-room = omega (arith, l .lines, sum, parts)
@@ -66,7 +66,7 @@ module _ (fs us ms : List ℕ) where
             done = l .done ++ levelLine n x;
             lines = wrote-more (l .lines) (wrote _ _ _ _ _ listed-room eh ep) (omega (arith, sum, parts));
             all =
-                append-assoc (l .done) (levelLine n x) (roofFirst fs us ms x)
+                append-assoc (l .done) (levelLine n x) (roofFirst fs us os x)
                 ∙ ap (λ (z : List ℕ). l .done ++ z) (sym (roof-next n x e)) ∙ l .all;
             under = omega (arith, l .under);
           }
@@ -75,7 +75,7 @@ module _ (fs us ms : List ℕ) where
   abbrev pub baseLine : Figures → List ℕ
   baseLine n = laidOut (bytes "base") (n .v ∷ n .vm ∷ n .star ∷ n .vd ∷ n .t ∷ [])
 
-  pub results-listing-room : (n : Figures) → Levelled fs us ms → length (baseLine n) + length (roofFirst fs us ms (length fs)) ≤ longest
+  pub results-listing-room : (n : Figures) → Levelled fs us os → length (baseLine n) + length (roofFirst fs us os (length fs)) ≤ longest
   results-listing-room n l =
       omega (arith, line-most (bytes "base") (n .v ∷ n .vm ∷ n .star ∷ n .vd ∷ n .t ∷ []), roof-most (length fs), l .few)
 

@@ -1,8 +1,8 @@
 -- 'Sheet and listing': what is printed.
---   roofFirst fs us ms x          the lines of the x lowest levels, roof first: number, force, shear, overturning
---   allLevels fs us ms            the lines of all levels
---   resultsListing n fs us ms     the base line V, V_M, V*, V_D, T and a line for each level, of figures n, forces fs, shears us
---                                 and overturning moments ms, each lowest level first
+--   roofFirst fs us os x          the lines of the x lowest levels, roof first: number, force, shear, overturning
+--   allLevels fs us os            the lines of all levels
+--   resultsListing n fs us os     the base line V, V_M, V*, V_D, T and a line for each level, of figures n, forces fs, shears us
+--                                 and overturning moments os, each lowest level first
 --   refusal n p                   'A refusal prints one line: `refused`, number, place'
 --   listing o                     what is printed for a job's outcome
 --   jobOfSheet r                  the job of what a sheet holds
@@ -11,7 +11,7 @@
 --   longest                       as many bytes as the longest listing may have: 20 digits a number, 50 levels
 --   printed l                     the bytes l as the code hands them on: in the first of `longest` cells, and how many there are
 --   Written l old held n          a buffer that held old holds `held`, l over its first cells and the rest as it was; n is the length of l
---   Levelled fs us ms             as many shears and overturning moments as forces, and not over 50
+--   Levelled fs us os             as many shears and overturning moments as forces, and not over 50
 use mathlib.Core.Path.{_≡_}
 use mathlib.Core.List.{List, [], _∷_, _++_}
 use Prim.Native.Nat.{ℕ, zero, suc, _≤_}
@@ -27,16 +27,16 @@ use Rattle.sheet.specs.Reading.{readSheet}
 use Rattle.sheet.specs.Sheet.{Sheet}
 
 unfoldable pub roofFirst : List ℕ → List ℕ → List ℕ → ℕ → List ℕ
-roofFirst fs us ms zero = []
-roofFirst fs us ms (suc x) =
-    laidOut (bytes "level") (suc x ∷ getD fs x 0 ∷ getD us x 0 ∷ getD ms x 0 ∷ []) ++ roofFirst fs us ms x
+roofFirst fs us os zero = []
+roofFirst fs us os (suc x) =
+    laidOut (bytes "level") (suc x ∷ getD fs x 0 ∷ getD us x 0 ∷ getD os x 0 ∷ []) ++ roofFirst fs us os x
 
 abbrev pub allLevels : List ℕ → List ℕ → List ℕ → List ℕ
-allLevels fs us ms = roofFirst fs us ms (length fs)
+allLevels fs us os = roofFirst fs us os (length fs)
 
 unfoldable pub resultsListing : Figures → List ℕ → List ℕ → List ℕ → List ℕ
-resultsListing n fs us ms =
-    laidOut (bytes "base") (n .v ∷ n .vm ∷ n .star ∷ n .vd ∷ n .t ∷ []) ++ allLevels fs us ms
+resultsListing n fs us os =
+    laidOut (bytes "base") (n .v ∷ n .vm ∷ n .star ∷ n .vd ∷ n .t ∷ []) ++ allLevels fs us os
 
 unfoldable pub refusal : ℕ → ℕ → List ℕ
 refusal n p = laidOut (bytes "refused") (n ∷ p ∷ [])
@@ -51,9 +51,9 @@ pub record Written (l old held : List ℕ) (n : ℕ) : Type 0 where
   pub bytes-are : held ≡ laid l old
   pub length-is : n ≡ length l
 
-pub record Levelled (fs us ms : List ℕ) : Type 0 where
+pub record Levelled (fs us os : List ℕ) : Type 0 where
   pub shears : length us ≡ length fs
-  pub overturnings : length ms ≡ length fs
+  pub overturnings : length os ≡ length fs
   pub few : length fs ≤ 50
 
 unfoldable pub listing : Outcome Results → List ℕ

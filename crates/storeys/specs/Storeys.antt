@@ -1,4 +1,4 @@
--- Storeys (21). V in N, T in ms, weights in kN, heights in dm, lowest level first; level x is counted from 0.
+-- Storeys (21). V in N, T in os, weights in kN, heights in dm, lowest level first; level x is counted from 0.
 --   roofPart T            0.07·(T in s)
 --   RoofAtMostOne T       the roof part is at most one, so that F_t is a part of V
 --   roofForce T v         F_t = 0.07·(T in s)·V, up
@@ -11,7 +11,7 @@
 --   borne b fs hs         what levels bear: their forces added, and their overturning about b
 --   overturning fs hs x   (23) without its factor, about the bottom of storey x, in N·dm, over the levels from x upward
 --   overturnings fs hs    those of all storeys
---   Filled T v ws hs us fs ms us′ fs′ ms′    us′, fs′ and ms′ are what buffers that held us, fs and ms hold when shears, forces and
+--   Filled T v ws hs us fs os us′ fs′ os′    us′, fs′ and os′ are what buffers that held us, fs and os hold when shears, forces and
 --                         overturning moments are laid over their first cells
 -- ℕ's subtraction stops at 0; that no difference here goes below it: `roof-most`, `force-whole`, `bottom-below` of proofs/.
 use mathlib.Core.Path.{_≡_}
@@ -71,7 +71,7 @@ abbrev pub overturnings : List ℕ → List ℕ → List ℕ
 overturnings fs hs = cells (overturning fs hs) (length fs)
 
 abbrev pub Filled : ℕ → ℕ → List ℕ → List ℕ → List ℕ → List ℕ → List ℕ → List ℕ → List ℕ → List ℕ → Type 0
-Filled T v ws hs us fs ms us′ fs′ ms′ =
+Filled T v ws hs us fs os us′ fs′ os′ =
     (us′ ≡ laid (shears T v ws hs) us)
     × (fs′ ≡ laid (forces (shears T v ws hs)) fs)
-    × (ms′ ≡ laid (overturnings (forces (shears T v ws hs)) hs) ms)
+    × (os′ ≡ laid (overturnings (forces (shears T v ws hs)) hs) os)
