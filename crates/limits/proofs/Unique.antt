@@ -40,29 +40,22 @@ one-answer {a = a} {b = b} says taken stopped same p q =
     sym (same a) ∙ ap (back taken stopped) (p ∙ sym q) ∙ same b
 
 pub verdict-unique : {a b : Verdict} {o : Outcome Done} → verdictOutcome a ≡ o → verdictOutcome b ≡ o → a ≡ b
-verdict-unique = one-answer verdictOutcome (λ _. Passed) RefusedVerdict
-    (λ x. elim x [ Passed ↦ refl | RefusedVerdict r ↦ refl ])
+verdict-unique = one-answer verdictOutcome (λ _. Passed) RefusedVerdict (λ x. elim x [ Passed ↦ refl | RefusedVerdict r ↦ refl ])
 
 pub class-unique : {a b : ClassAnswer} {o : Outcome Class} → classOutcome a ≡ o → classOutcome b ≡ o → a ≡ b
-class-unique = one-answer classOutcome TakenClass RefusedClass
-    (λ x. elim x [ TakenClass c ↦ refl | RefusedClass r ↦ refl ])
+class-unique = one-answer classOutcome TakenClass RefusedClass (λ x. elim x [ TakenClass c ↦ refl | RefusedClass r ↦ refl ])
 
 pub site-unique : {a b : SiteAnswer} {o : Outcome Site} → siteOutcome a ≡ o → siteOutcome b ≡ o → a ≡ b
-site-unique = one-answer siteOutcome TakenSite RefusedSite
-    (λ x. elim x [ TakenSite s ↦ refl | RefusedSite r ↦ refl ])
+site-unique = one-answer siteOutcome TakenSite RefusedSite (λ x. elim x [ TakenSite s ↦ refl | RefusedSite r ↦ refl ])
 
 pub kind-unique : {a b : KindAnswer} {o : Outcome Kind} → kindOutcome a ≡ o → kindOutcome b ≡ o → a ≡ b
-kind-unique = one-answer kindOutcome TakenKind RefusedKind
-    (λ x. elim x [ TakenKind k ↦ refl | RefusedKind r ↦ refl ])
+kind-unique = one-answer kindOutcome TakenKind RefusedKind (λ x. elim x [ TakenKind k ↦ refl | RefusedKind r ↦ refl ])
 
 pub frame-unique : {a b : FrameAnswer} {o : Outcome Frame} → frameOutcome a ≡ o → frameOutcome b ≡ o → a ≡ b
-frame-unique = one-answer frameOutcome TakenFrame RefusedFrame
-    (λ x. elim x [ TakenFrame f ↦ refl | RefusedFrame r ↦ refl ])
+frame-unique = one-answer frameOutcome TakenFrame RefusedFrame (λ x. elim x [ TakenFrame f ↦ refl | RefusedFrame r ↦ refl ])
 
 pub given-unique : {a b : GivenAnswer} {o : Outcome Given} → givenOutcome a ≡ o → givenOutcome b ≡ o → a ≡ b
-given-unique = one-answer givenOutcome TakenGiven RefusedGiven
-    (λ x. elim x [ TakenGiven g ↦ refl | RefusedGiven r ↦ refl ])
+given-unique = one-answer givenOutcome TakenGiven RefusedGiven (λ x. elim x [ TakenGiven g ↦ refl | RefusedGiven r ↦ refl ])
 
 pub level-unique : {a b : LevelAnswer} {o : Outcome Level} → levelOutcome a ≡ o → levelOutcome b ≡ o → a ≡ b
-level-unique = one-answer levelOutcome TakenLevel RefusedLevel
-    (λ x. elim x [ TakenLevel l ↦ refl | RefusedLevel r ↦ refl ])
+level-unique = one-answer levelOutcome TakenLevel RefusedLevel (λ x. elim x [ TakenLevel l ↦ refl | RefusedLevel r ↦ refl ])

@@ -1,25 +1,38 @@
 -- `limits::frame::Frame::judged` meets its contract. Assumes nothing.
 use borrow.Author.Needs.{needs}
 use mathlib.Core.List.{[], _∷_}
-use mathlib.Core.Path.{_≡_, refl}
+use mathlib.Core.Path.{_≡_, refl, sym, _∙_}
+use Rattle.limits.specs.declared.frame.Frame.{Frame}
+use Rattle.limits.specs.declared.frame.FrameValues.{FrameValues}
 use Rattle.limits.proofs.Stages.{says, stopped}
-use Rattle.limits.specs.Frame.{kindOutcome, judgedFrame}
-use Rattle.limits.specs.Outcome.{accepted, verdictOutcome}
+use Rattle.limits.specs.Frame.{kindOutcome, judgedKind, judgedPeriod, frameOf, judgedFrame}
+use Rattle.limits.specs.Outcome.{Outcome, accepted, verdictOutcome, _>>=_, _>>_}
 use Rattle.limits.specs.Ranges.{within, listed}
 use Rattle.limits.proofs.frame.Frame.judged.Statement.{statement}
 use Rattle.limits.proofs.frame.Frame.judged.Tie as tie
 
--- ---- what each judgment that passed says
-r-passed : (c : tie.After-enum-told) → within 100 600 (c .before .before .before .args .v .r) 8 0 ≡ accepted tt
-r-passed c = says verdictOutcome (c .before .before .within .ensures) (c .enum-told .given .1)
+-- the kind, and then the period
+abbrev afterAlpha : FrameValues → Outcome Frame
+afterAlpha v = judgedKind (v .kind) >>= (λ k. judgedPeriod (v .calculated) >> accepted (frameOf v k))
 
-i-passed : (c : tie.After-enum-told3)
-    → listed (100 ∷ 125 ∷ 150 ∷ []) (c .before .before .before .before .before .before .before .args .v .i) 9 0 ≡ accepted tt
-i-passed c = says verdictOutcome (c .before .before .listed .ensures) (c .enum-told3 .given .1)
+-- ---- what is left to judge, after each judgment that passed
+after-r : (c : tie.After-enum-told) → let v = c .before .before .before .args .v in
+    judgedFrame v
+    ≡ (listed (100 ∷ 125 ∷ 150 ∷ []) (v .i) 9 0 >> (within 100 200 (v .alpha) 10 0 >> afterAlpha v))
+unfolding judgedFrame
+after-r c = simp (says verdictOutcome (c .before .before .within .ensures) (c .enum-told .given .1))
 
-alpha-passed : (c : tie.After-enum-told5)
-    → within 100 200 (c .before .before .before .before .before .before .before .before .before .before .args .v .alpha) 10 0 ≡ accepted tt
-alpha-passed c = says verdictOutcome (c .before .before .within2 .ensures) (c .enum-told5 .given .1)
+after-i : (c : tie.After-enum-told3) → let v = c .before .before .before .before .before .before .before .args .v in judgedFrame v ≡ (within 100 200 (v .alpha) 10 0 >> afterAlpha v)
+after-i c =
+    after-r (c .before .before .before .before) ∙ simp (says verdictOutcome (c .before .before .listed .ensures) (c .enum-told3 .given .1))
+
+after-alpha : (c : tie.After-enum-told5) → let v = c .before .before .before .before .before .before .before .before .before .before .args .v in judgedFrame v ≡ afterAlpha v
+after-alpha c =
+    after-i (c .before .before .before) ∙ simp (says verdictOutcome (c .before .before .within2 .ensures) (c .enum-told5 .given .1))
+
+after-kind : (c : tie.After-k) → let v = c .before .before .before .before .before .before .before .before .before .before .before .before .before .args .v in
+    judgedFrame v ≡ (judgedPeriod (v .calculated) >> accepted (frameOf v (c .k .given .0 .0)))
+after-kind c = after-alpha (c .before .before .before) ∙ simp (says kindOutcome (c .before .before .judged .ensures) (c .k .given .1))
 
 within-requires : tie.Need-within-requires
 within-requires c κs = search needs
@@ -54,13 +67,8 @@ refusal-requires-2 : tie.Need-refusal-requires-2
 refusal-requires-2 c κs = search needs
 
 returns-2 : tie.Need-returns-2
-unfolding judgedFrame
 returns-2 c =
-    let c₁ = c .before .before .before .before .before in
-    simp (
-      r-passed c₁,
-      stopped verdictOutcome _ _ (c .before .before .before .listed .ensures) (c .before .enum-told4 .given .1) refl (c .refusal2 .ensures),
-    )
+    sym (after-r (c .before .before .before .before .before) ∙ simp (stopped verdictOutcome _ _ (c .before .before .before .listed .ensures) (c .before .enum-told4 .given .1) refl (c .refusal2 .ensures)))
 
 within-requires-2 : tie.Need-within-requires-2
 within-requires-2 c κs = search needs
@@ -75,15 +83,8 @@ refusal-requires-3 : tie.Need-refusal-requires-3
 refusal-requires-3 c κs = search needs
 
 returns-3 : tie.Need-returns-3
-unfolding judgedFrame
 returns-3 c =
-    let c₂ = c .before .before .before .before in
-    let c₁ = c₂ .before .before .before .before in
-    simp (
-      r-passed c₁,
-      i-passed c₂,
-      stopped verdictOutcome _ _ (c .before .before .before .within2 .ensures) (c .before .enum-told6 .given .1) refl (c .refusal3 .ensures),
-    )
+    sym (after-i (c .before .before .before .before) ∙ simp (stopped verdictOutcome _ _ (c .before .before .before .within2 .ensures) (c .before .enum-told6 .given .1) refl (c .refusal3 .ensures)))
 
 judged-requires : tie.Need-judged-requires
 judged-requires c κs = search needs
@@ -98,17 +99,8 @@ refusal-requires-4 : tie.Need-refusal-requires-4
 refusal-requires-4 c κs = search needs
 
 returns-4 : tie.Need-returns-4
-unfolding judgedFrame
 returns-4 c =
-    let c₃ = c .before .before .before .before in
-    let c₂ = c₃ .before .before .before in
-    let c₁ = c₂ .before .before .before .before in
-    simp (
-      r-passed c₁,
-      i-passed c₂,
-      alpha-passed c₃,
-      stopped kindOutcome _ _ (c .before .before .before .judged .ensures) (c .before .enum-told7 .given .1) refl (c .refusal4 .ensures),
-    )
+    sym (after-alpha (c .before .before .before .before) ∙ simp (stopped kindOutcome _ _ (c .before .before .before .judged .ensures) (c .before .enum-told7 .given .1) refl (c .refusal4 .ensures)))
 
 judged-period-requires : tie.Need-judged-period-requires
 judged-period-requires c κs = search needs
@@ -123,35 +115,12 @@ refusal-requires-5 : tie.Need-refusal-requires-5
 refusal-requires-5 c κs = search needs
 
 returns-5 : tie.Need-returns-5
-unfolding judgedFrame
 returns-5 c =
-    let c₄ = c .before .before .before .before .before in
-    let c₃ = c₄ .before .before .before in
-    let c₂ = c₃ .before .before .before in
-    let c₁ = c₂ .before .before .before .before in
-    simp (
-      r-passed c₁,
-      i-passed c₂,
-      alpha-passed c₃,
-      says kindOutcome (c₄ .before .before .judged .ensures) (c₄ .k .given .1),
-      stopped verdictOutcome _ _ (c .before .before .before .judged-period .ensures) (c .before .enum-told9 .given .1) refl (c .refusal5 .ensures),
-    )
+    sym (after-kind (c .before .before .before .before .before) ∙ simp (stopped verdictOutcome _ _ (c .before .before .before .judged-period .ensures) (c .before .enum-told9 .given .1) refl (c .refusal5 .ensures)))
 
 returns-6 : tie.Need-returns-6
-unfolding judgedFrame
 returns-6 c =
-    let c₅ = c in
-    let c₄ = c₅ .before .before .before .before in
-    let c₃ = c₄ .before .before .before in
-    let c₂ = c₃ .before .before .before in
-    let c₁ = c₂ .before .before .before .before in
-    simp (
-      r-passed c₁,
-      i-passed c₂,
-      alpha-passed c₃,
-      says kindOutcome (c₄ .before .before .judged .ensures) (c₄ .k .given .1),
-      says verdictOutcome (c₅ .before .before .judged-period .ensures) (c₅ .enum-told8 .given .1),
-    )
+    sym (after-kind (c .before .before .before .before) ∙ simp (says verdictOutcome (c .before .before .judged-period .ensures) (c .enum-told8 .given .1)))
 
 pub judged-spec : {M : Type 1} → statement M
 judged-spec =
