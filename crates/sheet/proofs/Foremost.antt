@@ -1,5 +1,5 @@
 -- The refusal that a sheet is given applies to it, and is the first that does, in the order in which refusals are judged (`order`):
--- 17, then 16, then what its job is given; at its lowest place. A sheet to which none applies gets its results.
+-- 17, then 16, then what its job is given; at its lowest place. A sheet gets its results exactly where none applies.
 -- Assumes nothing.
 use mathlib.Core.Path.{_≡_, refl, sym, ap, subst, _∙_}
 use mathlib.Core.List.{List}
@@ -11,10 +11,10 @@ use Rattle.limits.specs.Judging.{judgedJob}
 use Rattle.limits.specs.Order.{NoLater}
 use Rattle.limits.specs.Outcome.{Outcome, accepted, refused}
 use Rattle.limits.proofs.Foremost as judging
-use Rattle.limits.proofs.Passed.{never, one-value}
+use Rattle.limits.proofs.Passed.{never, one-value, bind-passed}
 use Rattle.limits.proofs.Refusing as applying
 use Rattle.job.specs.Job.{Results, resultsOf, jobOf}
-use Rattle.sheet.proofs.LaidRead.{sheet-lines, lines-held}
+use Rattle.sheet.proofs.LaidRead.{sheet-long, sheet-lines, lines-held}
 use Rattle.sheet.proofs.Otherwise.{read-refused, otherwise-lines, otherwise-refused, one-first}
 use Rattle.sheet.proofs.ReadLaid.{read-lines}
 use Rattle.sheet.proofs.Refused.{bind-refused, only}
@@ -40,23 +40,18 @@ module _ (s : List ℕ) where
   lines-are : (ls : List Line) → LaidLines sheetForm ls → s ≡ linesLaid ls → sheetLines s ≡ accepted (sheetOf ls)
   lines-are ls t is = ap sheetLines is ∙ lines-held ls t
 
-  -- after 16 only 16 applies, at that line; after a sheet that is read, only what applies to its job
+  -- to a sheet with a line that is otherwise only 16 applies, at that line; to one that is read only what applies to its job
   after-16 : (n p m q : ℕ) → n ≡ 16 → length s ≤ 4_096 → FirstOtherwise sheetForm p s → SheetApplies s m q → First n p m q
   after-16 n p m q e short o (long h) = absurd (let z : ⊥ = omega arith in z)
   after-16 n p m q e short o (line f) = record { number = rw e (omega arith); place = λ _. omega (arith, one-first s p q o f) }
   after-16 n p m q e short o (of-job ls t is a) = absurd (never (sym (otherwise-lines s p o) ∙ lines-are ls t is))
 
-  after-reading : (r : Sheet) (n p m q : ℕ) → readSheet s ≡ accepted r → length s ≤ 4_096 → jobOfSheet r ≡ refused n p
-      → SheetApplies s m q → First n p m q
-  after-reading r n p m q e short j (long h) = absurd (let z : ⊥ = omega arith in z)
-  after-reading r n p m q e short j (line f) = absurd (never (sym (otherwise-refused s _ short f) ∙ e))
-  after-reading r n p m q e short j (of-job ls t is a) =
-      let same : sheetOf ls ≡ r = one-value (sym (lines-are ls t is) ∙ sym (sheet-lines s short) ∙ e) in
-      let wrong = subst (λ (x : Sheet). JobApplies x m q) same a in
-      record {
-        number = judging.first-number _ _ _ _ _ n p m q (judged r n p j) wrong;
-        place = λ k. judging.lowest-place _ _ _ _ _ n p q (judged r n p j) (subst (λ (i : ℕ). JobApplies r i q) (sym k) wrong);
-      }
+  read-applies : (r : Sheet) (m q : ℕ) → readSheet s ≡ accepted r → SheetApplies s m q → JobApplies r m q
+  read-applies r m q e (long h) = absurd (never (sym (sheet-long s h) ∙ e))
+  read-applies r m q e (line f) = absurd (never (sym (otherwise-refused s q (read-lines s r e .short) f) ∙ e))
+  read-applies r m q e (of-job ls t is a) =
+      subst (λ (x : Sheet). JobApplies x m q)
+      (one-value (sym (lines-are ls t is) ∙ sym (sheet-lines s (read-lines s r e .short)) ∙ e)) a
 
   module _ (n p : ℕ) (e : outcomeOf s ≡ refused n p) where
     pub refused-applies : SheetApplies s n p
@@ -76,7 +71,13 @@ module _ (s : List ℕ) where
         (λ h. record { number = rw (h .0) (omega arith); place = λ _. omega (arith, h .1) })
         (λ h. after-16 n p m q (h .1) (h .0) (h .2) a)
         (read-refused s n p u))
-        (λ u. after-reading (u .0) n p m q (u .1) (read-lines s (u .0) (u .1) .short) (u .2) a)
+        (λ u.
+        let j = judged (u .0) n p (u .2) in
+        let wrong = read-applies (u .0) m q (u .1) a in
+        record {
+          number = judging.first-number _ _ _ _ _ n p m q j wrong;
+          place = λ k. judging.lowest-place _ _ _ _ _ n p q j (subst (λ (i : ℕ). JobApplies (u .0) i q) (sym k) wrong);
+        })
         (bind-refused (readSheet s) jobOfSheet e)
 
     pub first-number : (m q : ℕ) → SheetApplies s m q → NoLater n m
@@ -91,3 +92,11 @@ module _ (s : List ℕ) where
       go : (o : Outcome Results) → outcomeOf s ≡ o → (r : Results) × (outcomeOf s ≡ accepted r)
       go (accepted r) e = (r, e)
       go (refused n p) e = absurd (none n p (refused-applies n p e))
+
+  -- and no other does
+  pub accepted-none : (r : Results) (n p : ℕ) → outcomeOf s ≡ accepted r → SheetApplies s n p → ⊥
+  unfolding jobOf
+  accepted-none r n p e a =
+      let b = bind-passed (readSheet s) jobOfSheet e in
+      let g = bind-passed (judgedJob _ _ _ _ _) (λ x. accepted (resultsOf x (b .0 .levels .weights) (b .0 .levels .heights))) (b .2) in
+      judging.accepted-none _ _ _ _ _ (g .0) n p (g .1) (read-applies (b .0) n p (b .1) a)

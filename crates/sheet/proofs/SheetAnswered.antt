@@ -70,7 +70,7 @@ said-taken (accepted r) c v f n e m =
 said-taken (refused k p) c v f n e m = absurd (never (ap said (sym (ap (λ (x : SheetRead). x .answer) e) ∙ m)))
 
 -- ---- the listing, by what the code holds
--- one level more than a job may have is as many as there are: both are refused by their count
+-- the job of the levels that are kept is the job of all: where some are not kept, both are refused by their count
 kept-job : (v : SiteValues) (f : FrameValues) (ws hs : List ℕ) → length hs ≡ length ws
     → jobOf v f (kept ws) (kept hs) (length (kept ws)) ≡ jobOf v f ws hs (length ws)
 kept-job v f ws hs same = go (leb (length ws) 50) refl
@@ -136,6 +136,5 @@ module _ (s : List ℕ) (c : SheetRead) (e : c ≡ sheetRead (readSheet s)) wher
           heights-room = omega (arith, ap length (held .heights), kept-length (zeros keptMost) hs, length-take keptMost hs, as-many);
           weights-length = ap length weights-cut ∙ held .count;
           heights-length = ap length heights-cut ∙ as-many;
-          listed =
-              sheet-job s (held .read) (held .is) (held .site) (held .frame) weights-cut heights-cut same;
+          listed = sheet-job s (held .read) (held .is) (held .site) (held .frame) weights-cut heights-cut same;
         }
