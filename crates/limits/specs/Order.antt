@@ -5,8 +5,8 @@
 --                 all that are, so each number must stand there
 --   Before m n    m is judged before n
 --   NoLater m n   m is judged no later than n
--- That these sentences hold of it: `lowest-first`, `sheet-first` (proofs/Ascending.antt). That jobs and logs are judged in it: their
--- `first-number`; a sheet's 17 and 16 come before its job by what `sheetListing` is.
+-- That these sentences hold of it: `lowest-first`, `sheet-first` (proofs/Ascending.antt). That jobs, logs and sheets are judged in it:
+-- their `first-number`.
 use mathlib.Core.List.{List, [], _∷_}
 use Prim.Native.Nat.{ℕ, suc, _≤_, _<_}
 use lib.Dec.{eqb}
