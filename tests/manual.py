@@ -5,7 +5,7 @@ usage: python3 -m tests.manual
 - each page that tests/writes/manual.py fills is what it writes, byte for byte, and what such a page says in digits of its own is a constant
 - each field of a sheet has the range of the model, its line has that many fields, and classes and kinds have the model's coefficients
 - each refusal from 1 to 17 has a row, its ranges are the model's, and its example gets what the row says
-- each rule is rounded to the side that the page names
+- each rule, worked out as the page writes it, gives the model's number, and is rounded to the side that the page names
 - sheet and listing are those of examples/ wherever they are shown, README.md included; every page is in the list of pages
 
 It prints what is wrong and one line of counts, and exits with 1 where anything is.
@@ -50,13 +50,17 @@ def tenths(numbers):
     return ', '.join(f'{number // 10_000}.{number % 10_000 // 1000}' for number in numbers)
 
 
+# name, unit and range of each field
 FIELDS = {
-    'Line 1: `site`': (('S_S D', listed(limits.S_S_DESIGN)), ('S_1 D', listed(limits.S_1_DESIGN)), ('S_S M', listed(limits.S_S_MCE)),
-                       ('S_1 M', listed(limits.S_1_MCE)), ('N_A', ranged(limits.N_A)), ('N_V', ranged(limits.N_V)),
-                       ('class', listed(limits.CLASS))),
-    'Line 2: `frame`': (('kind', listed(limits.KIND)), ('calculated period', '0 for none, ' + ranged(limits.CALCULATED_PERIOD[1:])),
-                        ('R', ranged(limits.R_RANGE)), ('I', listed(limits.I_VALUES)), ('alpha-y', ranged(limits.ALPHA_Y))),
-    'Every later line: `level`': (('weight', ranged(limits.WEIGHT)), ('height', ranged(limits.HEIGHT) + ', each above the level below')),
+    'Line 1: `site`': (
+        ('S_S D', '0.01 g', listed(limits.S_S_DESIGN)), ('S_1 D', '0.01 g', listed(limits.S_1_DESIGN)),
+        ('S_S M', '0.01 g', listed(limits.S_S_MCE)), ('S_1 M', '0.01 g', listed(limits.S_1_MCE)), ('N_A', '0.01', ranged(limits.N_A)),
+        ('N_V', '0.01', ranged(limits.N_V)), ('class', 'number', listed(limits.CLASS))),
+    'Line 2: `frame`': (
+        ('kind', 'number', listed(limits.KIND)), ('calculated period', 'ms', '0 for none, ' + ranged(limits.CALCULATED_PERIOD[1:])),
+        ('R', '0.01', ranged(limits.R_RANGE)), ('I', '0.01', listed(limits.I_VALUES)), ('alpha-y', '0.01', ranged(limits.ALPHA_Y))),
+    'Every later line: `level`': (
+        ('weight', 'kN', ranged(limits.WEIGHT)), ('height', 'dm (0.1 m)', ranged(limits.HEIGHT) + ', each above the level below')),
 }
 LAYOUTS = (sheet.SITE, sheet.FRAME, sheet.LEVEL)
 # what the row of each refusal must say
@@ -98,18 +102,31 @@ def filled():
         yield not own, f'tests/writes/pages/{name}: says {own} in digits of its own'
 
 
+def velocities():
+    """The average velocities of the three classes, by what one measured layer gets."""
+    classed = {v: soil.log([soil.THICKNESS_SUM], [soil.MEASURED], [v]).cls for v in range(1000, 4000)}
+    low, high = (min(v for v, cls in classed.items() if cls == soil.NORMAL), max(v for v, cls in classed.items() if cls == soil.NORMAL))
+    return [f'above {high // 10} m/s', f'{low // 10} to {high // 10} m/s', f'below {low // 10} m/s']
+
+
 def fields():
     """The fields of a sheet."""
     text = page('sheet.md')
     for (heading, wanted), layout in zip(FIELDS.items(), LAYOUTS):
-        found = [(row[0], row[3]) for row in rows(text, heading)]
+        found = [(row[0], row[2], row[3]) for row in rows(text, heading)]
         yield found == list(wanted), f'docs/manual/sheet.md: {heading}: {found}, wanted {list(wanted)}'
         yield len(found) == layout.groups, f'docs/manual/sheet.md: {heading}: {len(found)} fields'
     for row in rows(text, 'Site classes'):
         number = int(row[0])
         wanted = [tenths(sites.F_A[number]), tenths(sites.F_V[number])]
         yield row[3:] == wanted, f'docs/manual/sheet.md: class {number}: {row[3:]}, wanted {wanted}'
-    yield [int(row[0]) for row in rows(text, 'Site classes')] == list(limits.CLASS), 'docs/manual/sheet.md: classes'
+    classes = rows(text, 'Site classes')
+    yield [int(row[0]) for row in classes] == list(limits.CLASS), 'docs/manual/sheet.md: classes'
+    yield [row[2] for row in classes] == velocities(), f'docs/manual/sheet.md: wanted {velocities()}'
+    for name, columns in (('S_S', sites.S_S_COLUMNS), ('S_1', sites.S_1_COLUMNS)):
+        shown_as = [decimal(Fraction(column, 10_000), 4) for column in columns]
+        words = f'at {name} of ≤{", ".join(shown_as[:-1])}, ≥{shown_as[-1]} g'
+        yield words in text, f'docs/manual/sheet.md: does not say: {words}'
     for row in rows(text, 'Frame kinds'):
         c = decimal(Fraction(response.PERIOD_C[int(row[0])], 1000))
         yield row[2] == f'{c}·h^(3/4)', f'docs/manual/sheet.md: kind {row[0]}: {row[2]}'
@@ -200,9 +217,73 @@ def sides():
                                        for part, whole in zip(parts, storeys.shears(10_001, 30, weights, heights))])
 
 
+def value(formula, **names):
+    """What a formula of the rules comes to, in exact fractions."""
+    for sign, meant in (('·', '*'), ('−', '-'), ('(T in s)', 'T_s'), ('alpha-y', 'alpha_y'), ('⁴', '**4'), ('³', '**3'), ('≤', '<='),
+                        ('≥', '>=')):
+        formula = formula.replace(sign, meant)
+    exact = re.sub(r'(?<![\w.])\d+(?:\.\d+)?', lambda number: f"Fraction('{number[0]}')", formula)
+    return eval(exact, {'Fraction': Fraction}, names)       # of our own page
+
+
+def in_pieces(rule, number, **names):
+    """The value of 'X up to a; Y up to b; Z above' at a number."""
+    first, second, last = rule.split('; ')
+    for piece in (first, second):
+        formula, limit = piece.split(' up to ')
+        if number <= value(limit, **names):
+            return value(formula, **names)
+    return value(last.removesuffix(' above'), **names)
+
+
+def written_rules(rule):
+    """Each rule that is a formula, by what the page writes: (step, what it comes to, what the model has)."""
+    A, B, R, c, h = 72_000_000, 63_347_200, 477, 70, 114
+    T0, t = response.corner(A, B), response.approximate_period(2, h)
+    yield 'T0', value(rule['T0'], A=A, B=B), T0
+    both = rule['t'].split(' with ')[1].split(';')[0]
+    for height in limits.HEIGHT:
+        longest = response.approximate_period(2, height)
+        yield f't at {height}', [value(both, t=each, c=c, h=height) for each in (longest, longest + 1)], [True, False]
+    yield '14·t/10', floor(value('14·t/10', t=t)), response.period(t, limits.CALCULATED_PERIOD[-1])
+    for T in range(1, 2_500, 7):
+        names = {'A': Fraction(A), 'B': Fraction(B), 'T': Fraction(T), 'T0': T0, 'T_s': Fraction(T, 1000)}
+        pieces = [piece.split(': ') for piece in rule['Sa'].split('; ')]
+        formula = next(text for when, text in pieces if when == 'beyond' or value(when, **names))
+        yield f'Sa at {T}', value(formula, **names) / 10**8, response.spectrum_in_g(A, B, T)
+    design, mce = response.design_capacity(R), response.mce_capacity(R)
+    R_a = value(rule['capacity'].removeprefix('R_a = ').split(' for ')[0], R=Fraction(R, 100))
+    squares = re.findall(r'√\(([^)]*)\)', rule['root'])
+    yield 'capacity', (R_a, Fraction(R, 100)), (design[0], mce[0])
+    yield 'root', (value(squares[0], R_a=R_a), value(squares[1], R=Fraction(R, 100))), (design[1], mce[1])
+    bends = [value(each, T0=Fraction(1)) for each in re.findall(r'T ≥ (\S*T0):', rule['factor'])][::-1]
+    first = re.search(r'from (\d+) at T = 0', rule['factor'])
+    capacity, root = R_a, Fraction(response.lower_root(design[1]), response.UNIT)
+    for T in range(0, 1_500, 7):
+        corners = [(Fraction(0), Fraction(first[1])), *zip(bends, (root, root, capacity)), (Fraction(2), capacity)]
+        at = Fraction(T, 1000)
+        (x0, y0), (x1, y1) = next(pair for pair in zip(corners, corners[1:]) if at <= pair[1][0])
+        yield f'factor at {T}', y0 + (y1 - y0) * (at - x0) / (x1 - x0), response.factor(capacity, root, Fraction(1000), T)
+    p = rule['p'].split(': ')[1]
+    for q in range(1_000, 1_300_000, 9_999):
+        yield f'm at {q}', ceil(in_pieces(rule['m'], Fraction(q, 10**6), q=Fraction(q, 10**6)) * 10**6), response.modified_ratio(q)
+        yield f'p at {q}', ceil(in_pieces(p, q, Sa=q, F=1_234_567)), response.p_of_star(q, 1_234_567)
+    frame, W = limits.Frame(2, 0, R, 125, 151), 9_001
+    names = {'I': Fraction(frame.I, 100), 'alpha_y': Fraction(frame.alphay, 100), 'W': W * 1000, 'm': Fraction(292_321, 10**6)}
+    yield 'V, V_M', ceil(value(rule['V, V_M'], **names)), shears.V(frame, 292_321, W)
+    yield 'V*', ceil(value(rule['V*'], p=names['m'], **names)), shears.V_star(frame, 292_321, W)
+    yield 'F_t', ceil(value(rule['F_t'], T_s=Fraction(421, 1000), V_D=1_566_001)), storeys.F_t(421, 1_566_001)
+    shear = rule['shear under level x'].split(';')[0].removeprefix('F_t + ')
+    parts = storeys.products_above([3, 5, 7], [11, 13, 17])
+    got = [30 + ceil(value(shear, V_D=10_001, F_t=30, P_x=part, P=Fraction(parts[0]))) for part in parts]
+    yield 'shear under level x', got, storeys.shears(10_001, 30, [3, 5, 7], [11, 13, 17])
+
+
 def rules():
-    """The rules: their sides, and the constants of the period."""
+    """The rules: their formulas, their sides, and the constants of the period."""
     text = page('rules.md')
+    for step, got, wanted in written_rules({row[0]: row[1] for row in rows(text, '')}):
+        yield got == wanted, f'docs/manual/rules.md: {step}: {got}, wanted {wanted}'
     said = {row[0]: row[4] for row in rows(text, '')}
     for step, way in sides():
         name, _, which = step.partition(', ') if step.startswith(('root', 'factor')) else (step, '', '')
