@@ -28,7 +28,7 @@ OFFICE = (ROOT / 'examples' / 'office.sheet').read_bytes()
 # what a filled page says in digits of its own: constants of the rules, powers of ten, equations, sections, tables and limits of 000,
 # numbers of kinds and refusals, and the exponent of a pocket calculator
 OWN = {
-    'worked.md': '0.75 10,000',
+    'worked.md': '0.01 0.75 1 1.4 2 4.2 5 7 16 17 19 25 50 75 100 300 1400 4200 10,000',
     'soft_ground.md': '0.75 2',
     'rounding.md': '1 3 1.4 10 15',
     'soil.md': '0.1 1 2 3 2.1 10 13 15 18 27 30 180 270 800 1000',
