@@ -1,8 +1,8 @@
-"""Holds README.md and docs/*.md to the repository: no link, path or name leads to what is not there.
+"""Holds README.md, CHANGELOG.md, docs/*.md and docs/manual/*.md to the repository: no link, path or name leads to what is not there.
 
 usage: python3 -m tests.papers
 
-- every link leads to a file or folder
+- every link leads to a file or folder, and one to a heading (#..) to a heading of that file
 - every path that is named is there: below the root, crates/, the folder that the head of its table or section names, or the folder of
   the path before it
 - every name in backticks is declared somewhere; one with `::` in its crate and module; a theorem, and what a column 'definition',
@@ -21,8 +21,9 @@ import sys
 ROOT = pathlib.Path(__file__).resolve().parents[1]
 CRATES = ROOT / 'crates'
 LINK = re.compile(r'\[[^\]]*\]\(([^)#]+)(?:#[^)]*)?\)')
+ANCHOR = re.compile(r'\[[^\]]*\]\(([^)#]*)#([^)]*)\)')
 CODE = re.compile(r'`([^`]+)`')
-PATH = re.compile(r'(?<![\w./-])(?:[\w*.-]+/)*[\w*-]+\.(?:antt|rt|py|sh|h|c|md|txt|edit|sheet|listing)\b|(?<![\w./-])[\w*.-]+(?:/[\w*.-]+)+/?')
+PATH = re.compile(r'(?<![\w./-])(?:[\w*.-]+/)*[\w*-]+\.(?:antt|rt|py|sh|h|c|md|svg|txt|edit|sheet|listing)\b|(?<![\w./-])[\w*.-]+(?:/[\w*.-]+)+/?')
 WORD = re.compile(r'[A-Za-z_][\w·*₀-₉-]*(?:::[\w.*]+)*')
 # what stands for any crate or file
 STANDS_FOR_ANY = re.compile(r'^lib\.rt$|(^|/)(C|CRATE|NAME)(/|$)')
@@ -114,6 +115,10 @@ class Paper:
             self.counted['links'] += 1
             if not (self.path.parent / target).exists():
                 self.say(line, f'no such file: {target}')
+        for target, heading in ANCHOR.findall(text):
+            file = self.path.parent / target if target else self.path
+            if file.is_file() and heading not in headings(file):
+                self.say(line, f'no such heading: {target}#{heading}')
         self.modules(line, text)
         files = self.files(line, text)
         for place, cell in enumerate(cells):
@@ -201,6 +206,12 @@ class Paper:
             self.say(line, f'not declared: {code}')
 
 
+def headings(path):
+    """The headings of a file, as links name them."""
+    titles = re.findall(r'^#+ (.*)$', path.read_text(), re.M)
+    return {re.sub(r'[^\w -]', '', title).strip().lower().replace(' ', '-') for title in titles}
+
+
 def functions():
     """Public functions that docs/PROMISES.md does not name."""
     named, every, anywhere = set(), set(), set()
@@ -252,7 +263,8 @@ def edits():
 
 def main():
     """Check all, say what is wrong."""
-    papers = [Paper(path) for path in [ROOT / 'README.md', *sorted((ROOT / 'docs').glob('*.md'))]]
+    docs = ROOT / 'docs'
+    papers = [Paper(path) for path in [ROOT / 'README.md', ROOT / 'CHANGELOG.md', *sorted(docs.glob('*.md')), *sorted(docs.glob('manual/*.md'))]]
     for paper in papers:
         paper.check()
     wrong = [each for paper in papers for each in paper.wrong] + [*functions(), *edits()]

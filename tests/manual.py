@@ -1,0 +1,326 @@
+"""Holds docs/manual to the model: no number of a field, a refusal, a rule or a worked step is another than the model's.
+
+usage: python3 -m tests.manual
+
+- each page that tests/writes/manual.py fills is what it writes, byte for byte, and what such a page says in digits of its own is a constant
+- each field of a sheet has the range of the model, its line has that many fields, and classes and kinds have the model's coefficients
+- each refusal from 1 to 17 has a row, its ranges are the model's, and its example gets what the row says
+- each rule, worked out as the page writes it, gives the model's number, and is rounded to the side that the page names
+- sheet and listing are those of examples/ wherever they are shown, README.md included; every page is in the list of pages
+
+It prints what is wrong and one line of counts, and exits with 1 where anything is.
+"""
+
+import pathlib
+import re
+import sys
+from fractions import Fraction
+from math import ceil, floor
+
+from tests.model import limits, response, sheet, shears, site as sites, soil, storeys
+from tests.writes import manual
+from tests.writes.by_hand import comma, decimal, read
+from tests.writes.manual import ranged
+
+ROOT = pathlib.Path(__file__).resolve().parents[1]
+MANUAL = ROOT / 'docs' / 'manual'
+OFFICE = (ROOT / 'examples' / 'office.sheet').read_bytes()
+# what a filled page says in digits of its own: constants of the rules, powers of ten, equations, sections, tables and limits of 000,
+# numbers of kinds and refusals, and the exponent of a pocket calculator
+OWN = {
+    'worked.md': '0.01 0.75 1 1.4 2 4.2 5 7 16 17 19 25 50 75 100 300 1400 4200 10,000',
+    'soft_ground.md': '0.75 2',
+    'rounding.md': '1 3 1.4 10 15',
+    'soil.md': '0.1 1 2 3 2.1 10 13 15 18 27 30 180 270 800 1000',
+}
+
+
+def listed(values):
+    """Allowed values in words."""
+    return ', '.join(map(str, values))
+
+
+def either(values):
+    """Allowed values in words, in a sentence."""
+    return f'{listed(values[:-1])} or {values[-1]}'
+
+
+def tenths(numbers):
+    """Ten-thousandths with one digit."""
+    return ', '.join(f'{number // 10_000}.{number % 10_000 // 1000}' for number in numbers)
+
+
+# name, unit and range of each field
+FIELDS = {
+    'Line 1: `site`': (
+        ('S_S D', '0.01 g', listed(limits.S_S_DESIGN)), ('S_1 D', '0.01 g', listed(limits.S_1_DESIGN)),
+        ('S_S M', '0.01 g', listed(limits.S_S_MCE)), ('S_1 M', '0.01 g', listed(limits.S_1_MCE)), ('N_A', '0.01', ranged(limits.N_A)),
+        ('N_V', '0.01', ranged(limits.N_V)), ('class', 'number', listed(limits.CLASS))),
+    'Line 2: `frame`': (
+        ('kind', 'number', listed(limits.KIND)), ('calculated period', 'ms', '0 for none, ' + ranged(limits.CALCULATED_PERIOD[1:])),
+        ('R', '0.01', ranged(limits.R_RANGE)), ('I', '0.01', listed(limits.I_VALUES)), ('alpha-y', '0.01', ranged(limits.ALPHA_Y))),
+    'Every later line: `level`': (
+        ('weight', 'kN', ranged(limits.WEIGHT)), ('height', 'dm (0.1 m)', ranged(limits.HEIGHT) + ', each above the level below')),
+}
+LAYOUTS = (sheet.SITE, sheet.FRAME, sheet.LEVEL)
+# what the row of each refusal must say
+SAID = {
+    1: [f'more than {limits.LEVELS[-1]}', ranged(limits.LEVELS)], 3: [ranged(limits.WEIGHT) + ' kN'], 4: [ranged(limits.HEIGHT) + ' dm'],
+    5: ['1 S_S D, 2 S_1 D, 3 S_S M, 4 S_1 M'], 6: ['1 N_A, 2 N_V', 'N_A ' + ranged(limits.N_A), 'N_V ' + ranged(limits.N_V)],
+    7: ['not ' + either(limits.CLASS)], 8: ['not ' + ranged(limits.R_RANGE)], 9: ['not ' + either(limits.I_VALUES)],
+    10: ['not ' + ranged(limits.ALPHA_Y)], 11: ['not ' + either(limits.KIND)], 12: [f'above {comma(limits.CALCULATED_PERIOD[-1])} ms'],
+    13: [f'more than {soil.LAYERS[-1]}'], 14: [],
+    15: ['not ' + either(tuple(soil.VALUE)), f'velocity {ranged(soil.VALUE[1])} dm/s', f'cohesive N {ranged(soil.VALUE[2])}',
+         f'cohesionless N {ranged(soil.VALUE[3])}'],
+    17: [f'more than {comma(sheet.MOST_BYTES)} bytes'],
+}
+
+
+def page(name):
+    """The text of a page."""
+    return (MANUAL / name).read_text()
+
+
+def rows(text, heading):
+    """The rows of the first table under a heading, without its head."""
+    lines = text.split(f'\n## {heading}\n')[1].split('\n') if heading else text.split('\n')
+    found = []
+    for line in lines:
+        if line.startswith('|'):
+            found.append([cell.strip() for cell in line.strip().strip('|').split('|')])
+        elif found:
+            break
+    return found[2:]
+
+
+def filled():
+    """Pages that are written, and what they say in digits of their own."""
+    for name, text in manual.written().items():
+        yield page(name) == text, f'docs/manual/{name}: not what python3 -m tests.writes.manual writes'
+        source = re.sub(r'\{\w+\}|\]\([^)]*\)|`[^`]*`|\bT0\b|\b[A-Z]_\w+|(?<!,)\b000\b', ' ', (manual.PAGES / name).read_text())
+        own = {number.rstrip('.,') for number in re.findall(r'\d[\d,.]*', source)} - set(OWN[name].split())
+        yield not own, f'tests/writes/pages/{name}: says {own} in digits of its own'
+
+
+def velocities():
+    """The average velocities of the three classes, by what one measured layer gets."""
+    classed = {v: soil.log([soil.THICKNESS_SUM], [soil.MEASURED], [v]).cls for v in range(1000, 4000)}
+    low, high = (min(v for v, cls in classed.items() if cls == soil.NORMAL), max(v for v, cls in classed.items() if cls == soil.NORMAL))
+    return [f'above {high // 10} m/s', f'{low // 10} to {high // 10} m/s', f'below {low // 10} m/s']
+
+
+def fields():
+    """The fields of a sheet."""
+    text = page('sheet.md')
+    for (heading, wanted), layout in zip(FIELDS.items(), LAYOUTS):
+        found = [(row[0], row[2], row[3]) for row in rows(text, heading)]
+        yield found == list(wanted), f'docs/manual/sheet.md: {heading}: {found}, wanted {list(wanted)}'
+        yield len(found) == layout.groups, f'docs/manual/sheet.md: {heading}: {len(found)} fields'
+    for row in rows(text, 'Site classes'):
+        number = int(row[0])
+        wanted = [tenths(sites.F_A[number]), tenths(sites.F_V[number])]
+        yield row[3:] == wanted, f'docs/manual/sheet.md: class {number}: {row[3:]}, wanted {wanted}'
+    classes = rows(text, 'Site classes')
+    yield [int(row[0]) for row in classes] == list(limits.CLASS), 'docs/manual/sheet.md: classes'
+    yield [row[2] for row in classes] == velocities(), f'docs/manual/sheet.md: wanted {velocities()}'
+    for name, columns in (('S_S', sites.S_S_COLUMNS), ('S_1', sites.S_1_COLUMNS)):
+        shown_as = [decimal(Fraction(column, 10_000), 4) for column in columns]
+        words = f'at {name} of ≤{", ".join(shown_as[:-1])}, ≥{shown_as[-1]} g'
+        yield words in text, f'docs/manual/sheet.md: does not say: {words}'
+    for row in rows(text, 'Frame kinds'):
+        c = decimal(Fraction(response.PERIOD_C[int(row[0])], 1000))
+        yield row[2] == f'{c}·h^(3/4)', f'docs/manual/sheet.md: kind {row[0]}: {row[2]}'
+    yield [int(row[0]) for row in rows(text, 'Frame kinds')] == list(limits.KIND), 'docs/manual/sheet.md: kinds'
+    moment = decimal(Fraction(read(OFFICE).moments[0], 10_000), 2)
+    longest = response.period(response.approximate_period(1, limits.HEIGHT[-1]), limits.CALCULATED_PERIOD[-1])
+    for words in (f'the last moment is {moment} kN·m', f'{ranged(limits.LEVELS)} levels', f'at most {comma(sheet.MOST_BYTES)} bytes',
+                  f'T from 1 ms to {comma(longest)} ms', f'to {manual.heaviest()["most_V_D"]} N'):
+        yield words in text, f'docs/manual/sheet.md: does not say: {words}'
+
+
+def answer(example):
+    """What the model answers to the example of a refusal."""
+    line = re.match(r'line (\d+) `([^`]*)`$', example)
+    layers = re.match(r'log `([^`]*)`$', example)
+    if line:
+        changed = OFFICE.decode().split('\n')
+        changed[int(line[1]) - 1] = line[2].replace(' ', '\t')
+        return sheet.shear('\n'.join(changed).encode()).decode().split()
+    if layers:
+        log = [tuple(map(int, layer.split())) for layer in layers[1].split(',')]
+        return list(map(str, soil.log(*map(list, zip(*log)))))
+    first = '\n'.join(OFFICE.decode().split('\n')[:2]) + '\n'
+    if example == '51 `level` lines':
+        return sheet.shear((first + ''.join(f'level\t1\t{height}\n' for height in range(1, 52))).encode()).decode().split()
+    if example == '4,097 bytes':
+        return sheet.shear(OFFICE.ljust(4_097, b'\n')).decode().split()
+    if example == '3 weights, 2 heights':
+        return ['refused', *map(str, limits.judge((80, 45, 100, 55, 100, 100, 1), (2, 1000, 480, 100, 150), [1] * 3, [1] * 2))]
+    if example == 'log of 41 layers':
+        return list(map(str, soil.log([1] * 41, [3] * 41, [10] * 41)))
+    return None
+
+
+def refusals():
+    """The refusals: one row at least for each, and what it says."""
+    text = page('refusals.md')
+    found = rows(text, '')
+    yield sorted({int(row[0]) for row in found}) == list(range(1, 18)), 'docs/manual/refusals.md: not each of 1 to 17'
+    for number, place, wrong, to_do, example in found:
+        said = re.match(r'(.*): `(refused \d+ \d+)`$', example)
+        got = answer(said[1]) if said else None
+        yield bool(got) and ' '.join(got) == said[2], f'docs/manual/refusals.md: {number}: {example}: {got}'
+        yield bool(said) and said[2].split()[1] == number, f'docs/manual/refusals.md: {number}: its example is of another'
+        yield (place == '0') == (bool(said) and said[2].split()[2] == '0'), f'docs/manual/refusals.md: {number}: its place'
+        for words in SAID.get(int(number), []):
+            yield words in f'{place}; {wrong}; {to_do}', f'docs/manual/refusals.md: {number}: does not say: {words}'
+    whole = ' '.join(row[2] for row in found if row[0] == '14')
+    yield f'{comma(soil.THICKNESS_SUM)} cm' in whole, 'docs/manual/refusals.md: 14: the depth'
+
+
+def side(pairs):
+    """To which side pairs of an exact and a whole number are rounded; pairs that are equal say nothing."""
+    ways = {'up' if whole == ceil(exact) else 'down' if whole == floor(exact) else 'otherwise' for exact, whole in pairs if exact != whole}
+    assert len(ways) == 1, ways
+    return ways.pop()
+
+
+def sides():
+    """Each step of the rules that rounds, with how the model rounds it, on a job where nothing comes out whole."""
+    T, T0, R = 421, Fraction(1000 * 63_347_200, 72_000_001), 477
+    capacity, square = response.design_capacity(R)
+    unit, frame = response.UNIT, limits.Frame(2, 0, R, 125, 151)
+    low, high = response.lower_root(square), response.upper_root(square)
+    root = Fraction(response.lower_root(square, 10**15), 10**15) * unit
+    line = [(Fraction(each, unit), T0 * 7 / 10) for each in (low, high)]
+    per = Fraction(frame.I * 9_001, 1400 * frame.alphay)
+    weights, heights = [3, 5, 7], [11, 13, 17]
+    parts = storeys.products_above(weights, heights)
+    yield 't', side([(Fraction(8973047, 10_000), response.approximate_period(2, 300))])
+    yield '14·t/10', side([(Fraction(14 * 897, 10), response.period(897, 9_999))])
+    yield 'Sa', side([(response.spectrum_in_g(72_000_001, 63_347_200, each) * unit, response.spectrum(72_000_001, 63_347_200, each))
+                      for each in (7, T, 1_001, 3_001)])
+    yield 'root, lower', side([(root, low)])
+    yield 'root, upper', side([(root, high)])
+    yield 'factor, lower', side([(response.factor(capacity, line[0][0], T0, line[0][1]) * unit,
+                                  response.lower_factor(capacity, square, T0, line[0][1]))])
+    yield 'factor, upper', side([(response.factor(capacity, line[1][0], T0, line[1][1]) * unit,
+                                  response.upper_factor(capacity, square, T0, line[1][1]))])
+    yield 'q', side([(Fraction(unit * 720_001, low), response.ratio(720_001, low))])
+    yield 'm', side([(Fraction(52 * q, 100) + 144_000, response.modified_ratio(q)) for q in (400_001, 700_001)]
+                    + [(Fraction(7 * 900_001, 10), response.modified_ratio(900_001))])
+    yield 'V, V_M', side([(per * 292_321, shears.V(frame, 292_321, 9_001))])
+    yield 'p', side([(Fraction(52 * 720_001, 100) + Fraction(144 * 1_463_061, 1000), response.p_of_star(720_001, 1_463_061))])
+    yield 'V*', side([(per * 720_001 / 3, shears.V_star(frame, 720_001, 9_001))])
+    yield 'F_t', side([(Fraction(7 * T * 1_566_001, 100_000), storeys.F_t(T, 1_566_001))])
+    yield 'shear under level x', side([(Fraction((10_001 - 30) * part, parts[0]), whole - 30)
+                                       for part, whole in zip(parts, storeys.shears(10_001, 30, weights, heights))])
+
+
+def value(formula, **names):
+    """What a formula of the rules comes to, in exact fractions."""
+    for sign, meant in (('·', '*'), ('−', '-'), ('(T in s)', 'T_s'), ('alpha-y', 'alpha_y'), ('⁴', '**4'), ('³', '**3'), ('≤', '<='),
+                        ('≥', '>=')):
+        formula = formula.replace(sign, meant)
+    exact = re.sub(r'(?<![\w.])\d+(?:\.\d+)?', lambda number: f"Fraction('{number[0]}')", formula)
+    return eval(exact, {'Fraction': Fraction}, names)       # of our own page
+
+
+def in_pieces(rule, number, **names):
+    """The value of 'X up to a; Y up to b; Z above' at a number."""
+    first, second, last = rule.split('; ')
+    for piece in (first, second):
+        formula, limit = piece.split(' up to ')
+        if number <= value(limit, **names):
+            return value(formula, **names)
+    return value(last.removesuffix(' above'), **names)
+
+
+def written_rules(rule):
+    """Each rule that is a formula, by what the page writes: (step, what it comes to, what the model has)."""
+    A, B, R, c, h = 72_000_000, 63_347_200, 477, 70, 114
+    T0, t = response.corner(A, B), response.approximate_period(2, h)
+    yield 'T0', value(rule['T0'], A=A, B=B), T0
+    both = rule['t'].split(' with ')[1].split(';')[0]
+    for height in limits.HEIGHT:
+        longest = response.approximate_period(2, height)
+        yield f't at {height}', [value(both, t=each, c=c, h=height) for each in (longest, longest + 1)], [True, False]
+    yield '14·t/10', floor(value('14·t/10', t=t)), response.period(t, limits.CALCULATED_PERIOD[-1])
+    for T in range(1, 2_500, 7):
+        names = {'A': Fraction(A), 'B': Fraction(B), 'T': Fraction(T), 'T0': T0, 'T_s': Fraction(T, 1000)}
+        pieces = [piece.split(': ') for piece in rule['Sa'].split('; ')]
+        formula = next(text for when, text in pieces if when == 'beyond' or value(when, **names))
+        yield f'Sa at {T}', value(formula, **names) / 10**8, response.spectrum_in_g(A, B, T)
+    design, mce = response.design_capacity(R), response.mce_capacity(R)
+    R_a = value(rule['capacity'].removeprefix('R_a = ').split(' for ')[0], R=Fraction(R, 100))
+    squares = re.findall(r'√\(([^)]*)\)', rule['root'])
+    yield 'capacity', (R_a, Fraction(R, 100)), (design[0], mce[0])
+    yield 'root', (value(squares[0], R_a=R_a), value(squares[1], R=Fraction(R, 100))), (design[1], mce[1])
+    bends = [value(each, T0=Fraction(1)) for each in re.findall(r'T ≥ (\S*T0):', rule['factor'])][::-1]
+    first = re.search(r'from (\d+) at T = 0', rule['factor'])
+    capacity, root = R_a, Fraction(response.lower_root(design[1]), response.UNIT)
+    for T in range(0, 1_500, 7):
+        corners = [(Fraction(0), Fraction(first[1])), *zip(bends, (root, root, capacity)), (Fraction(2), capacity)]
+        at = Fraction(T, 1000)
+        (x0, y0), (x1, y1) = next(pair for pair in zip(corners, corners[1:]) if at <= pair[1][0])
+        yield f'factor at {T}', y0 + (y1 - y0) * (at - x0) / (x1 - x0), response.factor(capacity, root, Fraction(1000), T)
+    p = rule['p'].split(': ')[1]
+    for q in range(1_000, 1_300_000, 9_999):
+        yield f'm at {q}', ceil(in_pieces(rule['m'], Fraction(q, 10**6), q=Fraction(q, 10**6)) * 10**6), response.modified_ratio(q)
+        yield f'p at {q}', ceil(in_pieces(p, q, Sa=q, F=1_234_567)), response.p_of_star(q, 1_234_567)
+    frame, W = limits.Frame(2, 0, R, 125, 151), 9_001
+    names = {'I': Fraction(frame.I, 100), 'alpha_y': Fraction(frame.alphay, 100), 'W': W * 1000, 'm': Fraction(292_321, 10**6)}
+    yield 'V, V_M', ceil(value(rule['V, V_M'], **names)), shears.V(frame, 292_321, W)
+    yield 'V*', ceil(value(rule['V*'], p=names['m'], **names)), shears.V_star(frame, 292_321, W)
+    yield 'F_t', ceil(value(rule['F_t'], T_s=Fraction(421, 1000), V_D=1_566_001)), storeys.F_t(421, 1_566_001)
+    shear = rule['shear under level x'].split(';')[0].removeprefix('F_t + ')
+    parts = storeys.products_above([3, 5, 7], [11, 13, 17])
+    got = [30 + ceil(value(shear, V_D=10_001, F_t=30, P_x=part, P=Fraction(parts[0]))) for part in parts]
+    yield 'shear under level x', got, storeys.shears(10_001, 30, [3, 5, 7], [11, 13, 17])
+
+
+def rules():
+    """The rules: their formulas, their sides, and the constants of the period."""
+    text = page('rules.md')
+    for step, got, wanted in written_rules({row[0]: row[1] for row in rows(text, '')}):
+        yield got == wanted, f'docs/manual/rules.md: {step}: {got}, wanted {wanted}'
+    said = {row[0]: row[4] for row in rows(text, '')}
+    for step, way in sides():
+        name, _, which = step.partition(', ') if step.startswith(('root', 'factor')) else (step, '', '')
+        wanted = f'{which} {name} {way}' if which else way
+        holds = wanted in said.get(name, '') if which else re.search(rf'\b{way}$', said.get(name, '')) is not None
+        yield holds, f'docs/manual/rules.md: {step}: {said.get(name)}, wanted {wanted}'
+    rounded = [step for step, words in said.items() if re.search(r'\b(up|down)\b', words)]
+    wanted = list(dict.fromkeys(step.split(', ')[0] if step.startswith(('root', 'factor')) else step for step, _ in sides()))
+    yield sorted(rounded) == sorted(wanted), f'docs/manual/rules.md: rounded are {rounded}, wanted {wanted}'
+    yield f'c = {listed(response.PERIOD_C.values())} for kinds 1 to 4' in text, 'docs/manual/rules.md: c'
+
+
+def shown():
+    """Sheets and listings wherever they are shown, and the list of pages."""
+    listing = (ROOT / 'examples' / 'office.listing').read_text()
+    for paper in (ROOT / 'README.md', MANUAL / 'sheet.md', MANUAL / 'worked.md'):
+        for name, text in (('sheet', OFFICE.decode()), ('listing', listing)):
+            yield f'```\n{text}```\n' in paper.read_text(), f'{paper.relative_to(ROOT)}: not the {name} of examples/office'
+    refused = (ROOT / 'examples' / 'refused.listing').read_text()
+    yield f'```\n{refused}```\n' in page('refusals.md'), 'docs/manual/refusals.md: not the listing of examples/refused'
+    contents = page('README.md')
+    for path in sorted(MANUAL.glob('*.md')):
+        title = path.read_text().split('# ', 1)[1].split('\n')[0]
+        yield path.name == 'README.md' or f'[{title}]({path.name})' in contents, f'docs/manual/README.md: no [{title}]({path.name})'
+
+
+def main():
+    """Check all, say what is wrong."""
+    count, wrong = 0, []
+    for check in (filled, fields, refusals, rules, shown):
+        for holds, words in check():
+            count += 1
+            wrong += [] if holds else [words]
+    print(*wrong, sep='\n', end='\n' if wrong else '')
+    print(f'{count} checks of the manual, {len(wrong)} wrong')
+    return 1 if wrong else 0
+
+
+if __name__ == '__main__':
+    sys.exit(main())

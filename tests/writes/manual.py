@@ -1,0 +1,159 @@
+"""Fills the pages of tests/writes/pages with the model's figures and writes them to docs/manual.
+
+usage: python3 -m tests.writes.manual
+
+A page says {name} where a figure, a table or a block of steps stands. What a page says in digits of its own is a constant of the rules, a
+number of the code's text, or a fact that PROMISES.md states.
+"""
+
+import pathlib
+import string
+from fractions import Fraction
+from math import ceil
+
+from tests.model import exact, limits, soil, storeys
+from tests.model.sheet import listing
+from tests.writes import by_hand
+from tests.writes.by_hand import code, comma, decimal, table
+
+ROOT = pathlib.Path(__file__).resolve().parents[2]
+PAGES, MANUAL = ROOT / 'tests' / 'writes' / 'pages', ROOT / 'docs' / 'manual'
+KINDS = {soil.MEASURED: 'measured', soil.COHESIVE: 'cohesive', soil.COHESIONLESS: 'cohesionless'}
+NEAR_270 = ([400, 600, 1000, 1000], [3, 2, 3, 1], [15, 20, 40, 3110])
+BELOW_270 = ([400, 600, 1000, 1000], [3, 2, 3, 1], [15, 20, 40, 3109])
+NEAR_180 = ([500, 700, 800, 1000], [2, 2, 3, 3], [2, 4, 10, 40])
+ABOVE_180 = ([500, 700, 800, 1000], [2, 2, 3, 3], [2, 4, 10, 41])
+CLOSEST = (([1000] * 3, [1] * 3, [1190, 7340, 7433]), ([1000] * 3, [1] * 3, [700, 5030, 25453]))
+
+
+def example(name):
+    """The bytes of an example, whose stored listing must be the model's."""
+    data = (ROOT / 'examples' / f'{name}.sheet').read_bytes()
+    stored = (ROOT / 'examples' / f'{name}.listing').read_bytes()
+    assert stored == listing(by_hand.read(data)), name
+    return data
+
+
+def ranged(numbers):
+    """A range in words."""
+    return f'{comma(numbers[0])} to {comma(numbers[-1])}'
+
+
+def average(log):
+    """The average velocity in m/s, (2), over the whole velocities."""
+    thicknesses, kinds, values = log
+    return Fraction(sum(thicknesses), 100) / sum(Fraction(d, 100) / Fraction(soil.velocity(kind, value), 10)
+                                                 for d, kind, value in zip(thicknesses, kinds, values))
+
+
+def near(log):
+    """A log as a table, and how it is classed."""
+    answer, rows = soil.log(*log), []
+    for place, (thickness, kind, value) in enumerate(zip(*log)):
+        v = answer.velocities[place]
+        shown = f'{comma(value)} dm/s' if kind == soil.MEASURED else f'N = {value}'
+        time = soil.time(thickness, v)
+        rows.append((comma(thickness), f'{kind} {KINDS[kind]}', shown, comma(v), decimal(time, 2)))
+    head = ('thickness, cm', 'kind', 'value', 'v, dm/s', 'time, ns')
+    name = by_hand.CLASS_NAMES[answer.cls]
+    hard, soft = ('<' if 27 * answer.U < 3 * 10**9 else 'is not <'), ('>' if 18 * answer.L > 3 * 10**9 else 'is not >')
+    lines = [f'U = {comma(answer.U)} ns, L = {comma(answer.L)} ns',
+             f'27 · U = {comma(27 * answer.U)} {hard} 3,000,000,000',
+             f'18 · L = {comma(18 * answer.L)} {soft} 3,000,000,000',
+             f'class {answer.cls}, {name}; the average is {decimal(average(log), 3)} m/s']
+    return table(head, rows) + '\n\n' + code(lines)
+
+
+def soil_names():
+    """What the page on soil logs names."""
+    rows = []
+    for log in CLOSEST:
+        answer = soil.log(*log)
+        layers = ', '.join(map(comma, log[2]))
+        rows.append((f'three measured layers of 10 m at {layers} dm/s', f'{decimal(average(log), 7)} m/s',
+                     f'{comma(answer.U)} ns', f'{comma(answer.L)} ns', by_hand.CLASS_NAMES[answer.cls]))
+    return {'near_270': near(NEAR_270), 'below_270': near(BELOW_270), 'near_180': near(NEAR_180), 'above_180': near(ABOVE_180),
+            'closest_table': table(('log', 'average', 'U', 'L', 'class'), rows),
+            'tenth_second': comma(3 * 10**9 // 27), 'layers': str(soil.LAYERS[-1]), 'depth': comma(soil.THICKNESS_SUM),
+            'measured': ranged(soil.VALUE[soil.MEASURED]), 'cohesive': ranged(soil.VALUE[soil.COHESIVE]),
+            'cohesionless': ranged(soil.VALUE[soil.COHESIONLESS]), 'cohesive_least': str(soil.VALUE[soil.COHESIVE][0])}
+
+
+def rounding_names():
+    """What the page on roundings names."""
+    worked, other = (by_hand.read(example(name)) for name in ('office', 'soft_ground'))
+    unit = exact.shear_unit(other) / other.s
+    frame = other.frame
+    _, above = exact.bounds(other)
+    F, q = other.design.lower_factor, other.q
+    of_lower_root = Fraction(other.s * other.design.spectrum, F)
+    rows = [('no rounding, root to 30 digits', decimal(above.V / unit, 3), decimal(above.V), ''),
+            ('root rounded down', decimal(of_lower_root, 3), decimal(of_lower_root * unit), decimal(of_lower_root * unit - above.V)),
+            ('q rounded up', comma(q), decimal(q * unit), decimal((q - of_lower_root) * unit)),
+            ('V rounded up', '', comma(other.V), decimal(other.V - q * unit))]
+    assert other.m == q and other.V == other.V_D and of_lower_root < q
+    I, alphay = decimal(Fraction(frame.I, 100)), decimal(Fraction(frame.alphay, 100))
+    millionth = code([f'{I} · {comma(other.W)} kN · 1000 / (1.4 · {alphay}) / 10⁶ = {decimal(unit)} N'])
+    shears = []
+    for name, each in (('worked sheet', worked), ('second sheet', other)):
+        below, _ = exact.bounds(each)
+        margin = 6 * exact.shear_unit(each) / each.s + 1
+        shears.append((name, 'V_D', comma(each.V_D), decimal(below.V_D), decimal(each.V_D - below.V_D), decimal(margin)))
+        for place in reversed(range(len(each.shears))):
+            least = below.storeys[place]
+            shears.append((name, f'storey {place + 1}', comma(each.shears[place]), decimal(least), decimal(each.shears[place] - least),
+                           decimal(margin + 2)))
+    return {'millionth': millionth, 'V_printed': comma(other.V), 'margin': decimal(6 * unit + 1), **heaviest(),
+            'V_steps': table(('', 'q, millionths', 'V, N', 'added, N'), rows),
+            'shears_table': table(('', '', 'printed', 'exact', 'above it by', 'less than'), shears), **alone(worked)}
+
+
+def heaviest():
+    """Six millionths of I*W/(1.4*alpha-y) for the heaviest building, and the largest V_D: 0.7 times the largest spectrum, 1.5 g, of
+    it at a factor of 1."""
+    W, I, alphay = limits.LEVELS[-1] * limits.WEIGHT[-1], limits.I_VALUES[-1], limits.ALPHA_Y[0]
+    unit = Fraction(I * W * 1000 * 10, 14 * alphay)
+    most = Fraction(7, 10) * Fraction(limits.S_S_MCE[-1] * limits.N_A[-1], 10**4) * unit
+    return {'heaviest': comma(round(6 * unit / 10**6)), 'most_V_D': comma(int(most))}
+
+
+def alone(worked):
+    """Forces rounded up one by one, and what they add up to."""
+    parts = storeys.products_above(worked.weights, worked.heights)
+    rows, total = [], 0
+    for place in reversed(range(len(parts))):
+        product = worked.weights[place] * worked.heights[place]
+        share = Fraction((worked.V_D - worked.F_t) * product, parts[0])
+        roof = worked.F_t if place == len(parts) - 1 else 0
+        total += ceil(share) + roof
+        rows.append((str(place + 1), decimal(share + roof), comma(ceil(share) + roof), comma(worked.forces[place])))
+    rows.append(('sum', comma(worked.V_D), comma(total), comma(sum(worked.forces))))
+    assert total != worked.V_D
+    below, _ = exact.bounds(worked)
+    lowest = below.storeys[0] - below.storeys[1]
+    assert worked.forces[0] < lowest and worked.shears[0] >= below.storeys[0]
+    return {'alone_table': table(('level', 'before rounding, N', 'rounded up alone, N', 'listing, N'), rows),
+            'forces_listed': ' + '.join(map(comma, reversed(worked.forces))) + f' = {comma(sum(worked.forces))}',
+            'lowest_force': comma(worked.forces[0]), 'lowest_exact': decimal(lowest)}
+
+
+def filled(page, names):
+    """A page with its names filled in; each is used."""
+    text = (PAGES / page).read_text()
+    used = {name for _, name, _, _ in string.Formatter().parse(text) if name is not None}
+    assert used <= names.keys(), used - names.keys()
+    head = f'<!-- Written by `python3 -m tests.writes.manual` from tests/writes/pages/{page}: change it there. -->\n'
+    return head + text.format_map(names)
+
+
+def written():
+    """Each page that is filled, by its name."""
+    pages = {'worked.md': by_hand.names(example('office')), 'soft_ground.md': by_hand.names(example('soft_ground')),
+             'rounding.md': rounding_names(), 'soil.md': soil_names()}
+    assert {path.name for path in PAGES.iterdir()} == pages.keys()
+    return {page: filled(page, names) for page, names in pages.items()}
+
+
+if __name__ == '__main__':
+    for each, content in written().items():
+        (MANUAL / each).write_text(content)

@@ -1,0 +1,302 @@
+"""Draws the pictures of the manual from the model's figures, and the storeys from the stored listing of the worked sheet.
+
+usage: python3 -m tests.writes.pictures         rewrites docs/manual/pictures
+       python3 -m tests.writes.pictures check   compares what it draws with the files there, byte for byte; exits with 1 on a difference
+"""
+
+import pathlib
+import sys
+from fractions import Fraction
+from xml.sax.saxutils import escape
+
+from tests.model import response, site as sites
+from tests.model.job import job
+
+ROOT = pathlib.Path(__file__).resolve().parents[2]
+PICTURES = ROOT / 'docs' / 'manual' / 'pictures'
+SHEET, LISTING = ROOT / 'examples' / 'office.sheet', ROOT / 'examples' / 'office.listing'
+BLUE, RED, GREEN, GREY, BLACK = '#0072b2', '#d55e00', '#00795a', '#707070', '#000000'
+CLASSES = ((1, 'hard', BLUE, ''), (2, 'normal', GREEN, '12 6'), (3, 'soft', RED, '3 5'))
+UNIT = response.UNIT
+
+
+def decimal(number, digits):
+    """A number of 0 or more to so many digits, without a float."""
+    parts = round(Fraction(number) * 10**digits)
+    return f'{parts // 10**digits}.{parts % 10**digits:0{digits}}'
+
+
+def at(number):
+    """A coordinate, to a tenth."""
+    return decimal(number, 1).removesuffix('.0')
+
+
+class Picture:
+    """Shapes and words on a white ground."""
+
+    def __init__(self, width, height, title):
+        self.width, self.height, self.parts = width, height, []
+        self.title = title
+
+    def line(self, points, colour=BLACK, width=1, dash=''):
+        """A line through points."""
+        dashed = f' stroke-dasharray="{dash}"' if dash else ''
+        path = ' '.join(f'{at(x)},{at(y)}' for x, y in points)
+        self.parts.append(f'<polyline points="{path}" fill="none" stroke="{colour}" stroke-width="{width}"{dashed}/>')
+
+    def dot(self, x, y, colour):
+        """A filled circle."""
+        self.parts.append(f'<circle cx="{at(x)}" cy="{at(y)}" r="5" fill="{colour}"/>')
+
+    def bar(self, x, y, width, height, colour, opacity=''):
+        """A filled rectangle."""
+        seen = f' fill-opacity="{opacity}"' if opacity else ''
+        self.parts.append(f'<rect x="{at(x)}" y="{at(y)}" width="{at(width)}" height="{at(height)}" fill="{colour}"{seen}/>')
+
+    def words(self, x, y, text, colour=BLACK, anchor='start', size=17, weight='', turned=False):
+        """A line of text; turned, it reads upward."""
+        bold = f' font-weight="{weight}"' if weight else ''
+        turn = f' transform="rotate(-90 {at(x)} {at(y)})"' if turned else ''
+        self.parts.append(f'<text x="{at(x)}" y="{at(y)}" fill="{colour}" text-anchor="{anchor}" font-size="{size}"{bold}{turn}>'
+                          f'{escape(text)}</text>')
+
+    def svg(self):
+        """The file."""
+        head = (f'<svg xmlns="http://www.w3.org/2000/svg" viewBox="0 0 {self.width} {self.height}" width="{self.width}" '
+                f'height="{self.height}" font-family="DejaVu Sans, Verdana, Arial, sans-serif">')
+        ground = f'<rect width="{self.width}" height="{self.height}" fill="#ffffff"/>'
+        return '\n'.join([head, f'<title>{escape(self.title)}</title>', ground, *self.parts, '</svg>']) + '\n'
+
+
+class Axes:
+    """A field of a picture with its two scales."""
+
+    def __init__(self, picture, box, across, up):
+        self.picture, (self.left, self.top, self.right, self.bottom) = picture, box
+        self.across, self.up = across, up
+
+    def point(self, x, y):
+        """Where a pair of numbers stands."""
+        return (self.left + Fraction(x) * (self.right - self.left) / self.across,
+                self.bottom - Fraction(y) * (self.bottom - self.top) / self.up)
+
+    def frame(self, x_words, y_words, x_ticks, y_ticks):
+        """Both axes, their ticks and what they are of."""
+        for tick, label in x_ticks:
+            x, _ = self.point(tick, 0)
+            self.picture.line([(x, self.top), (x, self.bottom)], '#dddddd')
+            self.picture.words(x, self.bottom + 24, label, anchor='middle')
+        for tick, label in y_ticks:
+            _, y = self.point(0, tick)
+            self.picture.line([(self.left, y), (self.right, y)], '#dddddd')
+            self.picture.words(self.left - 10, y + 6, label, anchor='end')
+        self.picture.line([(self.left, self.top), (self.left, self.bottom), (self.right, self.bottom)], BLACK, 2)
+        if x_words:
+            self.picture.words(Fraction(self.left + self.right, 2), self.bottom + 54, x_words, anchor='middle')
+        if y_words:
+            self.picture.words(self.left - 62, Fraction(self.top + self.bottom, 2), y_words, anchor='middle', turned=True)
+
+    def curve(self, points, colour, dash='', width=3):
+        """A line through pairs of numbers."""
+        self.picture.line([self.point(x, y) for x, y in points], colour, width, dash)
+
+    def dot(self, x, y, colour):
+        """A mark at a pair of numbers."""
+        self.picture.dot(*self.point(x, y), colour)
+
+    def words(self, x, y, text, right=0, down=0, **form):
+        """Words at a pair of numbers, moved by so much."""
+        x, y = self.point(x, y)
+        self.picture.words(x + right, y + down, text, **form)
+
+
+def tenths(last, step=1):
+    """Ticks from 0 to `last` tenths, with their labels."""
+    return [(Fraction(tick, 10), f'{tick // 10}.{tick % 10}') for tick in range(0, last + 1, step)]
+
+
+def spectrum():
+    """The design spectrum with its four branches, a curve a site class."""
+    mapped_S_S, mapped_S_1 = 60, 35
+    picture = Picture(960, 600, 'The design spectrum for the three site classes')
+    axes = Axes(picture, (90, 70, 930, 520), 3, Fraction(8, 10))
+    axes.frame('period T (s)', 'spectrum Sa (g)', tenths(30, 5), tenths(8))
+    for number, name, colour, dash in CLASSES:
+        A, B = sites.A_and_B(mapped_S_S, mapped_S_1, sites.NO_NEAR_FAULT, sites.NO_NEAR_FAULT, number)
+        T0 = response.corner(A, B)
+        corners = [T0 / 5, T0, T0 * 5 / 2]
+        times = sorted({*map(Fraction, range(1, 3001, 10)), *corners, Fraction(3000)})
+        axes.curve([(T / 1000, response.spectrum_in_g(A, B, T)) for T in times], colour, dash)
+        for T in corners:
+            axes.dot(T / 1000, response.spectrum_in_g(A, B, T), colour)
+        in_g, in_s = [decimal(Fraction(each, 10**8), 3) for each in (A, B)], decimal(T0 / 1000, 3)
+        words = f'class {number}, {name}: A = {in_g[0]} g, B = {in_g[1]} g, T0 = {in_s} s'
+        y = 92 + 26 * number
+        picture.line([(412, y - 6), (462, y - 6)], colour, 3, dash)
+        picture.words(472, y, words, size=16)
+    picture.words(412, 92, f'mapped S_S 0.{mapped_S_S} g, S_1 0.{mapped_S_1} g, N_A = N_V = 1.00', size=16)
+    picture.words(90, 36, 'Spectrum (4): four branches, dots at 0.2·T0, T0 and 2.5·T0', size=19, weight='bold')
+    axes.words(Fraction(5, 100), Fraction(37, 100), 'A(0.4 + 3T/T0)', right=12, down=30, colour=GREY)
+    axes.words(Fraction(36, 100), Fraction(54, 100), 'A', colour=GREY)
+    axes.words(Fraction(14, 10), Fraction(46, 100), 'B / T', colour=GREY)
+    axes.words(Fraction(25, 10), Fraction(34, 100), '0.4·A', colour=GREY)
+    return picture.svg()
+
+
+def factor():
+    """The reduction factor over T/T0 for R = 4.80, design and MCE."""
+    R = 480
+    picture = Picture(960, 600, 'The reduction factor over T/T0')
+    axes = Axes(picture, (90, 70, 930, 520), Fraction(14, 10), 6)
+    axes.frame('T / T0', 'reduction factor', tenths(14, 2), [(each, str(each)) for each in range(7)])
+    for name, (capacity, square), colour, dash in (
+            ('MCE', response.mce_capacity(R), RED, '12 6'), ('design', response.design_capacity(R), BLUE, '')):
+        root = Fraction(response.lower_root(square), UNIT)
+        places = [Fraction(0), Fraction(1, 5), Fraction(3, 5), Fraction(1), Fraction(14, 10)]
+        points = [(T, response.factor(capacity, root, Fraction(1), T)) for T in places]
+        axes.curve(points, colour, dash)
+        for x, y in points[1:4]:
+            axes.dot(x, y, colour)
+        shown = 'R_a' if name == 'design' else 'R'
+        above = -14 if name == 'MCE' else 28
+        axes.words(Fraction(2, 5), root, f'√(2{shown} − 1) = {decimal(root, 3)}', down=above, colour=colour, anchor='middle')
+        axes.words(Fraction(14, 10), capacity, f'{shown} = {decimal(capacity, 3)} ({name})', right=-8, down=above, colour=colour,
+                   anchor='end')
+    axes.words(0, 1, 'at T = 0: 1', right=14, down=24, colour=GREY)
+    picture.words(90, 36, 'Reduction factor (6), (16) for R = 4.80: bends at 0.2, 0.6 and 1.0', size=19, weight='bold')
+    return picture.svg()
+
+
+def modified():
+    """The modified ratio m over q with its three lines."""
+    picture = Picture(960, 600, 'The modified ratio over the ratio')
+    axes = Axes(picture, (90, 70, 930, 520), Fraction(12, 10), Fraction(9, 10))
+    axes.frame('q = Sa / lower factor', 'm', tenths(12, 2), tenths(9))
+    axes.curve([(0, 0), (Fraction(9, 10), Fraction(9, 10))], GREY, '2 6', 2)
+    bends = (0, 300_000, 800_000, 1_200_000)
+    for first, last, colour, words, place, right, down in (
+            (bends[0], bends[1], BLUE, 'm = q', 150_000, 24, 20),
+            (bends[1], bends[2], GREEN, 'm = 0.52·q + 0.144', 550_000, 30, 26),
+            (bends[2], bends[3], RED, 'm = 0.7·q', 1_000_000, 30, 30)):
+        ends = [(Fraction(q, UNIT), Fraction(response.modified_ratio(q), UNIT)) for q in (first, last)]
+        axes.curve(ends, colour, width=4)
+        axes.words(Fraction(place, UNIT), Fraction(response.modified_ratio(place), UNIT), words, right=right, down=down, colour=colour,
+                   size=18)
+    for q in bends[1:3]:
+        m = response.modified_ratio(q)
+        axes.dot(Fraction(q, UNIT), Fraction(m, UNIT), BLACK)
+        words = f'({decimal(Fraction(q, UNIT), 1)}, {decimal(Fraction(m, UNIT), 2)})'
+        axes.words(Fraction(q, UNIT), Fraction(m, UNIT), words, right=-12, down=-34, anchor='end')
+    axes.words(Fraction(86, 100), Fraction(86, 100), 'q itself', right=-16, down=0, colour=GREY, anchor='end')
+    picture.words(90, 36, 'Modified ratio (8), (18): three lines that meet at q = 0.3 and q = 0.8', size=19, weight='bold')
+    return picture.svg()
+
+
+def listing():
+    """Levels of the worked sheet, lowest first, as (height, force, shear, overturning), from the stored listing."""
+    heights = [int(line.split('\t')[2]) for line in SHEET.read_text().splitlines() if line.startswith('level')]
+    rows = [tuple(map(int, line.split('\t')[1:])) for line in LISTING.read_text().splitlines() if line.startswith('level')]
+    return [(heights[level - 1], force, shear, moment) for level, force, shear, moment in sorted(rows)]
+
+
+def storeys():
+    """Forces, shears and overturning moments of the worked sheet."""
+    levels = listing()
+    heights = [0] + [height for height, *_ in levels]
+    picture = Picture(1080, 600, 'Forces, shears and overturning moments of the worked sheet')
+    picture.words(40, 36, 'The worked sheet: three levels of 5,000 kN (examples/office.listing)', size=19, weight='bold')
+    top = 350
+    panels = ((110, 'force (N)', BLUE, 1), (440, 'shear (N)', GREEN, 2), (770, 'overturning (N·dm)', RED, 3))
+    for left, name, colour, column in panels:
+        largest = max(level[column] for level in levels)
+        axes = Axes(picture, (left, 90, left + 280, 510), 1, top)
+        for height in heights:
+            _, y = axes.point(0, height)
+            picture.line([(left, y), (left + 280, y)], '#dddddd')
+            if left == 110:
+                picture.words(left - 10, y + 6, str(height), anchor='end')
+        picture.line([(left, 90), (left, 510), (left + 280, 510)], BLACK, 2)
+        picture.words(left + 140, 546, name, anchor='middle', colour=colour, weight='bold')
+        share = Fraction(8, 10)
+        if column == 1:
+            for height, *figures in levels:
+                force = figures[0]
+                axes.curve([(0, height), (share * force / largest, height)], colour, width=10)
+                axes.words(0, height, f'{force:,}', right=8, down=-14)
+        elif column == 2:
+            for bottom, (height, _, shear, _) in zip(heights, levels):
+                x, y = axes.point(0, height)
+                across = 280 * share * shear / largest
+                _, low = axes.point(0, bottom)
+                picture.bar(x, y, across, low - y, colour, '0.3')
+                picture.line([(x, y), (x + across, y), (x + across, low)], colour, 3)
+                picture.words(x + 10, Fraction(y + low, 2) + 6, f'{shear:,}')
+        else:
+            points = [(share * moment / largest, bottom) for bottom, (_, _, _, moment) in zip(heights, levels)] + [(0, heights[-1])]
+            axes.curve(points, colour)
+            for (across, bottom), (_, _, _, moment) in zip(points, levels):
+                axes.dot(across, bottom, colour)
+                if across == share:
+                    axes.words(across, bottom, f'{moment:,}', right=-36, down=-14, anchor='end')
+                else:
+                    axes.words(across, bottom, f'{moment:,}', right=14, down=-10)
+    picture.words(40, 300, 'height above base (dm)', anchor='middle', turned=True)
+    picture.words(110, 582, 'A shear is that of the storey; a moment is about the bottom of its storey.', size=16)
+    return picture.svg()
+
+
+def classes():
+    """V, V_M, V* and V_D of the worked sheet, with the site class changed to 2 and 3."""
+    site, frame, *levels = [tuple(map(int, line.split('\t')[1:])) for line in SHEET.read_text().splitlines()]
+    weights, heights = [list(each) for each in zip(*levels)]
+    picture = Picture(960, 600, 'What the site class does to the base shear')
+    picture.words(130, 36, 'The worked sheet on a hard, a normal and a soft site', size=19, weight='bold')
+    axes = Axes(picture, (130, 70, 940, 520), 3, 2_000_000)
+    axes.frame('', '', [], [(each, f'{each:,}') for each in range(0, 2_000_001, 500_000)])
+    picture.words(24, 295, 'base shear (N)', anchor='middle', turned=True)
+    for number, name, _, _ in CLASSES:
+        result = job((*site[:-1], number), frame, weights, heights)
+        figures = (('V', result.V, BLUE), ('V_M', result.V_M, GREEN), ('V*', result.V_star, RED))
+        for place, (label, newtons, colour) in enumerate(figures):
+            left, _ = axes.point(number - 1, 0)
+            x, (_, y) = left + 9 + 84 * place, axes.point(0, newtons)
+            governs = newtons == result.V_D
+            picture.bar(x, y, 80, axes.bottom - y, colour, '' if governs else '0.35')
+            picture.words(x + 40, axes.bottom + 24, label, anchor='middle')
+            if governs:
+                picture.words(x + 80, y - 12, f'V_D = {newtons:,}', anchor='end', weight='bold')
+            else:
+                picture.words(x + 40, y - 10, f'{newtons:,}', size=15, anchor='middle')
+        x, _ = axes.point(number - Fraction(1, 2), 0)
+        picture.words(x, axes.bottom + 54, f'class {number}, {name}', anchor='middle', weight='bold')
+    return picture.svg()
+
+
+DRAWN = {'spectrum': spectrum, 'factor': factor, 'modified': modified, 'storeys': storeys, 'classes': classes}
+
+
+def wrong():
+    """Which files are not what is drawn, or are not drawn at all."""
+    for name, drawn in DRAWN.items():
+        file = PICTURES / f'{name}.svg'
+        if not file.exists() or file.read_bytes() != drawn().encode():
+            yield f'{file.relative_to(ROOT)}: not what python3 -m tests.writes.pictures draws'
+    for file in sorted(PICTURES.iterdir()):
+        if file.stem not in DRAWN or file.suffix != '.svg':
+            yield f'{file.relative_to(ROOT)}: nothing draws it'
+
+
+def main():
+    """Write the files, or compare them."""
+    if sys.argv[1:] == ['check']:
+        said = list(wrong())
+        print(*said, sep='\n', end='\n' if said else '')
+        print(f'{len(DRAWN)} pictures, {len(said)} wrong')
+        return 1 if said else 0
+    for name, drawn in DRAWN.items():
+        (PICTURES / f'{name}.svg').write_bytes(drawn().encode())
+    return 0
+
+
+if __name__ == '__main__':
+    sys.exit(main())
