@@ -234,6 +234,20 @@ def functions():
                 yield f'docs/PROMISES.md: does not name {crate}::{path.stem}::{name}'
 
 
+def applied(name, crate, edit):
+    """An edit whose old text does not stand once in its file."""
+    text = old = ''
+    for line in edit.split('\n'):
+        if line.startswith('file: '):
+            text = (crate / line[len('file: '):]).read_text()
+        if line.startswith('old: '):
+            old = line[len('old: '):]
+            if text.count(old) != 1:
+                yield f'{name}: its old text does not stand once: {old}'
+        if line.startswith('new: '):
+            text = text.replace(old, line[len('new: '):])
+
+
 def edits():
     """What docs/WRONG.md says of the must-fail edits, against those that there are."""
     text = (ROOT / 'docs' / 'WRONG.md').read_text()
@@ -255,6 +269,7 @@ def edits():
         crate, stem = name.split('/')
         edit = (CRATES / crate / 'must-fail' if name in gate else ROOT / 'tests' / 'tried' / crate) / f'{stem}.edit'
         changes = 'code' if 'file: src/' in edit.read_text() else 'definition'
+        yield from applied(name, CRATES / crate, edit.read_text())
         if any(changed != changes or bool(mark) != (name in tried) for changed, mark in marks):
             yield f"docs/WRONG.md: {name} changes the {changes}, and is {'' if name in tried else 'not '}one of tests/tried"
     for name in sorted((gate | tried) - listed.keys()):

@@ -1,8 +1,8 @@
 -- What hazards must be like, whatever made them: for their shears to be worked out in 64 bits, and for what is proved of V_D.
 --   Ready s h t       a hazard within the reach of spectrum and factor, at T
---   Shearing s k t    three such hazards, lines in thousandths, divisors of at most ten
---   Within v n x      x s-ths over n tenths come to at most v N, at the largest I and W and the smallest alpha-y
---   Bounded v k       no spectrum is above `most` s-ths, and V, V_M and V* of that are within v N: V_D is at most v N
+--   Shearing s k t    three such hazards, lines in thousandths, divisors of at most ten; a fine unit that 10,000 divides
+--   Within v n x      x units over n tenths come to at most v N, at the largest I and W and the smallest alpha-y
+--   Bounded v k       no spectrum is above `most` units, and V, V_M and V* of that are within v N: V_D is at most v N
 --   Reached k         ready at every period in use, in the unit in use; lines that meet; V* divided by no less than V and V_M;
 --                     a base shear that the storeys take
 use mathlib.Core.Path.{_≡_}

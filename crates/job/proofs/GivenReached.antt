@@ -1,6 +1,6 @@
 -- A judged job is within reach of the calculation: W in kN, the hazards, and what the storeys ask of levels, period and base
 -- shear. What is known of its site goes through `given-reached` and `given-bounded`.
---   Between n    V_D is 1 to 1,125,000,000 N and T is 1 to 6328 os
+--   Between n    V_D is 1 to 1,125,000,000 N and T is 1 to 6328 ms
 -- Assumes nothing.
 use mathlib.Core.Path.{sym}
 use mathlib.Core.List.{List}

@@ -12,11 +12,12 @@ use Rattle.limits.specs.Applies.{Applies, of-levels, of-site, of-frame}
 use Rattle.limits.specs.Frame.{judgedFrame}
 use Rattle.limits.specs.Judging.{judgedJob}
 use Rattle.limits.specs.Levels.{judgedLevels}
-use Rattle.limits.specs.Order.{NoLater}
+use Rattle.limits.specs.Order.{InOrder, NoLater}
 use Rattle.limits.specs.Outcome.{accepted, refused}
 use Rattle.limits.specs.Site.{judgedSite}
 use Rattle.limits.proofs.Precedence.{Stops, up-to-yields, stopped-number, stopped-place, first-stops, later-stops, bound-stops, value-stops}
 use Rattle.limits.proofs.Ascending.{lowest-first}
+use Rattle.limits.proofs.InOrder.{in-order}
 use Rattle.limits.proofs.LevelsStage.{levels-up-to, levels-stop}
 use Rattle.limits.proofs.SiteStage.{site-up-to, site-stops, site-later}
 use Rattle.limits.proofs.FrameStage.{frame-stops, frame-later}
@@ -39,6 +40,10 @@ module _ (s : SiteValues) (f : FrameValues) (ws hs : List ℕ) (room : ℕ) wher
       (up-to-yields 4 n q (judgedLevels ws hs room) (levels-up-to ws hs room) (omega (arith, after)))
       (λ _. value-stops n q (judgedSite s) _ (up-to-yields 7 n q (judgedSite s) (site-up-to s) after)
       (λ site. bound-stops n q (judgedFrame f) _ (frame-stops f n q a)))
+
+  -- every number that applies stands in the order
+  pub applies-in-order : (n p : ℕ) → Applies s f ws hs room n p → InOrder n
+  applies-in-order n p a = in-order n (let h = numbered a in omega arith)
 
   -- the first number that applies is given
   pub first-number : (n p m q : ℕ) → judgedJob s f ws hs room ≡ refused n p → Applies s f ws hs room m q → NoLater n m

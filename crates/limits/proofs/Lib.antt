@@ -8,6 +8,7 @@ pub mod Reading
 pub mod GivenApplies
 pub mod Precedence
 pub mod Ascending
+pub mod InOrder
 pub mod Refusing
 pub mod Places
 pub mod NotAllowed

@@ -1,15 +1,17 @@
 -- The order in which refusals are judged, apart from their numbers: 'The lowest number that applies is given'; '17, then 16, precede
 -- everything for a sheet'; 'for a log 2 precedes 13'.
 --   order         the numbers, those that are judged first in front: of a sheet, of a job and of a soil log
---   rank n        how many of them are judged before n; rankIn ms n    the same in a list ms. A number that is not in the list ranks after
---                 all that are, so each number must stand there
+--   rank n        how many of them are judged before n; rankIn ms n    the same in a list ms. A number that does not stand there
+--                 ranks after all that do
+--   InOrder n     n stands there
 --   Before m n    m is judged before n
 --   NoLater m n   m is judged no later than n
 -- That these sentences hold of it: `lowest-first`, `sheet-first` (proofs/Ascending.antt). That jobs, logs and sheets are judged in it:
--- their `first-number`.
+-- their `first-number`. That every number that applies stands there, and two at two places: `in-order`, `one-rank` (proofs/InOrder.antt).
 use mathlib.Core.List.{List, [], _∷_}
 use Prim.Native.Nat.{ℕ, suc, _≤_, _<_}
 use lib.Dec.{eqb}
+use lib.ListN.{length}
 use Rattle.whole.specs.Choice.{pick}
 
 abbrev pub order : List ℕ
@@ -21,6 +23,9 @@ rankIn (m ∷ ms) n = pick (eqb m n) 0 (suc (rankIn ms n))
 
 abbrev pub rank : ℕ → ℕ
 rank n = rankIn order n
+
+abbrev pub InOrder : ℕ → Type 0
+InOrder n = rank n < length order
 
 abbrev pub Before : ℕ → ℕ → Type 0
 Before m n = rank m < rank n

@@ -1,5 +1,5 @@
--- High and low fractions are there, for all hazards within reach: the whole roots over the unit are such. So nothing of demand 3
--- holds for want of any.
+-- High and low fractions are there, for all hazards within reach: the whole roots over the unit are such. So no part of demand 3
+-- is true just because there are none.
 --   lowered s k, raised s k    the whole roots of hazards k in s-ths, upper in V and V_M with lower in V*, and the other way
 -- Assumes nothing.
 use Prim.Native.Nat.{ℕ}

@@ -2,9 +2,10 @@
 --   FineUnit s       a divisor of 10⁸ up to 10⁷: millionths and ten-millionths among them
 --   Shape a b t      A and B to 2 g, T to 509,000 ms
 --   Thousandths l    lines whose constants are at most 1
---   Meeting l        lines that meet where they change, at a ratio of at most 1; the second rises, none is steeper than the
---                    first, and the last not steeper than 0.75
---   Ductile s c ρ    a capacity of 1 to 6 in whole thirds of the unit, a square of 1 to 11, and an upper root not above the capacity
+--   Meeting l        lines that meet where they change, at a ratio of at most 1; the second rises, not steeper than the last, and adds
+--                    at most a half; the last not steeper than 0.75
+--   Ductile s c ρ    a capacity of 1 to 6 in whole thirds of the unit, a square of 1 to 11, divisors of at most 1000, and an upper root
+--                    not above the capacity
 use mathlib.Core.Path.{_≡_}
 use Prim.Native.Nat.{ℕ, _+_, _*_, _/_, _≤_, _<_}
 use Rattle.whole.specs.declared.Fraction.{Fraction}

@@ -14,7 +14,7 @@ use Rattle.whole.specs.Cells.{sum}
 use Rattle.whole.proofs.Choice.{by-test}
 use Rattle.limits.specs.declared.class.Class.{Class}
 use Rattle.limits.specs.Levels.{paired}
-use Rattle.limits.specs.Order.{Before, NoLater}
+use Rattle.limits.specs.Order.{InOrder, Before, NoLater}
 use Rattle.limits.specs.Outcome.{accepted, refused, require, _>>=_, _>>_}
 use Rattle.limits.specs.Ranges.{within}
 use Rattle.soil.specs.declared.class.ClassLimits.{ClassLimits}
@@ -26,6 +26,7 @@ use Rattle.limits.proofs.Passed.{require-passed}
 use Rattle.soil.proofs.Refusing.{refused-applies}
 use Rattle.soil.proofs.Sound.{log-sound}
 use Rattle.limits.proofs.Ascending.{lowest-first}
+use Rattle.limits.proofs.InOrder.{in-order}
 use Rattle.limits.proofs.Precedence.{Ahead, Stops, Yields, stopped-number, stopped-place, first-stops, later-stops, bound-stops, value-stops, both-yield, require-yields, require-stops, within-yields, within-stops}
 
 -- ---- layers, one by one
@@ -141,6 +142,10 @@ numbered (depth o) = omega arith
 numbered (layer i h w) = omega arith
 
 module _ (l : ClassLimits) (ds ks xs : List ℕ) where
+  -- every number that applies stands in the order
+  pub applies-in-order : (n p : ℕ) → Applies ds ks xs n p → InOrder n
+  applies-in-order n p a = in-order n (let h = numbered a in omega arith)
+
   -- the first number that applies is given
   pub first-number : (n p m q : ℕ) → siteClass l ds ks xs ≡ refused n p → Applies ds ks xs m q → NoLater n m
   first-number n p m q e a = stopped-number m q n p (subst (Stops m q) e (stops ds ks xs l m q a))

@@ -1,4 +1,4 @@
--- Storeys (21). V in N, T in os, weights in kN, heights in dm, lowest level first; level x is counted from 0.
+-- Storeys (21). V in N, T in ms, weights in kN, heights in dm, lowest level first; level x is counted from 0.
 --   roofPart T            0.07·(T in s)
 --   RoofAtMostOne T       the roof part is at most one, so that F_t is a part of V
 --   roofForce T v         F_t = 0.07·(T in s)·V, up

@@ -75,7 +75,7 @@ length-small n h = ap length (decimal-small n h)
 pub length-big : (n : ℕ) → 10 ≤ n → n < 2 ^ 64 → length (decimal n) ≡ length (decimal (n / 10)) + 1
 length-big n h f = ap length (decimal-big n h f) ∙ length-append (decimal (n / 10)) ((48 + n % 10) ∷ [])
 
--- ---- a number written digit by digit, the last one first: a buffer that held old holds `held`, and is as it shall be when the
+-- ---- a number written digit by digit, the last one first: a buffer that held old holds `held`, and is as wanted when the
 -- digits of `rest` are written too, which end before p
 pub record Left (old : List ℕ) (at n : ℕ) (held : List ℕ) (rest p : ℕ) : Type 0 where
   pub goal : spliced held at (decimal rest) ≡ spliced old at (decimal n)

@@ -3,7 +3,7 @@
 --   printed v        A and B of the three hazards, t, T, the three spectra, lower root, lower factor, q and m of V and of V_M,
 --                    upper root, upper factor and p of V*, V, V_M, V*, V_D; then shears, forces and overturning moments
 --   exact v          V, V_M, V* and V_D at the fractions, then the storey shears
---   sameFraction a b one value, of two fractions with a divisor above 0: n/0 is the same as nothing
+--   sameFraction a b one value, of two fractions with a divisor above 0: n/0 agrees with no fraction
 --   agrees v         both are the model's
 use mathlib.Core.Bool.{Bool, true, false, _&&_}
 use mathlib.Core.List.{List, [], _∷_, _++_}

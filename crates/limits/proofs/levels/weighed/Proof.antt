@@ -12,8 +12,6 @@ use Rattle.limits.specs.Outcome.{verdictOutcome}
 use Rattle.limits.proofs.levels.weighed.Statement.{statement}
 use Rattle.limits.proofs.levels.weighed.Tie as tie
 
--- Assumes nothing.
-
 abbrev Inv-loop : tie.InvT-loop
 Inv-loop w i₀ i = (i ≤ length w) × (weighed 1 w ≡ weighed (i + 1) (drop i w))
 
