@@ -4,6 +4,7 @@ pub mod Stages
 pub mod Lists
 pub mod Unique
 pub mod Accepted
+pub mod Built
 pub mod Reading
 pub mod GivenApplies
 pub mod Precedence

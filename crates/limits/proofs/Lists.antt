@@ -4,13 +4,10 @@ use mathlib.Core.Path.{_≡_, refl, sym, ap, _∙_}
 use mathlib.Core.List.{List, [], _∷_}
 use Prim.Native.Nat.{ℕ, _+_, _<_}
 use native.Mathlib.Numerals.{add-one}
-use native.Mathlib.Omega.{arith}
 use lib.ListN.{length, getD, drop}
 use lib.Seq.{drop-cons, drop-length}
-use Rattle.limits.specs.declared.level.Level.{Level}
-use Rattle.limits.specs.Outcome.{Outcome, accepted, refused, Done, _>>=_, _>>_}
-use Rattle.limits.specs.Levels.{judgedWeight, weighed, judgedHeight, raised, judgedLevel}
-use Rattle.limits.proofs.Passed.{then-passed}
+use Rattle.limits.specs.Outcome.{accepted, _>>_}
+use Rattle.limits.specs.Levels.{judgedWeight, weighed, judgedHeight, raised}
 
 module _ (ws : List ℕ) (p i : ℕ) (h : i < length ws) where
   pub weights-step : weighed p (drop i ws) ≡ (judgedWeight (getD ws i 0) p >> weighed (p + 1) (drop (i + 1) ws))
@@ -29,26 +26,3 @@ module _ (hs : List ℕ) (b p i : ℕ) (h : i < length hs) where
 pub heights-end : (hs : List ℕ) (b p : ℕ) → raised b p (drop (length hs) hs) ≡ accepted tt
 unfolding raised
 heights-end hs b p = rw (drop-length hs)
-
--- ---- heights judged level by level, where the weights have passed
-module _ (ws : List ℕ) (p i : ℕ) (h : i < length ws) (e : weighed p (drop i ws) ≡ accepted tt) where
-  passed : (judgedWeight (getD ws i 0) p ≡ accepted tt) × (weighed (p + 1) (drop (i + 1) ws) ≡ accepted tt)
-  passed = then-passed (judgedWeight (getD ws i 0) p) (weighed (p + 1) (drop (i + 1) ws)) (sym (weights-step ws p i h) ∙ e)
-
-  pub weight-passed : judgedWeight (getD ws i 0) p ≡ accepted tt
-  weight-passed = passed .0
-
-  pub weights-go-on : weighed (p + 1) (drop (i + 1) ws) ≡ accepted tt
-  weights-go-on = passed .1
-
-  pub levels-step : (hs : List ℕ) (b : ℕ) → length hs ≡ length ws
-      → raised b p (drop i hs)
-      ≡ (judgedLevel b (getD ws i 0) (getD hs i 0) p >>= (λ l. raised (l .height) (p + 1) (drop (i + 1) hs)))
-  levels-step hs b same =
-      heights-step hs b p i (omega arith) ∙ simp weight-passed (built (λ height. raised height (p + 1) (drop (i + 1) hs)) (judgedHeight b (getD hs i 0) p))
-    where
-      built : (rest : ℕ → Outcome Done) (o : Outcome Done)
-          → (o >> rest (getD hs i 0))
-          ≡ ((o >> accepted (record { weight = getD ws i 0; height = getD hs i 0 })) >>= (λ (l : Level). rest (l .height)))
-      built rest (accepted u) = refl
-      built rest (refused n q) = refl

@@ -4,7 +4,7 @@ use crate::refusal::Refusal;
 use crate::refusal::Verdict;
 ghost use mathlib.Core.Path.{_≡_};
 ghost use Rattle.limits.specs.Levels.{judgedWeight, judgedHeight, judgedLevel, levelOutcome};
-ghost use Rattle.limits.specs.Outcome.{accepted, refusalOf, verdictOutcome};
+ghost use Rattle.limits.specs.Outcome.{refusalOf, verdictOutcome};
 
 // A level: its weight in kN, its height above the base in dm.
 pub struct Level {
@@ -80,11 +80,14 @@ impl Level {
         })
     }
 
-    // The level above a height: 4, where 3 has passed. In a job every weight is judged before any height, and none twice.
+    // 3, then 4, of one level above a height. A job judges its levels as lists, as every weight comes before any height.
     pub fn judged(below: u64, weight: u64, height: u64, place: u64) -> LevelAnswer
-        requires { ⌜ judgedWeight weight place ≡ accepted tt ⌝ }
         ensures { λ a. ⌜ levelOutcome a ≡ judgedLevel below weight height place ⌝ }
     {
+        let w = Self::judged_weight(weight, place);
+        let Verdict::Passed = w else {
+            return LevelAnswer::Refused(w.refusal());
+        };
         let h = Self::judged_height(below, height, place);
         let Verdict::Passed = h else {
             return LevelAnswer::Refused(h.refusal());

@@ -1,13 +1,12 @@
 // The levels of a job, judged together: 1 to 4.
 use crate::level::Level;
-use crate::level::LevelAnswer;
 use crate::ranges::within;
 use crate::refusal::Refusal;
 use crate::refusal::Verdict;
 ghost use mathlib.Core.Path.{_≡_};
 ghost use lib.ListN.{length};
 ghost use Rattle.limits.specs.Levels.{counted, paired, roomy, weighed, raised, judgedLevels};
-ghost use Rattle.limits.specs.Outcome.{accepted, verdictOutcome};
+ghost use Rattle.limits.specs.Outcome.{verdictOutcome};
 
 // 1: the number of levels.
 pub fn counted(levels: usize) -> Verdict
@@ -63,19 +62,19 @@ pub fn weighed(weights: &[u64]) -> Verdict
     Verdict::Passed
 }
 
-// 4: the heights. Each level is built above the one below it; its weight has passed, as every weight comes before any height.
-pub fn raised(weights: &[u64], heights: &[u64]) -> Verdict
-    requires { ⌜ (length (now heights) ≡ length (now weights)) × (weighed 1 (now weights) ≡ accepted tt) ⌝ }
+// 4: the heights.
+pub fn raised(heights: &[u64]) -> Verdict
     ensures { λ v. ⌜ verdictOutcome v ≡ raised 0 1 (now (heights .entry)) ⌝ }
 {
     let mut below = Level::BASE;
     let mut i = 0;
     while i < heights.len() {
-        let a = Level::judged(below, weights[i], heights[i], i as u64 + 1);
-        let LevelAnswer::Taken(level) = a else {
-            return Verdict::Refused(a.refusal());
+        let h = heights[i];
+        let v = Level::judged_height(below, h, i as u64 + 1);
+        let Verdict::Passed = v else {
+            return v;
         };
-        below = level.height;
+        below = h;
         i += 1;
     }
     Verdict::Passed
@@ -101,5 +100,5 @@ pub fn judged_levels(weights: &[u64], heights: &[u64], room: usize) -> Verdict
     let Verdict::Passed = weight else {
         return weight;
     };
-    raised(weights, heights)
+    raised(heights)
 }

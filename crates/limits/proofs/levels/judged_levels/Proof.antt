@@ -1,9 +1,7 @@
 -- `limits::levels::judged_levels` meets its contract. Assumes nothing.
 use borrow.Author.Needs.{needs}
-use borrow.Author.Tests.{eqb-true}
 use mathlib.Core.Path.{_≡_, ap}
 use lib.ListN.{length}
-use Rattle.limits.proofs.Passed.{require-passed}
 use Rattle.limits.proofs.Stages.{says}
 use Rattle.limits.specs.Levels.{counted, paired, roomy, weighed, judgedLevels}
 use Rattle.limits.specs.Outcome.{accepted, verdictOutcome}
@@ -83,7 +81,7 @@ returns-4 c =
     (ap verdictOutcome (c .enum-told8 .given .1))
 
 raised-requires : tie.Need-raised-requires
-raised-requires c κs = (eqb-true _ _ (require-passed _ 2 0 (paired-passed (c .before .before .before .before .before .before))), weighed-passed c)
+raised-requires c κs = search needs
 
 returns-5 : tie.Need-returns-5
 unfolding judgedLevels
