@@ -1,46 +1,89 @@
 -- What is replied is what the core answered to the lines' numbers; and no second reply meets the contracts.
 -- Assumes nothing.
-use mathlib.Core.Path.{_≡_, sym, ap, ap₂, _∙_}
-use mathlib.Core.List.{List}
+use mathlib.Core.Path.{_≡_, refl, sym, ap, ap₂, subst, _∙_}
+use mathlib.Core.List.{List, [], _∷_}
 use Prim.Native.Nat.{ℕ}
 use lib.ListN.{length}
+use Rattle.whole.proofs.Unique.{determined}
 use Rattle.limits.specs.declared.frame.FrameValues.{FrameValues}
+use Rattle.limits.specs.declared.refusal.Refusal.{Refusal}
 use Rattle.limits.specs.declared.site.SiteValues.{SiteValues}
+use Rattle.limits.specs.Outcome.{Outcome, accepted, refused, number, place, refusalOf}
 use Rattle.job.specs.declared.JobAnswer.{JobAnswer}
 use Rattle.job.specs.Job.{jobOf, figuresOnly, answerOutcome, Buffers, shortest, written, Figured, Answers}
 use Rattle.job.proofs.Calls.{answerOf, says-outcome}
-use Rattle.linked.specs.declared.FrameLine.{FrameLine}
-use Rattle.linked.specs.declared.JobReply.{JobReply}
-use Rattle.linked.specs.declared.SiteLine.{SiteLine}
-use Rattle.linked.specs.Linked.{siteValues, frameValues, jobReply, JobReplies, figuresReply}
+use Rattle.sheet.specs.declared.Put.{Put}
+use Rattle.sheet.specs.Listing.{outcomeOf, sheetListing, Puts}
+use Rattle.sheet.specs.Sheet.{siteValues, frameValues}
+use Rattle.linked.specs.Linked.{Replies, FiguresReply, JobReplies, FiguresReplies, LogReplies, SheetReplies}
 
-module _ (l : SiteLine) (m : FrameLine) (ws hs : List ℕ) where
-  pub job-replies : (s : SiteValues) (f : FrameValues) (b : Buffers) (a : JobAnswer) (b′ : Buffers) {r : JobReply} → s ≡ siteValues l
-      → f ≡ frameValues m → Answers s f ws hs b a b′ → r ≡ jobReply (answerOutcome a) → JobReplies l m ws hs b r b′
-  job-replies s f b a b′ es ef t e = (
-    e ∙ ap jobReply (t .0) ∙ ap₂ (λ (s : SiteValues) (f : FrameValues). jobReply (figuresOnly (jobOf s f ws hs (shortest b)))) es ef,
-    t .1 ∙ ap₂ (λ (s : SiteValues) (f : FrameValues). written (jobOf s f ws hs (shortest b)) b) es ef,
-  )
+-- ---- a reply to an outcome is one to an equal outcome, and there is no second
+module _ {A : Type 0} {f : A → List ℕ} {k : ℕ} where
+  pub replies-as : {o o′ : Outcome A} {n : ℕ} {r : List ℕ} → o ≡ o′ → Replies f k o n r → Replies f k o′ n r
+  replies-as {o} {o′} {n} {r} e t = subst (λ (x : Outcome A). Replies f k x n r) e t
 
-  pub figures-reply : (s : SiteValues) (f : FrameValues) (a : JobAnswer) {r : JobReply} → s ≡ siteValues l → f ≡ frameValues m
-      → Figured s f ws hs a → r ≡ jobReply (answerOutcome a) → r ≡ figuresReply l m ws hs
-  figures-reply s f a es ef t e =
-      e ∙ ap jobReply t ∙ ap₂ (λ (s : SiteValues) (f : FrameValues). jobReply (figuresOnly (jobOf s f ws hs (length ws)))) es ef
+  pub replies-unique : {o : Outcome A} {n n′ : ℕ} {r r′ : List ℕ} → Replies f k o n r → Replies f k o n′ r′
+      → (n ≡ n′) × (r ≡ r′)
+  replies-unique t t′ = (determined (t .returned) (t′ .returned), determined (t .replied) (t′ .replied))
+
+module _ (l m ws hs : List ℕ) where
+  pub job-replies : (s : SiteValues) (f : FrameValues) (b : Buffers) (a : JobAnswer) (b′ : Buffers) {n : ℕ} {r : List ℕ}
+      → s ≡ siteValues l → f ≡ frameValues m → Answers s f ws hs b a b′ → FiguresReply (answerOutcome a) n r
+      → JobReplies l m ws hs b n r b′
+  job-replies s f b a b′ es ef t p =
+      let o = ap₂ (λ (s : SiteValues) (f : FrameValues). jobOf s f ws hs (shortest b)) es ef in
+      (replies-as (t .0 ∙ ap figuresOnly o) p, t .1 ∙ ap (λ x. written x b) o)
+
+  pub figures-replies : (s : SiteValues) (f : FrameValues) (a : JobAnswer) {n : ℕ} {r : List ℕ} → s ≡ siteValues l
+      → f ≡ frameValues m → Figured s f ws hs a → FiguresReply (answerOutcome a) n r → FiguresReplies l m ws hs n r
+  figures-replies s f a es ef t p =
+      replies-as (t ∙ ap figuresOnly (ap₂ (λ (s : SiteValues) (f : FrameValues). jobOf s f ws hs (length ws)) es ef)) p
 
   -- and the other way: what is proved of an answer of the core holds of the reply that says it
-  pub replied-answers : (b : Buffers) (r : JobReply) (b′ : Buffers) → JobReplies l m ws hs b r b′
-      → (a : JobAnswer) × Answers (siteValues l) (frameValues m) ws hs b a b′ × (r ≡ jobReply (answerOutcome a))
-  replied-answers b r b′ p =
+  pub replied-answers : (b : Buffers) (n : ℕ) (r : List ℕ) (b′ : Buffers) → JobReplies l m ws hs b n r b′
+      → (a : JobAnswer) × Answers (siteValues l) (frameValues m) ws hs b a b′ × FiguresReply (answerOutcome a) n r
+  replied-answers b n r b′ p =
       let o = figuresOnly (jobOf (siteValues l) (frameValues m) ws hs (shortest b)) in
-      (answerOf o, (says-outcome o, p .1), p .0 ∙ ap jobReply (sym (says-outcome o)))
+      (answerOf o, (says-outcome o, p .1), replies-as (sym (says-outcome o)) (p .0))
 
-  pub replied-figured : (r : JobReply) → r ≡ figuresReply l m ws hs
-      → (a : JobAnswer) × Figured (siteValues l) (frameValues m) ws hs a × (r ≡ jobReply (answerOutcome a))
-  replied-figured r e =
+  pub replied-figured : (n : ℕ) (r : List ℕ) → FiguresReplies l m ws hs n r
+      → (a : JobAnswer) × Figured (siteValues l) (frameValues m) ws hs a × FiguresReply (answerOutcome a) n r
+  replied-figured n r p =
       let o = figuresOnly (jobOf (siteValues l) (frameValues m) ws hs (length ws)) in
-      (answerOf o, says-outcome o, e ∙ ap jobReply (sym (says-outcome o)))
+      (answerOf o, says-outcome o, replies-as (sym (says-outcome o)) p)
 
-  -- `rukeshomaji_job`; the other three say what the reply is, and leave one by `determined` of `whole`
-  pub one-reply : (b : Buffers) {r r′ : JobReply} {c c′ : Buffers} → JobReplies l m ws hs b r c → JobReplies l m ws hs b r′ c′
-      → (r ≡ r′) × (c ≡ c′)
-  one-reply b p q = (p .0 ∙ sym (q .0), p .1 ∙ sym (q .1))
+  -- `rukeshomaji_job`, `rukeshomaji_figures`
+  pub one-reply : (b : Buffers) {n n′ : ℕ} {r r′ : List ℕ} {c c′ : Buffers} → JobReplies l m ws hs b n r c
+      → JobReplies l m ws hs b n′ r′ c′ → ((n ≡ n′) × (r ≡ r′)) × (c ≡ c′)
+  one-reply b p q = (replies-unique (p .0) (q .0), determined (p .1) (q .1))
+
+  pub one-figures-reply : {n n′ : ℕ} {r r′ : List ℕ} → FiguresReplies l m ws hs n r → FiguresReplies l m ws hs n′ r′
+      → (n ≡ n′) × (r ≡ r′)
+  one-figures-reply p q = replies-unique p q
+
+-- `rukeshomaji_site_class`
+pub one-log-reply : (ds ks xs : List ℕ) {n n′ : ℕ} {r r′ : List ℕ} → LogReplies ds ks xs n r → LogReplies ds ks xs n′ r′
+    → (n ≡ n′) × (r ≡ r′)
+one-log-reply ds ks xs p q = replies-unique p q
+
+-- `rukeshomaji_sheet`
+refused-number : {A : Type 0} (o : Outcome A) → (refusalOf o .number ≡ number o) × (refusalOf o .place ≡ place o)
+refused-number (accepted a) = (refl, refl)
+refused-number (refused n p) = (refl, refl)
+
+pub sheet-replies : (s : List ℕ) {old held : List ℕ} (p : Put) → Puts (outcomeOf s) old held p
+    → SheetReplies s old (p .refusal .number) held (p .refusal .place ∷ p .length ∷ [])
+unfolding sheetListing
+sheet-replies s p t =
+    record {
+      returned = ap (λ (x : Refusal). x .number) (t .refusal-is) ∙ refused-number (outcomeOf s) .0;
+      replied =
+          ap₂ (λ (a b : ℕ). a ∷ b ∷ []) (ap (λ (x : Refusal). x .place) (t .refusal-is) ∙ refused-number (outcomeOf s) .1)
+          (t .listed .length-is);
+      listed = t .listed .bytes-are;
+    }
+
+pub one-sheet-reply : (s : List ℕ) {old : List ℕ} {n n′ : ℕ} {held held′ r r′ : List ℕ} → SheetReplies s old n held r
+    → SheetReplies s old n′ held′ r′ → (n ≡ n′) × (held ≡ held′) × (r ≡ r′)
+one-sheet-reply s p q =
+    (determined (p .returned) (q .returned), determined (p .listed) (q .listed), determined (p .replied) (q .replied))

@@ -1,53 +1,56 @@
--- What the entries reply to a program in C: 'On success number and place are 0', 'figures 0' where data is refused.
---   siteValues l, frameValues l    the numbers of a line, as the core takes them
---   jobReply o                     number, place, V, V_M, V*, V_D and T of an outcome
---   classReply o                   number, place and class of an outcome, the class by its number
---   JobReplies l m ws hs b r b′    r is the reply, and b′ what the buffers hold that held b
---   figuresReply, logReply, sheetReply    the replies of the five figures alone, of a soil log and of a sheet
+-- What the entries reply to a program in C: the number is returned, 0 on success; what else there is goes into what the caller lends.
+--   Replies f k o n r             n is the number of the outcome o; r is its place, then the values f, k zeros where data is refused
+--   FiguresReply o, ClassReply o  of figures: V, V_M, V*, V_D and T; of a class: its number
+--   JobReplies l m ws hs b n r b′   so for the job of a site line l and a frame line m; b′ is what the buffers hold that held b
+--   FiguresReplies, LogReplies    so for the five figures alone, and for a soil log
+--   SheetReplies s old n held r   n is the number of the outcome of a sheet s; an array that held old holds its listing in the first bytes, the
+--                                 rest as it was; r is its place, and the length of the listing
+--   version, edition, source      of the library, of the code, of the rules: three things
 use mathlib.Core.Path.{_≡_}
-use mathlib.Core.List.{List}
+use mathlib.Core.List.{List, [], _∷_}
 use Prim.Native.Nat.{ℕ}
 use lib.ListN.{length}
-use Rattle.limits.specs.declared.frame.FrameValues.{FrameValues}
+use Rattle.whole.specs.Cells.{laid}
 use Rattle.limits.specs.declared.class.Class.{Class}
-use Rattle.limits.specs.declared.site.SiteValues.{SiteValues}
-use Rattle.limits.specs.Outcome.{Outcome, accepted, refused}
+use Rattle.limits.specs.Outcome.{Outcome, number, place, values}
 use Rattle.base_shear.specs.declared.Figures.{Figures}
 use Rattle.soil.specs.Class.{table3, classNumber}
 use Rattle.soil.specs.Log.{siteClass}
-use Rattle.job.specs.Job.{jobOf, figuresOnly, Buffers, shortest, written}
-use Rattle.sheet.specs.Listing.{sheetListing, printed}
-use Rattle.linked.specs.declared.ClassReply.{ClassReply}
-use Rattle.linked.specs.declared.FrameLine.{FrameLine}
-use Rattle.linked.specs.declared.JobReply.{JobReply}
-use Rattle.linked.specs.declared.SheetReply.{SheetReply}
-use Rattle.linked.specs.declared.SiteLine.{SiteLine}
+use Rattle.job.specs.Job.{jobOf, figuresOnly, five, Buffers, shortest, written}
+use Rattle.sheet.specs.Sheet.{siteValues, frameValues}
+use Rattle.sheet.specs.Listing.{outcomeOf, sheetListing}
 
-abbrev pub siteValues : SiteLine → SiteValues
-siteValues l = record { ssd = l .ssd; s1d = l .s1d; ssm = l .ssm; s1m = l .s1m; na = l .na; nv = l .nv; class = l .class }
+pub record Replies {A : Type 0} (f : A → List ℕ) (k : ℕ) (o : Outcome A) (n : ℕ) (r : List ℕ) : Type 0 where
+  pub returned : n ≡ number o
+  pub replied : r ≡ place o ∷ values f k o
 
-abbrev pub frameValues : FrameLine → FrameValues
-frameValues l = record { kind = l .kind; calculated = l .calculated; r = l .r; i = l .i; alpha = l .alpha }
+abbrev pub FiguresReply : Outcome Figures → ℕ → List ℕ → Type 0
+FiguresReply = Replies five 5
 
-abbrev pub jobReply : Outcome Figures → JobReply
-jobReply (accepted n) =
-    record { number = 0; place = 0; v = n .v; vm = n .vm; star = n .star; vd = n .vd; t = n .t }
-jobReply (refused n p) = record { number = n; place = p; v = 0; vm = 0; star = 0; vd = 0; t = 0 }
+abbrev pub ClassReply : Outcome Class → ℕ → List ℕ → Type 0
+ClassReply = Replies (λ (c : Class). classNumber c ∷ []) 1
 
-abbrev pub classReply : Outcome Class → ClassReply
-classReply (accepted c) = record { number = 0; place = 0; class = classNumber c }
-classReply (refused n p) = record { number = n; place = p; class = 0 }
-
-abbrev pub JobReplies : SiteLine → FrameLine → List ℕ → List ℕ → Buffers → JobReply → Buffers → Type 0
-JobReplies l m ws hs b r b′ =
+abbrev pub JobReplies : List ℕ → List ℕ → List ℕ → List ℕ → Buffers → ℕ → List ℕ → Buffers → Type 0
+JobReplies l m ws hs b n r b′ =
     let o = jobOf (siteValues l) (frameValues m) ws hs (shortest b) in
-    (r ≡ jobReply (figuresOnly o)) × (b′ ≡ written o b)
+    FiguresReply (figuresOnly o) n r × (b′ ≡ written o b)
 
-abbrev pub figuresReply : SiteLine → FrameLine → List ℕ → List ℕ → JobReply
-figuresReply l m ws hs = jobReply (figuresOnly (jobOf (siteValues l) (frameValues m) ws hs (length ws)))
+abbrev pub FiguresReplies : List ℕ → List ℕ → List ℕ → List ℕ → ℕ → List ℕ → Type 0
+FiguresReplies l m ws hs n r = FiguresReply (figuresOnly (jobOf (siteValues l) (frameValues m) ws hs (length ws))) n r
 
-abbrev pub logReply : List ℕ → List ℕ → List ℕ → ClassReply
-logReply ds ks xs = classReply (siteClass table3 ds ks xs)
+abbrev pub LogReplies : List ℕ → List ℕ → List ℕ → ℕ → List ℕ → Type 0
+LogReplies ds ks xs n r = ClassReply (siteClass table3 ds ks xs) n r
 
-abbrev pub sheetReply : List ℕ → SheetReply
-sheetReply s = record { bytes = printed (sheetListing s) .bytes; length = printed (sheetListing s) .length }
+pub record SheetReplies (s old : List ℕ) (n : ℕ) (held r : List ℕ) : Type 0 where
+  pub returned : n ≡ number (outcomeOf s)
+  pub replied : r ≡ place (outcomeOf s) ∷ length (sheetListing s) ∷ []
+  pub listed : held ≡ laid (sheetListing s) old
+
+abbrev pub version : ℕ
+version = 1_000_000
+
+abbrev pub edition : ℕ
+edition = 2_005
+
+abbrev pub source : ℕ
+source = 1

@@ -1,4 +1,5 @@
-// The entries as a program in C links them: numbers in and out, zeros where data is refused.
+// The entries as a program in C, or in any language that calls C, sees them: pointers and 64-bit numbers alone. Each returns the number
+// of its refusal, 0 on success, and answers through an array that the caller lends, whose every cell is written.
 use job::JobAnswer;
 use limits::class::Class;
 use limits::class::ClassAnswer;
@@ -10,98 +11,59 @@ ghost use mathlib.Core.Path.{_≡_};
 ghost use Rattle.limits.specs.Site.{classOutcome};
 ghost use Rattle.job.specs.Job.{answerOutcome};
 ghost use Rattle.soil.specs.Class.{classNumber};
-ghost use Rattle.linked.specs.Linked.{siteValues, frameValues, jobReply, classReply, JobReplies, figuresReply, logReply, sheetReply};
+ghost use Rattle.sheet.specs.Sheet.{siteValues, frameValues};
+ghost use Rattle.linked.specs.Linked.{FiguresReply, ClassReply, JobReplies, FiguresReplies, LogReplies, SheetReplies, version, edition, source};
+
+// The version of the library: 1,000,000 times the major number, 1,000 times the minor one, and the last.
+pub const VERSION: u64 = 1_000_000;
+
+// The edition of the code: Taiwan's of 2005.
+pub const EDITION: u64 = 2_005;
+
+// The state of the rules: 1 is document 01 by itself. A change of what any call answers takes the next number.
+pub const SOURCE: u64 = 1;
 
 // A sheet's site line: S_S and S_1 of the design level, S_S and S_1 of the MCE level, in 0.01 g; N_A and N_V in 0.01; class.
-#[repr(C)]
-pub struct SiteLine {
-    pub ssd: u64,
-    pub s1d: u64,
-    pub ssm: u64,
-    pub s1m: u64,
-    pub na: u64,
-    pub nv: u64,
-    pub class: u64,
+fn site_values(l: &[u64; 7]) -> SiteValues
+    ensures { λ r. ⌜ r ≡ siteValues (now (l .entry)) ⌝ }
+{
+    SiteValues {
+        ssd: l[0],
+        s1d: l[1],
+        ssm: l[2],
+        s1m: l[3],
+        na: l[4],
+        nv: l[5],
+        class: l[6],
+    }
 }
 
 // A sheet's frame line: kind; calculated period in ms; R, I and alpha-y in 0.01.
-#[repr(C)]
-pub struct FrameLine {
-    pub kind: u64,
-    pub calculated: u64,
-    pub r: u64,
-    pub i: u64,
-    pub alpha: u64,
-}
-
-// Number and place, 0 on success; V, V_M, V*, V_D in N and T in ms, 0 where data is refused.
-#[repr(C)]
-pub struct JobReply {
-    pub number: u64,
-    pub place: u64,
-    pub v: u64,
-    pub vm: u64,
-    pub star: u64,
-    pub vd: u64,
-    pub t: u64,
-}
-
-// Number and place, 0 on success; the class, 0 where data is refused.
-#[repr(C)]
-pub struct ClassReply {
-    pub number: u64,
-    pub place: u64,
-    pub class: u64,
-}
-
-fn site_values(s: SiteLine) -> SiteValues
-    ensures { λ r. ⌜ r ≡ siteValues s ⌝ }
-{
-    SiteValues {
-        ssd: s.ssd,
-        s1d: s.s1d,
-        ssm: s.ssm,
-        s1m: s.s1m,
-        na: s.na,
-        nv: s.nv,
-        class: s.class,
-    }
-}
-
-fn frame_values(f: FrameLine) -> FrameValues
-    ensures { λ r. ⌜ r ≡ frameValues f ⌝ }
+fn frame_values(l: &[u64; 5]) -> FrameValues
+    ensures { λ r. ⌜ r ≡ frameValues (now (l .entry)) ⌝ }
 {
     FrameValues {
-        kind: f.kind,
-        calculated: f.calculated,
-        r: f.r,
-        i: f.i,
-        alpha: f.alpha,
+        kind: l[0],
+        calculated: l[1],
+        r: l[2],
+        i: l[3],
+        alpha: l[4],
     }
 }
 
-fn job_reply(a: JobAnswer) -> JobReply
-    ensures { λ r. ⌜ r ≡ jobReply (answerOutcome a) ⌝ }
+// Place; V, V_M, V*, V_D in N and T in ms, zeros where data is refused.
+fn put_figures(out: &mut [u64; 6], a: JobAnswer) -> u64
+    ensures { λ n. ⌜ FiguresReply (answerOutcome a) n (now (out .exit)) ⌝ }
 {
     match a {
-        JobAnswer::Taken(n) => JobReply {
-            number: 0,
-            place: 0,
-            v: n.v,
-            vm: n.vm,
-            star: n.star,
-            vd: n.vd,
-            t: n.t,
-        },
-        JobAnswer::Refused(r) => JobReply {
-            number: r.number,
-            place: r.place,
-            v: 0,
-            vm: 0,
-            star: 0,
-            vd: 0,
-            t: 0,
-        },
+        JobAnswer::Taken(n) => {
+            *out = [0, n.v, n.vm, n.star, n.vd, n.t];
+            0
+        }
+        JobAnswer::Refused(r) => {
+            *out = [r.place, 0, 0, 0, 0, 0];
+            r.number
+        }
     }
 }
 
@@ -115,85 +77,107 @@ fn class_number(c: Class) -> u64
     }
 }
 
-fn class_reply(a: ClassAnswer) -> ClassReply
-    ensures { λ r. ⌜ r ≡ classReply (classOutcome a) ⌝ }
+// Place; the class by its number, 0 where data is refused.
+fn put_class(out: &mut [u64; 2], a: ClassAnswer) -> u64
+    ensures { λ n. ⌜ ClassReply (classOutcome a) n (now (out .exit)) ⌝ }
 {
     match a {
-        ClassAnswer::Taken(c) => ClassReply {
-            number: 0,
-            place: 0,
-            class: class_number(c),
-        },
-        ClassAnswer::Refused(r) => ClassReply {
-            number: r.number,
-            place: r.place,
-            class: 0,
-        },
+        ClassAnswer::Taken(c) => {
+            let class = class_number(c);
+            *out = [0, class];
+            0
+        }
+        ClassAnswer::Refused(r) => {
+            *out = [r.place, 0];
+            r.number
+        }
     }
 }
 
-// The job: five figures or a refusal; a force, a shear and an overturning moment of each level in the lent buffers.
+// The job: a force, a shear and an overturning moment of each level in the lent buffers, place and figures in `figures`.
 #[no_mangle]
 pub extern "C" fn rukeshomaji_job(
-    site: SiteLine,
-    frame: FrameLine,
+    site: &[u64; 7],
+    frame: &[u64; 5],
     weights: &[u64],
     heights: &[u64],
     forces: &mut [u64],
     shears: &mut [u64],
     overturnings: &mut [u64],
-) -> JobReply
-    ensures { λ r. ⌜ JobReplies site frame (now (weights .entry)) (now (heights .entry)) (record { forces = now (forces .entry); shears = now (shears .entry); overturnings = now (overturnings .entry) }) r (record { forces = now (forces .exit); shears = now (shears .exit); overturnings = now (overturnings .exit) }) ⌝ }
+    figures: &mut [u64; 6],
+) -> u64
+    ensures { λ n. ⌜ JobReplies (now (site .entry)) (now (frame .entry)) (now (weights .entry)) (now (heights .entry)) (record { forces = now (forces .entry); shears = now (shears .entry); overturnings = now (overturnings .entry) }) n (now (figures .exit)) (record { forces = now (forces .exit); shears = now (shears .exit); overturnings = now (overturnings .exit) }) ⌝ }
 {
     let s = site_values(site);
     let f = frame_values(frame);
-    job_reply(job::job(s, f, weights, heights, forces, shears, overturnings))
+    let a = job::job(s, f, weights, heights, forces, shears, overturnings);
+    put_figures(figures, a)
 }
 
 // The five figures of a job, with no buffer to write to.
 #[no_mangle]
 pub extern "C" fn rukeshomaji_figures(
-    site: SiteLine,
-    frame: FrameLine,
+    site: &[u64; 7],
+    frame: &[u64; 5],
     weights: &[u64],
     heights: &[u64],
-) -> JobReply
-    ensures { λ r. ⌜ r ≡ figuresReply site frame (now (weights .entry)) (now (heights .entry)) ⌝ }
+    figures: &mut [u64; 6],
+) -> u64
+    ensures { λ n. ⌜ FiguresReplies (now (site .entry)) (now (frame .entry)) (now (weights .entry)) (now (heights .entry)) n (now (figures .exit)) ⌝ }
 {
     let s = site_values(site);
     let f = frame_values(frame);
-    job_reply(job::figures::figures(s, f, weights, heights))
+    let a = job::figures::figures(s, f, weights, heights);
+    put_figures(figures, a)
 }
 
-// The site class of a soil log.
+// The site class of a soil log: place and class.
 #[no_mangle]
 pub extern "C" fn rukeshomaji_site_class(
     thicknesses: &[u64],
     kinds: &[u64],
     values: &[u64],
-) -> ClassReply
-    ensures { λ r. ⌜ r ≡ logReply (now (thicknesses .entry)) (now (kinds .entry)) (now (values .entry)) ⌝ }
+    reply: &mut [u64; 2],
+) -> u64
+    ensures { λ n. ⌜ LogReplies (now (thicknesses .entry)) (now (kinds .entry)) (now (values .entry)) n (now (reply .exit)) ⌝ }
 {
-    class_reply(soil::log::site_class(thicknesses, kinds, values))
+    let a = soil::log::site_class(thicknesses, kinds, values);
+    put_class(reply, a)
 }
 
-// What is printed for the bytes of a sheet: the bytes of a listing, and how many there are.
-#[repr(C)]
-pub struct SheetReply {
-    pub bytes: [u8; LONGEST],
-    pub length: usize,
-}
-
-// The listing of a sheet, or the line of its refusal.
+// The listing of a sheet, or the line of its refusal, over the first bytes of `listing`; in `reply` place, and how many bytes these are.
 #[no_mangle]
-pub extern "C" fn rukeshomaji_sheet(sheet: &[u8]) -> SheetReply
-    ensures { λ r. ⌜ r ≡ sheetReply (now (sheet .entry)) ⌝ }
+pub extern "C" fn rukeshomaji_sheet(
+    sheet: &[u8],
+    listing: &mut [u8; LONGEST],
+    reply: &mut [u64; 2],
+) -> u64
+    ensures { λ n. ⌜ SheetReplies (now (sheet .entry)) (now (listing .entry)) n (now (listing .exit)) (now (reply .exit)) ⌝ }
 {
-    let mut reply = SheetReply {
-        bytes: [0; LONGEST],
-        length: 0,
-    };
-    let length = put_in_array(&mut reply.bytes, sheet);
-    reply.length = length;
-    reply
+    let put = put_in_array(listing, sheet);
+    let refusal = put.refusal;
+    let length = put.length as u64;
+    *reply = [refusal.place, length];
+    refusal.number
+}
+
+#[no_mangle]
+pub extern "C" fn rukeshomaji_version() -> u64
+    ensures { λ r. ⌜ r ≡ version ⌝ }
+{
+    VERSION
+}
+
+#[no_mangle]
+pub extern "C" fn rukeshomaji_edition() -> u64
+    ensures { λ r. ⌜ r ≡ edition ⌝ }
+{
+    EDITION
+}
+
+#[no_mangle]
+pub extern "C" fn rukeshomaji_source() -> u64
+    ensures { λ r. ⌜ r ≡ source ⌝ }
+{
+    SOURCE
 }

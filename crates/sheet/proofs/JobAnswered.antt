@@ -1,4 +1,4 @@
--- What the answer of a job, called with buffers of 50 cells, says of its listing. Over 50 levels are refused before any buffer is
+-- What the answer of a job, called with buffers of 50 cells, says of its outcome. Over 50 levels are refused before any buffer is
 -- looked at.
 -- Assumes nothing.
 use mathlib.Core.Path.{_≡_, refl, sym, ap, _∙_}
@@ -21,11 +21,11 @@ use Rattle.limits.proofs.Accepted.{given-allowed}
 use Rattle.limits.proofs.Room.{room-enough}
 use Rattle.base_shear.specs.declared.Figures.{Figures}
 use Rattle.job.specs.declared.JobAnswer.the-variants.{Taken, Refused}
-use Rattle.job.specs.Job.{resultsAt, jobOf, Buffers, Answers}
+use Rattle.job.specs.Job.{Results, resultsAt, jobOf, Buffers, Answers}
 use Rattle.job.proofs.Answered.{taken-accepted, refused-judged}
 use Rattle.job.proofs.Independent.{forces-cells, shears-cells, overturnings-cells, taken-written}
 use Rattle.job.proofs.Stages.{job-refused, job-accepted}
-use Rattle.sheet.specs.Listing.{resultsListing, refusal, listing, Levelled}
+use Rattle.sheet.specs.Listing.{Levelled}
 
 abbrev pub lent : Buffers
 lent = record { forces = zeros 50; shears = zeros 50; overturnings = zeros 50 }
@@ -45,11 +45,9 @@ module _ (s : SiteValues) (f : FrameValues) (ws hs : List ℕ) where
           let many = leb-false (length ws) 50 e in
           too-many s f ws hs (length ws) many ∙ sym (too-many s f ws hs 50 many)
 
-  pub refused-listing : (r : Refusal) (b′ : Buffers) → Answers s f ws hs lent (Refused r) b′
-      → refusal (r .number) (r .place) ≡ listing (jobOf s f ws hs (length ws))
-  unfolding listing
-  refused-listing r b′ a =
-      sym (ap listing (job-refused s f ws hs (length ws) (room ∙ refused-judged s f ws hs lent r b′ a)))
+  pub refused-outcome : (r : Refusal) (b′ : Buffers) → Answers s f ws hs lent (Refused r) b′
+      → jobOf s f ws hs (length ws) ≡ refused (r .number) (r .place)
+  refused-outcome r b′ a = job-refused s f ws hs (length ws) (room ∙ refused-judged s f ws hs lent r b′ a)
 
   module _ (n : Figures) (b′ : Buffers) (a : Answers s f ws hs lent (Taken n) b′) where
     pub few : length ws ≤ 50
@@ -77,13 +75,18 @@ module _ (s : SiteValues) (f : FrameValues) (ws hs : List ℕ) where
           few = omega (arith, forces-cut, few);
         }
 
-    pub taken-listing : resultsListing n (take (length ws) (b′ .forces)) (take (length ws) (b′ .shears))
-        (take (length ws) (b′ .overturnings))
-        ≡ listing (jobOf s f ws hs (length ws))
-    unfolding listing
-    taken-listing =
+    abbrev pub cut : Results
+    cut =
+        record {
+          figures = n;
+          forces = take (length ws) (b′ .forces);
+          shears = take (length ws) (b′ .shears);
+          overturnings = take (length ws) (b′ .overturnings);
+        }
+
+    pub taken-outcome : jobOf s f ws hs (length ws) ≡ accepted cut
+    taken-outcome =
         let w = taken-written s f ws hs lent n b′ a in
         let t = taken-accepted s f ws hs lent n b′ a in
-        rw (w .forces, w .shears, w .overturnings)
-        (ap (λ (m : Figures). listing (accepted (resultsAt m ws hs))) (t .figures)
-        ∙ sym (ap listing (job-accepted s f ws hs (length ws) (room ∙ t .judged))))
+        job-accepted s f ws hs (length ws) (room ∙ t .judged)
+        ∙ sym (rw (w .forces, w .shears, w .overturnings) (ap (λ (m : Figures). accepted (resultsAt m ws hs)) (t .figures)))

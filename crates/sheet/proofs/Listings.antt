@@ -6,13 +6,16 @@ use Prim.Native.Nat.{ℕ, zero, suc, _+_, _*_, _≤_}
 use native.Mathlib.Nat.{zero-add}
 use native.Mathlib.Omega.{arith}
 use lib.ListN.{length, getD, drop, length-append}
-use Rattle.limits.specs.Outcome.{zeros}
+use Rattle.limits.specs.declared.refusal.Refusal.{Refusal}
+use Rattle.limits.specs.Outcome.{Outcome, accepted, refused, refusalOf, zeros}
 use Rattle.base_shear.specs.declared.Figures.{Figures}
+use Rattle.job.specs.Job.{Results}
 use Rattle.text.specs.Bytes.{bytes}
 use Rattle.text.specs.Writing.{laidOut, spliced}
 use Rattle.text.proofs.Fields.{line-most}
 use Rattle.text.proofs.Spliced.{Wrote, wrote, wrote-none, wrote-more}
-use Rattle.sheet.specs.Listing.{roofFirst, refusal, longest, printed, Written, Levelled}
+use Rattle.sheet.specs.declared.Put.{Put}
+use Rattle.sheet.specs.Listing.{roofFirst, resultsListing, refusal, listing, outcomeOf, sheetListing, longest, printed, Written, Puts, Levelled}
 
 -- ---- how long: 20 digits a number at the most
 module _ (fs us os : List ℕ) where
@@ -92,9 +95,33 @@ written-is {l} {old} {held} {p} w =
       length-is = w .end ∙ zero-add (length l);
     }
 
-pub written-as : {l l′ old held : List ℕ} {n : ℕ} → l ≡ l′ → Written l old held n → Written l′ old held n
-written-as {l} {l′} {old} {held} {n} e w = subst (λ (z : List ℕ). Written z old held n) e w
+-- ---- the listing of an outcome, once that is known
+module _ {o : Outcome Results} {old held : List ℕ} {n : ℕ} where
+  pub puts-refused : (r : Refusal) → o ≡ refused (r .number) (r .place) → Written (refusal (r .number) (r .place)) old held n
+      → Puts o old held (record { length = n; refusal = r })
+  unfolding listing
+  puts-refused r e w =
+      record {
+        listed = subst (λ (x : Outcome Results). Written (listing x) old held n) (sym e) w;
+        refusal-is = sym (ap refusalOf e);
+      }
 
-pub printed-is : {l held : List ℕ} {n : ℕ} → Written l (zeros longest) held n → record { bytes = held; length = n } ≡ printed l
-unfolding printed
-printed-is {l} {held} {n} w = ap₂ (λ (b : List ℕ) (k : ℕ). record { bytes = b; length = k }) (w .bytes-are) (w .length-is)
+  pub puts-results : (x : Results) {r : Refusal} → o ≡ accepted x → r ≡ record { number = 0; place = 0 }
+      → Written (resultsListing (x .figures) (x .forces) (x .shears) (x .overturnings)) old held n
+      → Puts o old held (record { length = n; refusal = r })
+  unfolding listing
+  puts-results x e none w =
+      record {
+        listed = subst (λ (y : Outcome Results). Written (listing y) old held n) (sym e) w;
+        refusal-is = none ∙ sym (ap refusalOf e);
+      }
+
+pub puts-as : {o o′ : Outcome Results} {old held : List ℕ} {p : Put} → o ≡ o′ → Puts o old held p → Puts o′ old held p
+puts-as {o} {o′} {old} {held} {p} e w = subst (λ (x : Outcome Results). Puts x old held p) e w
+
+-- what is printed for a sheet
+pub printed-is : (s : List ℕ) {held : List ℕ} {p : Put} → Puts (outcomeOf s) (zeros longest) held p
+    → record { bytes = held; length = p .length } ≡ printed (sheetListing s)
+unfolding printed sheetListing
+printed-is s w =
+    ap₂ (λ (b : List ℕ) (k : ℕ). record { bytes = b; length = k }) (w .listed .bytes-are) (w .listed .length-is)

@@ -1,4 +1,4 @@
--- What the reader's answer, once it is known, says of the sheet, and of the listing of the job of the levels that are kept.
+-- What the reader's answer, once it is known, says of the sheet, and of the job of the levels that are kept.
 -- Assumes nothing.
 use mathlib.Core.Path.{_≡_, refl, sym, ap, _∙_}
 use mathlib.Core.Bool.{Bool, true, false}
@@ -21,7 +21,7 @@ use Rattle.text.proofs.Stored.{kept-length}
 use Rattle.sheet.specs.declared.reader.SheetAnswer.{SheetAnswer}
 use Rattle.sheet.specs.declared.reader.SheetAnswer.the-variants.{Taken, Refused}
 use Rattle.sheet.specs.declared.reader.SheetRead.{SheetRead}
-use Rattle.sheet.specs.Listing.{refusal, listing, sheetListing}
+use Rattle.sheet.specs.Listing.{jobOfSheet, outcomeOf}
 use Rattle.sheet.specs.Reading.{readSheet, keptMost, kept, cellsOf, sheetRead}
 use Rattle.sheet.specs.Sheet.{Sheet}
 use Rattle.sheet.proofs.JobAnswered.{too-many}
@@ -69,7 +69,7 @@ said-taken (accepted r) c v f n e m =
     }
 said-taken (refused k p) c v f n e m = absurd (never (ap said (sym (ap (λ (x : SheetRead). x .answer) e) ∙ m)))
 
--- ---- the listing, by what the code holds
+-- ---- the outcome, by what the code holds
 -- the job of the levels that are kept is the job of all: where some are not kept, both are refused by their count
 kept-job : (v : SiteValues) (f : FrameValues) (ws hs : List ℕ) → length hs ≡ length ws
     → jobOf v f (kept ws) (kept hs) (length (kept ws)) ≡ jobOf v f ws hs (length ws)
@@ -87,23 +87,21 @@ kept-job v f ws hs same = go (leb (length ws) 50) refl
 
 sheet-job : (s : List ℕ) (r : Sheet) {v : SiteValues} {f : FrameValues} {ws hs : List ℕ} → readSheet s ≡ accepted r
     → r .site ≡ v → r .frame ≡ f → ws ≡ kept (r .levels .weights) → hs ≡ kept (r .levels .heights)
-    → length (r .levels .heights) ≡ length (r .levels .weights) → listing (jobOf v f ws hs (length ws)) ≡ sheetListing s
-unfolding sheetListing
+    → length (r .levels .heights) ≡ length (r .levels .weights) → jobOf v f ws hs (length ws) ≡ outcomeOf s
 sheet-job s r e ev ef ew eh same =
-    rw (ew, eh, ← ev, ← ef, e) (ap listing (kept-job (r .site) (r .frame) (r .levels .weights) (r .levels .heights) same))
+    rw (ew, eh, ← ev, ← ef, e) (kept-job (r .site) (r .frame) (r .levels .weights) (r .levels .heights) same)
 
--- the job of the first cells, and its listing
+-- the job of the first cells
 pub record SheetJob (s : List ℕ) (c : SheetRead) (v : SiteValues) (f : FrameValues) (n : ℕ) : Type 0 where
   pub weights-room : n ≤ length (c .weights)
   pub heights-room : n ≤ length (c .heights)
   pub weights-length : length (take n (c .weights)) ≡ n
   pub heights-length : length (take n (c .heights)) ≡ n
-  pub listed : listing (jobOf v f (take n (c .weights)) (take n (c .heights)) (length (take n (c .weights)))) ≡ sheetListing s
+  pub outcome : jobOf v f (take n (c .weights)) (take n (c .heights)) (length (take n (c .weights))) ≡ outcomeOf s
 
 module _ (s : List ℕ) (c : SheetRead) (e : c ≡ sheetRead (readSheet s)) where
-  pub sheet-refused : (f : Refusal) → c .answer ≡ Refused f → refusal (f .number) (f .place) ≡ sheetListing s
-  unfolding sheetListing listing
-  sheet-refused f m = simp (said-refused (readSheet s) c f e m)
+  pub sheet-refused : (f : Refusal) → c .answer ≡ Refused f → outcomeOf s ≡ refused (f .number) (f .place)
+  sheet-refused f m = ap (λ (o : Outcome Sheet). o >>= jobOfSheet) (said-refused (readSheet s) c f e m)
 
   module _ (v : SiteValues) (f : FrameValues) (n : ℕ) (m : c .answer ≡ Taken v f n) where
     held : SheetTaken (readSheet s) c v f n
@@ -136,5 +134,5 @@ module _ (s : List ℕ) (c : SheetRead) (e : c ≡ sheetRead (readSheet s)) wher
           heights-room = omega (arith, ap length (held .heights), kept-length (zeros keptMost) hs, length-take keptMost hs, as-many);
           weights-length = ap length weights-cut ∙ held .count;
           heights-length = ap length heights-cut ∙ as-many;
-          listed = sheet-job s (held .read) (held .is) (held .site) (held .frame) weights-cut heights-cut same;
+          outcome = sheet-job s (held .read) (held .is) (held .site) (held .frame) weights-cut heights-cut same;
         }

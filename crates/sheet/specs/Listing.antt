@@ -11,18 +11,20 @@
 --   longest                       as many bytes as the longest listing may have: 20 digits a number, 50 levels
 --   printed l                     the bytes l as the code hands them on: in the first of `longest` cells, and how many there are
 --   Written l old held n          a buffer that held old holds `held`, l over its first cells and the rest as it was; n is the length of l
+--   Puts o old held p             so is the listing of the outcome o, and p says its length and what o refuses
 --   Levelled fs us os             as many shears and overturning moments as forces, and not over 50
 use mathlib.Core.Path.{_≡_}
 use mathlib.Core.List.{List, [], _∷_, _++_}
 use Prim.Native.Nat.{ℕ, zero, suc, _≤_}
 use lib.ListN.{length, getD}
 use Rattle.whole.specs.Cells.{laid}
-use Rattle.limits.specs.Outcome.{Outcome, accepted, refused, zeros, _>>=_}
+use Rattle.limits.specs.Outcome.{Outcome, accepted, refused, refusalOf, zeros, _>>=_}
 use Rattle.base_shear.specs.declared.Figures.{Figures}
 use Rattle.job.specs.Job.{Results, jobOf}
 use Rattle.text.specs.Bytes.{bytes}
 use Rattle.text.specs.Writing.{laidOut}
 use Rattle.sheet.specs.declared.listing.Listing.{Listing}
+use Rattle.sheet.specs.declared.Put.{Put}
 use Rattle.sheet.specs.Reading.{readSheet}
 use Rattle.sheet.specs.Sheet.{Sheet}
 
@@ -59,6 +61,10 @@ pub record Levelled (fs us os : List ℕ) : Type 0 where
 unfoldable pub listing : Outcome Results → List ℕ
 listing (accepted r) = resultsListing (r .figures) (r .forces) (r .shears) (r .overturnings)
 listing (refused n p) = refusal n p
+
+pub record Puts (o : Outcome Results) (old held : List ℕ) (p : Put) : Type 0 where
+  pub listed : Written (listing o) old held (p .length)
+  pub refusal-is : p .refusal ≡ refusalOf o
 
 abbrev pub jobOfSheet : Sheet → Outcome Results
 jobOfSheet r = jobOf (r .site) (r .frame) (r .levels .weights) (r .levels .heights) (length (r .levels .weights))

@@ -2,6 +2,7 @@
 use job::JobAnswer;
 use job::job;
 use limits::frame::FrameValues;
+use limits::refusal::Refusal;
 use limits::site::SiteValues;
 use listing::LONGEST;
 use listing::Listing;
@@ -19,18 +20,24 @@ ghost use mathlib.Core.Path.{_≡_};
 ghost use Prim.Native.Nat.{_≤_};
 ghost use lib.ListN.{length};
 ghost use Rattle.job.specs.Job.{jobOf};
-ghost use Rattle.sheet.specs.Listing.{listing, sheetListing, longest, printed, Written};
+ghost use Rattle.sheet.specs.Listing.{outcomeOf, sheetListing, longest, printed, Puts};
 
-// Does a job, writes its listing, and returns its length. The job refuses over 50 levels before it looks at the buffers.
+// What was written into a buffer: how many bytes, and the refusal that they say, zeros where they are results.
+pub struct Put {
+    pub length: usize,
+    pub refusal: Refusal,
+}
+
+// Does a job and writes its listing. The job refuses over 50 levels before it looks at the buffers.
 pub fn put_job(
     out: &mut [u8],
     site: SiteValues,
     frame: FrameValues,
     weights: &[u64],
     heights: &[u64],
-) -> usize
+) -> Put
     requires { ⌜ longest ≤ length (now out) ⌝ }
-    ensures { λ n. ⌜ Written (listing (jobOf site frame (now (weights .entry)) (now (heights .entry)) (length (now (weights .entry))))) (now (out .entry)) (now (out .exit)) n ⌝ }
+    ensures { λ p. ⌜ Puts (jobOf site frame (now (weights .entry)) (now (heights .entry)) (length (now (weights .entry)))) (now (out .entry)) (now (out .exit)) p ⌝ }
 {
     let mut forces = [0; 50];
     let mut shears = [0; 50];
@@ -45,22 +52,27 @@ pub fn put_job(
         &mut overturnings,
     );
     let JobAnswer::Taken(figures) = a else {
-        return put_refusal(out, a.refusal());
+        let refusal = a.refusal();
+        let length = put_refusal(out, refusal);
+        return Put { length, refusal };
     };
     let n = weights.len();
-    put_results(out, figures, &forces[..n], &shears[..n], &overturnings[..n])
+    let length = put_results(out, figures, &forces[..n], &shears[..n], &overturnings[..n]);
+    let refusal = Refusal::none();
+    Put { length, refusal }
 }
 
-// Writes what is printed for the bytes of a sheet, and returns its length. One level more than a job may have is kept, so that the
-// job itself refuses the count.
-pub fn put_sheet(out: &mut [u8], s: &[u8]) -> usize
+// Writes what is printed for the bytes of a sheet. One level more than a job may have is kept, so that the job itself refuses the count.
+pub fn put_sheet(out: &mut [u8], s: &[u8]) -> Put
     requires { ⌜ longest ≤ length (now out) ⌝ }
-    ensures { λ n. ⌜ Written (sheetListing (now (s .entry))) (now (out .entry)) (now (out .exit)) n ⌝ }
+    ensures { λ p. ⌜ Puts (outcomeOf (now (s .entry))) (now (out .entry)) (now (out .exit)) p ⌝ }
 {
     let read = read_sheet(s);
     let a = read.answer;
     let SheetAnswer::Taken(site, frame, levels) = a else {
-        return put_refusal(out, a.refusal());
+        let refusal = a.refusal();
+        let length = put_refusal(out, refusal);
+        return Put { length, refusal };
     };
     let weights = read.weights;
     let heights = read.heights;
@@ -72,13 +84,16 @@ pub fn sheet_listing(s: &[u8]) -> Listing
     ensures { λ l. ⌜ l ≡ printed (sheetListing (now (s .entry))) ⌝ }
 {
     let mut bytes = [0; LONGEST];
-    let length = put_sheet(&mut bytes, s);
-    Listing { bytes, length }
+    let put = put_sheet(&mut bytes, s);
+    Listing {
+        bytes,
+        length: put.length,
+    }
 }
 
 // The same into a lent array, which holds every listing.
-pub fn put_in_array(out: &mut [u8; LONGEST], s: &[u8]) -> usize
-    ensures { λ n. ⌜ Written (sheetListing (now (s .entry))) (now (out .entry)) (now (out .exit)) n ⌝ }
+pub fn put_in_array(out: &mut [u8; LONGEST], s: &[u8]) -> Put
+    ensures { λ p. ⌜ Puts (outcomeOf (now (s .entry))) (now (out .entry)) (now (out .exit)) p ⌝ }
 {
     put_sheet(out, s)
 }

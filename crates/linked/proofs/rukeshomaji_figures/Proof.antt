@@ -1,6 +1,6 @@
 -- `linked::rukeshomaji_figures` meets its contract. Assumes nothing.
 use borrow.Author.Needs.{needs}
-use Rattle.linked.proofs.Replies.{figures-reply}
+use Rattle.linked.proofs.Replies.{figures-replies}
 use Rattle.linked.proofs.rukeshomaji_figures.Statement.{statement}
 use Rattle.linked.proofs.rukeshomaji_figures.Tie as tie
 
@@ -13,12 +13,12 @@ frame-values-requires c κs = search needs
 figures-requires : tie.Need-figures-requires
 figures-requires c κs = search needs
 
-job-reply-requires : tie.Need-job-reply-requires
-job-reply-requires c κs = search needs
+put-figures-requires : tie.Need-put-figures-requires
+put-figures-requires c κs = search needs
 
 returns : tie.Need-returns
-returns c = let a = c .before .before .before .before .before .before .args in
-    figures-reply (a .site) (a .frame) (a .weights .now) (a .heights .now) _ _ (c .before .figures .result) (c .before .before .before .site-values .ensures) (c .before .before .frame-values .ensures) (c .before .figures .ensures) (c .job-reply .ensures)
+returns c = let a = c .before .before .before .before .before .before .before .args in
+    figures-replies (a .site .now) (a .frame .now) (a .weights .now) (a .heights .now) _ _ (c .before .before .figures .result) (c .before .before .before .before .site-values .ensures) (c .before .before .before .frame-values .ensures) (c .before .before .figures .ensures) (c .put-figures .ensures)
 
 pub rukeshomaji-figures-spec : {M : Type 1} → statement M
 rukeshomaji-figures-spec =
@@ -27,5 +27,5 @@ rukeshomaji-figures-spec =
     site-values-requires
     frame-values-requires
     figures-requires
-    job-reply-requires
+    put-figures-requires
     returns)

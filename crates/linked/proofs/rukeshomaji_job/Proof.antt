@@ -13,8 +13,8 @@ frame-values-requires c κs = search needs
 job-requires : tie.Need-job-requires
 job-requires c κs = search needs
 
-job-reply-requires : tie.Need-job-reply-requires
-job-reply-requires c κs = search needs
+put-figures-requires : tie.Need-put-figures-requires
+put-figures-requires c κs = search needs
 
 same-length : tie.Need-same-length
 same-length c = search needs
@@ -26,8 +26,8 @@ same-length-3 : tie.Need-same-length-3
 same-length-3 c = search needs
 
 returns : tie.Need-returns
-returns c = let a = c .before .before .before .before .before .before .before .before .before .before .before .before .before .before .before .before .before .before .args in
-    job-replies (a .site) (a .frame) (a .weights .now) (a .heights .now) _ _ (record { forces = a .forces .now; shears = a .shears .now; overturnings = a .overturnings .now }) (c .before .before .before .before .before .before .before .job .result) _ (c .before .before .before .before .before .before .before .before .before .before .before .before .site-values .ensures) (c .before .before .before .before .before .before .before .before .before .before .before .frame-values .ensures) (c .before .before .before .before .before .before .before .job .ensures) (c .job-reply .ensures)
+returns c = let a = c .before .before .before .before .before .before .before .before .before .before .before .before .before .before .before .before .before .before .before .args in
+    job-replies (a .site .now) (a .frame .now) (a .weights .now) (a .heights .now) _ _ (record { forces = a .forces .now; shears = a .shears .now; overturnings = a .overturnings .now }) (c .before .before .before .before .before .before .before .before .job .result) _ (c .before .before .before .before .before .before .before .before .before .before .before .before .before .site-values .ensures) (c .before .before .before .before .before .before .before .before .before .before .before .before .frame-values .ensures) (c .before .before .before .before .before .before .before .before .job .ensures) (c .put-figures .ensures)
 
 pub rukeshomaji-job-spec : {M : Type 1} → statement M
 rukeshomaji-job-spec =
@@ -36,7 +36,7 @@ rukeshomaji-job-spec =
     site-values-requires
     frame-values-requires
     job-requires
-    job-reply-requires
+    put-figures-requires
     same-length
     same-length-2
     same-length-3

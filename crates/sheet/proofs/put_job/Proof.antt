@@ -5,13 +5,13 @@ use Prim.Native.Nat.{_≤_}
 use native.Mathlib.Omega.{arith}
 use lib.ListN.{length}
 use Rattle.limits.specs.declared.refusal.Refusal.{Refusal}
+use Rattle.limits.specs.Outcome.{refused}
 use Rattle.limits.proofs.Stages.{yielded}
 use Rattle.job.specs.declared.JobAnswer.{JobAnswer}
 use Rattle.job.specs.declared.JobAnswer.the-variants.{Taken}
 use Rattle.job.specs.Job.{answerOutcome, Buffers, Answers}
-use Rattle.sheet.proofs.JobAnswered.{lent, few, refused-listing, forces-cut, shears-cut, overturnings-cut, cut-levelled, taken-listing}
-use Rattle.sheet.specs.Listing.{refusal}
-use Rattle.sheet.proofs.Listings.{written-as}
+use Rattle.sheet.proofs.JobAnswered.{lent, few, refused-outcome, forces-cut, shears-cut, overturnings-cut, cut-levelled, cut, taken-outcome}
+use Rattle.sheet.proofs.Listings.{puts-refused, puts-results}
 use Rattle.sheet.proofs.put_job.Statement.{statement}
 use Rattle.sheet.proofs.put_job.Tie as tie
 
@@ -62,8 +62,8 @@ returns c =
     let h = held (c .before .before .before .before .before .before .before .before .before .before) in
     let told = c .before .before .before .before .before .enum-told .given .1 in
     let answer = subst (λ (x : JobAnswer). Answers (g .site) (g .frame) (g .weights .now) (g .heights .now) lent x h) told (c .before .before .before .before .before .before .before .before .before .before .job .ensures) in
-    let same = ap (λ (x : Refusal). refusal (x .number) (x .place)) (yielded answerOutcome _ _ told refl (c .before .before .before .refusal .ensures)) in
-    written-as (same ∙ refused-listing (g .site) (g .frame) (g .weights .now) (g .heights .now) _ h answer) (c .before .before .put-refusal .ensures)
+    let same = yielded answerOutcome _ _ told refl (c .before .before .before .before .refusal .ensures) in
+    puts-refused _ (refused-outcome (g .site) (g .frame) (g .weights .now) (g .heights .now) _ h answer ∙ sym (ap (λ (x : Refusal). refused (x .number) (x .place)) same)) (c .before .before .put-refusal .ensures)
 
 array-share-prefix-forces : tie.Need-array-share-prefix-forces
 array-share-prefix-forces c = omega (arith, few-levels (c .before .before))
@@ -94,13 +94,17 @@ put-results-requires c κs =
     let b = c .before .before .before .before .before .before .before .before .before .before .before .before .before .before .before .before .before in
     (cut-levelled (b .args .site) (b .args .frame) (b .args .weights .now) (b .args .heights .now) _ _ (taken (c .before .before .before .before .before)), b .pre)
 
+none-requires : tie.Need-none-requires
+none-requires c κs = search needs
+
 same-length-2 : tie.Need-same-length-2
 same-length-2 c = search needs
 
 returns-2 : tie.Need-returns-2
 returns-2 c =
-    let b = c .before .before .before .before .before .before .before .before .before .before .before .before .before .before .before .before .before .before .before .before in
-    written-as (taken-listing (b .args .site) (b .args .frame) (b .args .weights .now) (b .args .heights .now) _ _ (taken (c .before .before .before .before .before .before .before .before))) (c .before .before .put-results .ensures)
+    let g = c .before .before .before .before .before .before .before .before .before .before .before .before .before .before .before .before .before .before .before .before .before .args in
+    let t = taken (c .before .before .before .before .before .before .before .before .before) in
+    puts-results (cut (g .site) (g .frame) (g .weights .now) (g .heights .now) _ _ t) (taken-outcome (g .site) (g .frame) (g .weights .now) (g .heights .now) _ _ t) (c .none .ensures) (c .before .before .before .put-results .ensures)
 
 pub put-job-spec : {M : Type 1} → statement M
 put-job-spec =
@@ -123,5 +127,6 @@ put-job-spec =
     array-share-prefix-overturnings
     slice-aggregate-put-results-3
     put-results-requires
+    none-requires
     same-length-2
     returns-2)

@@ -2,11 +2,11 @@
 use borrow.Author.Needs.{needs}
 use mathlib.Core.Path.{refl, sym, ap, _∙_}
 use Rattle.limits.specs.declared.refusal.Refusal.{Refusal}
+use Rattle.limits.specs.Outcome.{refused}
 use Rattle.limits.proofs.Stages.{yielded}
 use Rattle.sheet.proofs.SheetAnswered.{SheetJob, sheet-refused, sheet-taken}
-use Rattle.sheet.specs.Listing.{refusal}
 use Rattle.sheet.specs.Reading.{sheetOutcome}
-use Rattle.sheet.proofs.Listings.{written-as}
+use Rattle.sheet.proofs.Listings.{puts-refused, puts-as}
 use Rattle.sheet.proofs.put_sheet.Statement.{statement}
 use Rattle.sheet.proofs.put_sheet.Tie as tie
 
@@ -32,8 +32,8 @@ returns : tie.Need-returns
 returns c =
     let s = c .before .before .before .before .before .before .before .before .before .before .args .s .now in
     let told = c .before .before .before .before .before .enum-told .given .1 in
-    let same = ap (λ (x : Refusal). refusal (x .number) (x .place)) (yielded sheetOutcome _ _ told refl (c .before .before .before .refusal .ensures)) in
-    written-as (same ∙ sheet-refused s _ (c .before .before .before .before .before .before .before .read-sheet .ensures) _ told) (c .before .before .put-refusal .ensures)
+    let same = yielded sheetOutcome _ _ told refl (c .before .before .before .before .refusal .ensures) in
+    puts-refused _ (sheet-refused s _ (c .before .before .before .before .before .before .before .read-sheet .ensures) _ told ∙ sym (ap (λ (x : Refusal). refused (x .number) (x .place)) same)) (c .before .before .put-refusal .ensures)
 
 -- a sheet was read: the job of its first cells
 read : (c : tie.After-a)
@@ -59,7 +59,7 @@ same-length-2 : tie.Need-same-length-2
 same-length-2 c = search needs
 
 returns-2 : tie.Need-returns-2
-returns-2 c = written-as (read (c .before .before .before .before .before .before .before .before .before) .listed) (c .before .before .put-job .ensures)
+returns-2 c = puts-as (read (c .before .before .before .before .before .before .before .before .before) .outcome) (c .before .before .put-job .ensures)
 
 pub put-sheet-spec : {M : Type 1} → statement M
 put-sheet-spec =

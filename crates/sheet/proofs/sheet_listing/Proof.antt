@@ -11,7 +11,7 @@ put-sheet-requires : tie.Need-put-sheet-requires
 put-sheet-requires c κs = search needs
 
 returns : tie.Need-returns
-returns c = printed-is (c .before .put-sheet .ensures)
+returns c = printed-is (c .before .before .before .before .args .s .now) (c .before .put-sheet .ensures)
 
 pub sheet-listing-spec : {M : Type 1} → statement M
 sheet-listing-spec = tie.close (tie.spec slice-aggregate-put-sheet put-sheet-requires returns)
