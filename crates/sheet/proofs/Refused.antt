@@ -21,7 +21,7 @@ only (accepted a) f e = absurd (never (sym e))
 only (refused m p) f e = let r = one-refusal e in rw (r .0, r .1)
 
 -- what is held of an outcome says a refusal only where the outcome is that refusal
-module _ {A H : Type 0} (held : Outcome A → H) (said : H → Outcome Done)
-    (is : (o : Outcome A) → said (held o) ≡ (o >>= λ _. accepted tt)) where
+module _ {A B H : Type 0} (g : A → B) (held : Outcome A → H) (said : H → Outcome B)
+    (is : (o : Outcome A) → said (held o) ≡ (o >>= λ a. accepted (g a))) where
   pub answer-refused : (o : Outcome A) (h : H) {n p : ℕ} → h ≡ held o → said h ≡ refused n p → o ≡ refused n p
-  answer-refused o h e m = only o (λ _. tt) (sym (is o) ∙ ap said (sym e) ∙ m)
+  answer-refused o h e m = only o g (sym (is o) ∙ ap said (sym e) ∙ m)

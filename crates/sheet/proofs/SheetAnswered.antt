@@ -22,26 +22,25 @@ use Rattle.sheet.specs.declared.reader.SheetAnswer.{SheetAnswer}
 use Rattle.sheet.specs.declared.reader.SheetAnswer.the-variants.{Taken, Refused}
 use Rattle.sheet.specs.declared.reader.SheetRead.{SheetRead}
 use Rattle.sheet.specs.Listing.{jobOfSheet, outcomeOf}
-use Rattle.sheet.specs.Reading.{readSheet, keptMost, kept, cellsOf, sheetRead}
+use Rattle.sheet.specs.Reading.{readSheet, keptMost, kept, cellsOf, sheetRead, sheetOutcome}
 use Rattle.sheet.specs.Sheet.{Sheet}
 use Rattle.sheet.proofs.JobAnswered.{too-many}
 use Rattle.sheet.proofs.ReadLaid.{read-same}
 use Rattle.sheet.proofs.Refused.{answer-refused}
 
 -- ---- an answer, once it is known
--- what an answer says, its values left out
-abbrev said : SheetAnswer → Outcome Done
-said (Taken v f n) = accepted tt
-said (Refused f) = refused (f .number) (f .place)
+abbrev keptSheet : Sheet → SiteValues × (FrameValues × ℕ)
+keptSheet r = (r .site, (r .frame, length (kept (r .levels .weights))))
 
-said-is : (o : Outcome Sheet) → said (sheetRead o .answer) ≡ (o >>= λ _. accepted tt)
+-- it says the outcome: site, frame, and how many levels are kept
+pub sheet-said : (o : Outcome Sheet) → sheetOutcome (sheetRead o .answer) ≡ (o >>= λ r. accepted (keptSheet r))
 unfolding sheetRead
-said-is (accepted r) = refl
-said-is (refused n p) = refl
+sheet-said (accepted r) = refl
+sheet-said (refused n p) = refl
 
 said-refused : (o : Outcome Sheet) (c : SheetRead) (f : Refusal) → c ≡ sheetRead o → c .answer ≡ Refused f
     → o ≡ refused (f .number) (f .place)
-said-refused o c f e m = answer-refused sheetRead (λ (x : SheetRead). said (x .answer)) said-is o c e (ap said m)
+said-refused o c f e m = answer-refused keptSheet sheetRead (λ (x : SheetRead). sheetOutcome (x .answer)) sheet-said o c e (ap sheetOutcome m)
 
 pub record SheetTaken (o : Outcome Sheet) (c : SheetRead) (v : SiteValues) (f : FrameValues) (n : ℕ) : Type 0 where
   pub read : Sheet
@@ -67,7 +66,7 @@ said-taken (accepted r) c v f n e m =
       weights = ap (λ (x : SheetRead). x .weights) e;
       heights = ap (λ (x : SheetRead). x .heights) e;
     }
-said-taken (refused k p) c v f n e m = absurd (never (ap said (sym (ap (λ (x : SheetRead). x .answer) e) ∙ m)))
+said-taken (refused k p) c v f n e m = absurd (never (ap sheetOutcome (sym (ap (λ (x : SheetRead). x .answer) e) ∙ m)))
 
 -- ---- the outcome, by what the code holds
 -- the job of the levels that are kept is the job of all: where some are not kept, both are refused by their count

@@ -22,7 +22,7 @@ use Rattle.sheet.specs.declared.levels.LevelsRead.{LevelsRead}
 use Rattle.sheet.specs.declared.reader.SheetAnswer.the-variants.{Taken}
 use Rattle.sheet.specs.Layouts.{Layout, Line, past}
 use Rattle.sheet.specs.Lines.{Front, lineIn, readFrom}
-use Rattle.sheet.specs.Reading.{sheetLines, levelLines, kept, cellsOf, levelsRead, sheetRead}
+use Rattle.sheet.specs.Reading.{sheetLines, levelLines, kept, cellsOf, levelsRead, sheetRead, levelsOutcome}
 use Rattle.sheet.specs.Sheet.{siteLayout, frameLayout, sheetForm, levelForm, siteValues, frameValues, Levels, levelsOf}
 use Rattle.sheet.proofs.LaidRead.{sheet-worded, frame-worded}
 use Rattle.sheet.proofs.Lines.{read-stop, read-on}
@@ -48,22 +48,21 @@ unfolding lineIn
 no-more p s = refl
 
 -- ---- what the code holds of the level lines
--- what an answer says, its value left out
-abbrev said : LevelsAnswer → Outcome Done
-said (TakenLevels n) = accepted tt
-said (RefusedLevels f) = refused (f .number) (f .place)
+abbrev keptLevels : Levels → ℕ
+keptLevels ls = length (kept (ls .weights))
 
-said-is : (o : Outcome Levels) → said (levelsRead o .answer) ≡ (o >>= λ _. accepted tt)
+-- the answer says the outcome, and how many levels are kept
+pub levels-said : (o : Outcome Levels) → levelsOutcome (levelsRead o .answer) ≡ (o >>= λ ls. accepted (keptLevels ls))
 unfolding levelsRead
-said-is (accepted ls) = refl
-said-is (refused n p) = refl
+levels-said (accepted ls) = refl
+levels-said (refused n p) = refl
 
 pub levels-refused : (s : List ℕ) (r : LevelsRead) (f : Refusal) → r ≡ levelsRead (levelLines s) → r .answer ≡ RefusedLevels f
     → readFrom 3 levelForm s ≡ refused (f .number) (f .place)
 unfolding levelLines
 levels-refused s r f e m =
     only (readFrom 3 levelForm s) levelsOf
-    (answer-refused levelsRead (λ (x : LevelsRead). said (x .answer)) said-is (levelLines s) r e (ap said m))
+    (answer-refused keptLevels levelsRead (λ (x : LevelsRead). levelsOutcome (x .answer)) levels-said (levelLines s) r e (ap levelsOutcome m))
 
 pub record LevelsTaken (s : List ℕ) (r : LevelsRead) (n : ℕ) : Type 0 where
   pub lines : List Line
@@ -88,7 +87,7 @@ levels-taken s r n e m = go (readFrom 3 levelForm s) refl e
           weights = ap (λ (x : LevelsRead). x .weights) u;
           heights = ap (λ (x : LevelsRead). x .heights) u;
         }
-    go (refused k p) q u = absurd (never (ap said (sym (ap (λ (x : LevelsRead). x .answer) u) ∙ m)))
+    go (refused k p) q u = absurd (never (ap levelsOutcome (sym (ap (λ (x : LevelsRead). x .answer) u) ∙ m)))
 
 -- ---- line by line
 abbrev start : Cursor
