@@ -8,9 +8,10 @@ use Prim.Native.Nat.{ℕ, _≤_}
 use native.Mathlib.Omega.{arith}
 use lib.ListN.{length}
 use Rattle.limits.specs.Judging.{judgedJob}
-use Rattle.limits.specs.Order.{NoLater}
+use Rattle.limits.specs.Order.{InOrder, NoLater}
 use Rattle.limits.specs.Outcome.{Outcome, accepted, refused}
 use Rattle.limits.proofs.Foremost as judging
+use Rattle.limits.proofs.InOrder.{in-order}
 use Rattle.limits.proofs.Passed.{never, one-value, bind-passed}
 use Rattle.limits.proofs.Refusing as applying
 use Rattle.job.specs.Job.{Results, resultsOf, jobOf}
@@ -52,6 +53,12 @@ module _ (s : List ℕ) where
   read-applies r m q e (of-job ls t is a) =
       subst (λ (x : Sheet). JobApplies x m q)
       (one-value (sym (lines-are ls t is) ∙ sym (sheet-lines s (read-lines s r e .short)) ∙ e)) a
+
+  -- every number that applies stands in the order
+  pub applies-in-order : (n p : ℕ) → SheetApplies s n p → InOrder n
+  applies-in-order n p (long h) = in-order 17 (omega arith)
+  applies-in-order n p (line f) = in-order 16 (omega arith)
+  applies-in-order n p (of-job ls t is a) = judging.applies-in-order _ _ _ _ _ n p a
 
   module _ (n p : ℕ) (e : outcomeOf s ≡ refused n p) where
     pub refused-applies : SheetApplies s n p
