@@ -33,15 +33,28 @@ static double now(void)
     return t.tv_sec * 1e9 + t.tv_nsec;
 }
 
-static JobReply job_call(Job *job, const JobInput *p)
+/* V_D, the class, the length of the listing */
+static u64 job_call(Job *job, const JobInput *p)
 {
+    JobReply reply;
     size_t n = p->levels;
-    return job(p->site, p->frame, p->weights, n, p->heights, n, forces, n, shears, n, moments, n);
+    job(&p->site, &p->frame, p->weights, n, p->heights, n, forces, n, shears, n, moments, n, &reply);
+    return reply.vd;
 }
 
-static ClassReply log_call(Log *log, const LogInput *p)
+static u64 log_call(Log *log, const LogInput *p)
 {
-    return log(p->thicknesses, LAYERS, p->kinds, LAYERS, p->values, LAYERS);
+    ClassReply reply;
+    log(p->thicknesses, LAYERS, p->kinds, LAYERS, p->values, LAYERS, &reply);
+    return reply.class_number;
+}
+
+static u64 sheet_call(Sheet *sheet, const SheetInput *p)
+{
+    static char listing[LONGEST];
+    SheetReply reply;
+    sheet(p->bytes, p->length, listing, &reply);
+    return reply.length;
 }
 
 /* One round, in ns a call. A single input has another first weight or value at each call. */
@@ -52,14 +65,14 @@ static double round_of(const Kind *k, const Side *side)
     for (long i = 0; i < k->calls; i++) switch (k->call) {
     case JOB:
         if (!mask) jobs->weights[0] = 4000 + i % 1000;
-        kept += job_call(side->job, jobs + (i & mask)).vd;
+        kept += job_call(side->job, jobs + (i & mask));
         break;
     case LOG:
         if (!mask) logs->values[0] = 2 + i % 20;
-        kept += log_call(side->log, logs + (i & mask)).class_number;
+        kept += log_call(side->log, logs + (i & mask));
         break;
     case SHEET:
-        kept += side->sheet(sheets[i & mask].bytes, sheets[i & mask].length).length;
+        kept += sheet_call(side->sheet, sheets + (i & mask));
     }
     return (now() - start) / k->calls;
 }
@@ -103,12 +116,13 @@ static int same_job(const JobInput *p)
 {
     static u64 cells[SIDES][3 * LEVELS];
     JobReply replies[SIDES];
+    u64 numbers[SIDES];
     for (int s = 0; s < SIDES; s++) {
         if (!sides[s].log) continue;
         size_t n = p->levels;
         u64 *c = memset(cells[s], 0, sizeof cells[s]);
-        replies[s] = sides[s].job(p->site, p->frame, p->weights, n, p->heights, n, c, n, c + LEVELS, n, c + 2 * LEVELS, n);
-        if (memcmp(replies, replies + s, sizeof *replies) || memcmp(cells, cells + s, sizeof *cells)) return 0;
+        numbers[s] = sides[s].job(&p->site, &p->frame, p->weights, n, p->heights, n, c, n, c + LEVELS, n, c + 2 * LEVELS, n, replies + s);
+        if (numbers[s] != *numbers || memcmp(replies, replies + s, sizeof *replies) || memcmp(cells, cells + s, sizeof *cells)) return 0;
     }
     return 1;
 }
@@ -116,29 +130,32 @@ static int same_job(const JobInput *p)
 /* the doubles round once, at the end: a few newtons off, and T may be a millisecond off where inputs are drawn */
 static int near_job(const JobInput *p)
 {
-    u64 a = job_call(rukeshomaji_job, p).vd, b = job_call(double_job, p).vd, off = a > b ? a - b : b - a;
+    u64 a = job_call(rukeshomaji_job, p), b = job_call(double_job, p), off = a > b ? a - b : b - a;
     return off <= a / 100000 + 1;
 }
 
 static int same_log(const LogInput *p)
 {
-    ClassReply first = log_call(sides->log, p);
-    for (int s = 1; s < SIDES; s++) {
+    ClassReply replies[SIDES];
+    u64 numbers[SIDES];
+    for (int s = 0; s < SIDES; s++) {
         if (!sides[s].log) continue;
-        ClassReply other = log_call(sides[s].log, p);
-        if (memcmp(&first, &other, sizeof first)) return 0;
+        numbers[s] = sides[s].log(p->thicknesses, LAYERS, p->kinds, LAYERS, p->values, LAYERS, replies + s);
+        if (numbers[s] != *numbers || memcmp(replies, replies + s, sizeof *replies)) return 0;
     }
     return 1;
 }
 
 static int same_sheet(const char *bytes, size_t length)
 {
-    static SheetReply first, other;
-    first = sides->sheet((const uint8_t *)bytes, length);
-    for (int s = 1; s < SIDES; s++) {
+    static char listings[SIDES][LONGEST];
+    SheetReply replies[SIDES];
+    u64 numbers[SIDES];
+    for (int s = 0; s < SIDES; s++) {
         if (!sides[s].sheet) continue;
-        other = sides[s].sheet((const uint8_t *)bytes, length);
-        if (first.length != other.length || memcmp(first.bytes, other.bytes, sizeof first.bytes)) return 0;
+        memset(listings[s], 'x', LONGEST);
+        numbers[s] = sides[s].sheet(bytes, length, listings[s], replies + s);
+        if (numbers[s] != *numbers || memcmp(replies, replies + s, sizeof *replies) || memcmp(listings, listings + s, LONGEST)) return 0;
     }
     return 1;
 }
@@ -175,7 +192,7 @@ static void time_jobs(const char *name, size_t levels, double guess, JobInput fi
 
 static void lay_sheet(int i, const JobInput *p)
 {
-    sheets[i] = (SheetInput){(uint8_t *)texts[i], sheet_of(p, texts[i])};
+    sheets[i] = (SheetInput){texts[i], sheet_of(p, texts[i])};
 }
 
 static void time_sheets(const char *name, size_t levels, double guess)
@@ -190,7 +207,7 @@ static void time_sheets(const char *name, size_t levels, double guess)
 static void time_long_sheets(const char *name)
 {
     JobInput p = fixed_job(1);
-    for (int i = 0; i < POOL; i++) sheets[i] = (SheetInput){(uint8_t *)texts[i], BYTES};
+    for (int i = 0; i < POOL; i++) sheets[i] = (SheetInput){texts[i], BYTES};
     long_sheet(&p, texts[0], least_weight);
     timed(name, SHEET, 1, 8000);
     for (int i = 0; i < POOL; i++) p = drawn_job(1), long_sheet(&p, texts[i], drawn_weight);

@@ -79,10 +79,10 @@ static inline __attribute__((always_inline)) u64 lower_q(u64 a, u64 b, u64 t, u6
     return up(sa * 1000000, f);
 }
 
-JobReply OF(job)(Site s, Frame f, const u64 *w, size_t n, const u64 *h, size_t m, u64 *restrict forces, size_t nf, u64 *restrict shears,
-                 size_t ns, u64 *restrict moments, size_t nm)
+u64 OF(job)(const Site *s, const Frame *f, const u64 *w, u64 n, const u64 *h, u64 m, u64 *restrict forces, u64 nf,
+            u64 *restrict shears, u64 ns, u64 *restrict moments, u64 nm, JobReply *reply)
 {
-    size_t room = nf < ns ? nf : ns;
+    u64 room = nf < ns ? nf : ns;
     room = room < nm ? room : nm;
     if (n - 1 > 49 || m != n || room < n) goto refuse;
     u64 W = 0, P = 0, below = 0, bad = 0;
@@ -91,30 +91,29 @@ JobReply OF(job)(Site s, Frame f, const u64 *w, size_t n, const u64 *h, size_t m
         bad |= (a - 1 > 19999) | (b <= below) | (b > 2000);
         below = b, W += a, P += a * b;
     }
-    bad |= (s.ssd - 50 > 30) | (s.ssd % 10 != 0) | (s.s1d - 30 > 15) | (s.s1d % 5 != 0);
-    bad |= (s.ssm - 70 > 30) | (s.ssm % 10 != 0) | (s.s1m - 40 > 15) | (s.s1m % 5 != 0);
-    bad |= (s.na - 100 > 50) | (s.nv - 100 > 100) | (s.class_number - 1 > 2);
-    bad |= (f.r - 100 > 500) | ((f.i != 100) & (f.i != 125) & (f.i != 150)) | (f.alpha_y - 100 > 100) | (f.kind - 1 > 3);
-    bad |= f.calculated > 60000;
+    bad |= (s->ssd - 50 > 30) | (s->ssd % 10 != 0) | (s->s1d - 30 > 15) | (s->s1d % 5 != 0);
+    bad |= (s->ssm - 70 > 30) | (s->ssm % 10 != 0) | (s->s1m - 40 > 15) | (s->s1m % 5 != 0);
+    bad |= (s->na - 100 > 50) | (s->nv - 100 > 100) | (s->class_number - 1 > 2);
+    bad |= (f->r - 100 > 500) | ((f->i != 100) & (f->i != 125) & (f->i != 150)) | (f->alpha_y - 100 > 100) | (f->kind - 1 > 3);
+    bad |= f->calculated > 60000;
     if (bad) {
-    refuse:;
-        u64 refused = OF(judged)(s, f, w, n, h, m, room);
-        return (JobReply){refused >> 32, refused & 0xffffffff, 0, 0, 0, 0, 0};
+    refuse:
+        return refuse_job(reply, OF(judged)(s, f, w, n, h, m, room));
     }
-    u64 T = period(f.kind, f.calculated, below), c = s.class_number - 1;
-    u64 a = fa(c, s.ssd * s.na), b = fv(c, s.s1d * s.nv), am = fa(c, s.ssm * s.na), bm = fv(c, s.s1m * s.nv);
-    u64 ap = fa(c, 100 * s.ssd), bp = fv(c, 100 * s.s1d), design = (2 * f.r + 100) * 10000, mce = 3 * f.r * 10000;
-    u64 q = lower_q(a, b, T, design, 1000000000000 * (f.r - 25) / 75), qm = lower_q(am, bm, T, mce, 1000000000000 * (f.r - 50) / 50);
+    u64 T = period(f->kind, f->calculated, below), c = s->class_number - 1;
+    u64 a = fa(c, s->ssd * s->na), b = fv(c, s->s1d * s->nv), am = fa(c, s->ssm * s->na), bm = fv(c, s->s1m * s->nv);
+    u64 ap = fa(c, 100 * s->ssd), bp = fv(c, 100 * s->s1d), design = (2 * f->r + 100) * 10000, mce = 3 * f->r * 10000;
+    u64 q = lower_q(a, b, T, design, 1000000000000 * (f->r - 25) / 75), qm = lower_q(am, bm, T, mce, 1000000000000 * (f->r - 50) / 50);
     u64 ta = T * ap, sa = spectrum(ap, bp, ta, T), uf;
     if (1000 * bp <= ta) uf = up(design, 3);
     else {
-        u64 k = root_of((1000000000000 * (f.r - 25) - 1) / 75) + 1;
+        u64 k = root_of((1000000000000 * (f->r - 25) - 1) / 75) + 1;
         if (600 * bp <= ta) uf = k + up((design - 3 * k) * (ta - 600 * bp), 1200 * bp);
         else if (200 * bp <= ta) uf = k;
         else uf = k - (k - 1000000) * (200 * bp - ta) / (200 * bp);
     }
     u64 p = 10 * sa <= 3 * uf ? sa : 10 * sa <= 8 * uf ? up(520 * sa + 144 * uf, 1000) : up(7 * sa, 10);
-    u64 iw = f.i * W, d = 1400 * f.alpha_y;
+    u64 iw = f->i * W, d = 1400 * f->alpha_y;
     u64 v = up(iw * modified(q), d), vm = up(iw * modified(qm), d), star = up(iw * p, 3 * d), vd = v > vm ? v : vm;
     vd = star > vd ? star : vd;
     u64 ft = up(7 * T * vd, 100000), px = 0, above = 0, moment = 0, part = vd - ft;
@@ -132,5 +131,6 @@ JobReply OF(job)(Site s, Frame f, const u64 *w, size_t n, const u64 *h, size_t m
         moments[x] = moment += shear * (top - bottom);
         top = bottom;
     }
-    return (JobReply){0, 0, v, vm, star, vd, T};
+    *reply = (JobReply){0, v, vm, star, vd, T};
+    return 0;
 }

@@ -17,34 +17,34 @@ __attribute__((constructor)) static void make(void)
         }
 }
 
-ClassReply OF(site_class)(const u64 *d, size_t n, const u64 *kinds, size_t nk, const u64 *values, size_t nv)
+u64 OF(site_class)(const u64 *d, u64 n, const u64 *kinds, u64 nk, const u64 *values, u64 nv, ClassReply *reply)
 {
-    if (nk != n || nv != n) return (ClassReply){2, 0, 0};
-    if (n < 1 || n > 40) return (ClassReply){13, 0, 0};
+    if (nk != n || nv != n) return reply_class(reply, 2, 0, 0);
+    if (n < 1 || n > 40) return reply_class(reply, 13, 0, 0);
     u64 sum = 0, bad = 0, zero = 0;
     for (size_t i = 0; i < n; i++) zero |= d[i] == 0, bad |= d[i] > 3000, sum += d[i];
     if (zero | bad | (sum != 3000)) {
         for (size_t i = 0; i < n; i++)
-            if (d[i] == 0) return (ClassReply){14, i + 1, 0};
-        return (ClassReply){14, 0, 0};
+            if (d[i] == 0) return reply_class(reply, 14, i + 1, 0);
+        return reply_class(reply, 14, 0, 0);
     }
     u64 upper = 0, lower = 0;
     for (size_t i = 0; i < n; i++) {
         u64 k = kinds[i] - 2, v = values[i], ns = 100000000 * d[i];
         if (likely(k < 2)) {
-            if (k ? v - 1 > 49 : v - 2 > 23) return (ClassReply){15, i + 1, 0};
+            if (k ? v - 1 > 49 : v - 2 > 23) return reply_class(reply, 15, i + 1, 0);
             u64 z = vel[k][v], q = (u64)(i64)((double)(i64)ns * inverse[k][v]);
             i64 r = (i64)(ns - q * z);
             q -= r < 0;
             q += r >= (i64)z;
             lower += q, upper += q + (q * z != ns);
         } else {
-            if (k != (u64)-1 || v - 500 > 29500) return (ClassReply){15, i + 1, 0};
+            if (k != (u64)-1 || v - 500 > 29500) return reply_class(reply, 15, i + 1, 0);
             u64 q = ns / v;
             lower += q, upper += q + (q * v != ns);
         }
     }
-    if (27 * upper < 3000000000) return (ClassReply){0, 0, 1};
-    if (18 * lower > 3000000000) return (ClassReply){0, 0, 3};
-    return (ClassReply){0, 0, 2};
+    if (27 * upper < 3000000000) return reply_class(reply, 0, 0, 1);
+    if (18 * lower > 3000000000) return reply_class(reply, 0, 0, 3);
+    return reply_class(reply, 0, 0, 2);
 }

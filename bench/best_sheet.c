@@ -2,7 +2,7 @@
 #include <string.h>
 #include "rules.h"
 
-static inline const uint8_t *number(const uint8_t *p, const uint8_t *end, u64 *value)
+static inline const uint8_t *digits(const uint8_t *p, const uint8_t *end, u64 *value)
 {
     if (p >= end || *p != '\t') return NULL;
     const uint8_t *first = ++p;
@@ -38,44 +38,44 @@ static inline uint8_t *decimal(uint8_t *out, u64 v)
     return out + n;
 }
 
-static SheetReply refused(u64 number, u64 place)
+static u64 refused(uint8_t *listing, SheetReply *reply, u64 number, u64 place)
 {
-    SheetReply r;
-    memcpy(r.bytes, "refused", 7);
-    uint8_t *out = decimal(decimal(r.bytes + 7, number), place);
+    memcpy(listing, "refused", 7);
+    uint8_t *out = decimal(decimal(listing + 7, number), place);
     *out++ = '\n';
-    r.length = out - r.bytes;
-    memset(out, 0, sizeof r.bytes - r.length);
-    return r;
+    *reply = (SheetReply){place, out - listing};
+    return number;
 }
+
+#define REFUSED(number, place) return refused(out, reply, number, place)
 
 /* so many numbers and LF, or NULL */
 static inline const uint8_t *numbers(const uint8_t *p, const uint8_t *end, int count, u64 *values)
 {
     for (int i = 0; i < count; i++)
-        if (!(p = number(p, end, values + i))) return NULL;
+        if (!(p = digits(p, end, values + i))) return NULL;
     return p < end && *p == '\n' ? p + 1 : NULL;
 }
 
-SheetReply OF(sheet)(const uint8_t *s, size_t length)
+u64 OF(sheet)(const char *s, u64 length, char *listing, SheetReply *reply)
 {
-    const uint8_t *p = s, *end = s + length;
+    const uint8_t *p = (const uint8_t *)s, *end = p + length;
+    uint8_t *out = (uint8_t *)listing;
     u64 site[7], frame[5], level[2], w[50], h[50], forces[50], shears[50], moments[50];
-    if (length > 4096) return refused(17, 0);
-    if (length < 4 || memcmp(p, "site", 4) || !(p = numbers(p + 4, end, 7, site))) return refused(16, 1);
-    if (end - p < 5 || memcmp(p, "frame", 5) || !(p = numbers(p + 5, end, 5, frame))) return refused(16, 2);
+    if (length > 4096) REFUSED(17, 0);
+    if (length < 4 || memcmp(p, "site", 4) || !(p = numbers(p + 4, end, 7, site))) REFUSED(16, 1);
+    if (end - p < 5 || memcmp(p, "frame", 5) || !(p = numbers(p + 5, end, 5, frame))) REFUSED(16, 2);
     size_t n = 0;
     for (; p < end; n++) {
-        if (end - p < 5 || memcmp(p, "level", 5) || !(p = numbers(p + 5, end, 2, level))) return refused(16, n + 3);
+        if (end - p < 5 || memcmp(p, "level", 5) || !(p = numbers(p + 5, end, 2, level))) REFUSED(16, n + 3);
         if (n < 50) w[n] = level[0], h[n] = level[1];
     }
-    if (n > 50) return refused(1, 0);
+    if (n > 50) REFUSED(1, 0);
     Site si = {site[0], site[1], site[2], site[3], site[4], site[5], site[6]};
     Frame fr = {frame[0], frame[1], frame[2], frame[3], frame[4]};
-    JobReply j = OF(job)(si, fr, w, n, h, n, forces, n, shears, n, moments, n);
-    if (j.number) return refused(j.number, j.place);
-    SheetReply r;
-    uint8_t *out = r.bytes;
+    JobReply j;
+    u64 number = OF(job)(&si, &fr, w, n, h, n, forces, n, shears, n, moments, n, &j);
+    if (number) REFUSED(number, j.place);
     memcpy(out, "base", 4);
     out = decimal(decimal(decimal(decimal(decimal(out + 4, j.v), j.vm), j.star), j.vd), j.t);
     *out++ = '\n';
@@ -84,7 +84,6 @@ SheetReply OF(sheet)(const uint8_t *s, size_t length)
         out = decimal(decimal(decimal(decimal(out + 5, x + 1), forces[x]), shears[x]), moments[x]);
         *out++ = '\n';
     }
-    r.length = out - r.bytes;
-    memset(out, 0, sizeof r.bytes - r.length);
-    return r;
+    *reply = (SheetReply){0, out - (uint8_t *)listing};
+    return 0;
 }

@@ -14,11 +14,19 @@ static volatile u64 kept;
 
 static u64 base_shear(Job *of)
 {
+    JobReply reply;
     size_t n = job.levels;
-    return of(job.site, job.frame, job.weights, n, job.heights, n, forces, n, shears, n, moments, n).vd;
+    of(&job.site, &job.frame, job.weights, n, job.heights, n, forces, n, shears, n, moments, n, &reply);
+    return reply.vd;
 }
 
-static u64 listed(Sheet *of) { return of((const uint8_t *)text, length).length; }
+static u64 listed(Sheet *of)
+{
+    static char listing[LONGEST];
+    SheetReply reply;
+    of(text, length, listing, &reply);
+    return reply.length;
+}
 
 /* in functions of their own, by whose names the counts are told apart */
 #define COUNTED(name, call) __attribute__((noinline)) void name(void) { kept += call; }

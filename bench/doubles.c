@@ -35,26 +35,26 @@ static double factor(double a, double b, double t, double capacity)
 
 static double modified(double q) { return q <= 0.3 ? q : q <= 0.8 ? 0.52 * q + 0.144 : 0.7 * q; }
 
-JobReply OF(job)(Site s, Frame f, const u64 *w, size_t n, const u64 *h, size_t m, u64 *forces, size_t nf, u64 *shears, size_t ns,
-                 u64 *moments, size_t nm)
+u64 OF(job)(const Site *s, const Frame *f, const u64 *w, u64 n, const u64 *h, u64 m, u64 *forces, u64 nf, u64 *shears, u64 ns,
+            u64 *moments, u64 nm, JobReply *reply)
 {
     static const double c[] = {0.085, 0.07, 0.07, 0.05};
-    size_t room = nf < ns ? nf : ns;
+    u64 room = nf < ns ? nf : ns;
     u64 refused = OF(judged)(s, f, w, n, h, m, room < nm ? room : nm);
-    if (refused) return (JobReply){refused >> 32, refused & 0xffffffff, 0, 0, 0, 0, 0};
+    if (refused) return refuse_job(reply, refused);
     double W = 0, P = 0;
     for (size_t x = 0; x < n; x++) W += 1000.0 * w[x], P += (double)w[x] * h[x];
-    double t = c[f.kind - 1] * pow(h[n - 1] / 10.0, 0.75);
+    double t = c[f->kind - 1] * pow(h[n - 1] / 10.0, 0.75);
     t = floor(1000 * t);
-    if (f.calculated) t = fmin(f.calculated, floor(1.4 * t));
+    if (f->calculated) t = fmin(f->calculated, floor(1.4 * t));
     t /= 1000;
-    const double *fa = FA[s.class_number - 1], *fv = FV[s.class_number - 1];
-    double ss = s.ssd * s.na / 1e4, s1 = s.s1d * s.nv / 1e4, ms = s.ssm * s.na / 1e4, m1 = s.s1m * s.nv / 1e4;
-    double ps = s.ssd / 100.0, p1 = s.s1d / 100.0, r = f.r / 100.0, design = 1 + (r - 1) / 1.5;
+    const double *fa = FA[s->class_number - 1], *fv = FV[s->class_number - 1];
+    double ss = s->ssd * s->na / 1e4, s1 = s->s1d * s->nv / 1e4, ms = s->ssm * s->na / 1e4, m1 = s->s1m * s->nv / 1e4;
+    double ps = s->ssd / 100.0, p1 = s->s1d / 100.0, r = f->r / 100.0, design = 1 + (r - 1) / 1.5;
     double a = between(COLUMNS_A, fa, ss) * ss, b = between(COLUMNS_V, fv, s1) * s1;
     double am = between(COLUMNS_A, fa, ms) * ms, bm = between(COLUMNS_V, fv, m1) * m1;
     double ap = between(COLUMNS_A, fa, ps) * ps, bp = between(COLUMNS_V, fv, p1) * p1;
-    double share = f.i / 1.4 / f.alpha_y * W, fs = factor(ap, bp, t, design);
+    double share = f->i / 1.4 / f->alpha_y * W, fs = factor(ap, bp, t, design);
     double v = share * modified(spectrum(a, b, t) / factor(a, b, t, design));
     double vm = share * modified(spectrum(am, bm, t) / factor(am, bm, t, r));
     double star = share / 3 * fs * modified(spectrum(ap, bp, t) / fs), vd = fmax(fmax(v, vm), star);
@@ -66,5 +66,6 @@ JobReply OF(job)(Site s, Frame f, const u64 *w, size_t n, const u64 *h, size_t m
         above = under;
         moments[x] = moment += under * (h[x] - (x ? h[x - 1] : 0));
     }
-    return (JobReply){0, 0, ceil(v), ceil(vm), ceil(star), ceil(vd), round(1000 * t)};
+    *reply = (JobReply){0, ceil(v), ceil(vm), ceil(star), ceil(vd), round(1000 * t)};
+    return 0;
 }

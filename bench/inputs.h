@@ -15,7 +15,7 @@ typedef struct {
 } LogInput;
 
 typedef struct {
-    const uint8_t *bytes;
+    const char *bytes;
     size_t length;
 } SheetInput;
 

@@ -26,17 +26,17 @@ static u64 root(u64 den, u64 n)         /* the largest k with den k^2 <= n */
     return lo;
 }
 
-static u64 period(Frame f, u64 h)
+static u64 period(const Frame *f, u64 h)
 {
     static const u64 c[] = {85, 70, 70, 50};
-    u64 k = c[f.kind - 1], n = k * k * k * k * h * h * h, lo = 0, hi = 8192;
+    u64 k = c[f->kind - 1], n = k * k * k * k * h * h * h, lo = 0, hi = 8192;
     while (lo + 1 < hi) {
         u64 mid = (lo + hi) / 2;
         if (1000 * mid * mid * mid * mid <= n) lo = mid; else hi = mid;
     }
-    if (f.calculated == 0) return lo;
+    if (f->calculated == 0) return lo;
     u64 most = 14 * lo / 10;
-    return f.calculated < most ? f.calculated : most;
+    return f->calculated < most ? f->calculated : most;
 }
 
 static u64 spectrum(u64 a, u64 b, u64 t)
@@ -86,26 +86,26 @@ static u64 blended(u64 sa, u64 f)
     return up(7 * sa, 10);
 }
 
-JobReply OF(job)(Site s, Frame f, const u64 *w, size_t n, const u64 *h, size_t m, u64 *forces, size_t nf, u64 *shears, size_t ns,
-                 u64 *moments, size_t nm)
+u64 OF(job)(const Site *s, const Frame *f, const u64 *w, u64 n, const u64 *h, u64 m, u64 *forces, u64 nf, u64 *shears, u64 ns,
+            u64 *moments, u64 nm, JobReply *reply)
 {
-    size_t room = nf < ns ? nf : ns;
+    u64 room = nf < ns ? nf : ns;
     u64 refused = OF(judged)(s, f, w, n, h, m, room < nm ? room : nm);
-    if (refused) return (JobReply){refused >> 32, refused & 0xffffffff, 0, 0, 0, 0, 0};
+    if (refused) return refuse_job(reply, refused);
     u64 W = 0, P = 0;
     for (size_t x = 0; x < n; x++) W += w[x], P += w[x] * h[x];
     u64 T = period(f, h[n - 1]);
-    const u64 *fa = FA[s.class_number - 1], *fv = FV[s.class_number - 1];
-    u64 ss = s.ssd * s.na, s1 = s.s1d * s.nv, ms = s.ssm * s.na, m1 = s.s1m * s.nv, ps = 100 * s.ssd, p1 = 100 * s.s1d;
+    const u64 *fa = FA[s->class_number - 1], *fv = FV[s->class_number - 1];
+    u64 ss = s->ssd * s->na, s1 = s->s1d * s->nv, ms = s->ssm * s->na, m1 = s->s1m * s->nv, ps = 100 * s->ssd, p1 = 100 * s->s1d;
     u64 a = between(COLUMNS_A, fa, ss) * ss, b = between(COLUMNS_V, fv, s1) * s1;
     u64 am = between(COLUMNS_A, fa, ms) * ms, bm = between(COLUMNS_V, fv, m1) * m1;
     u64 ap = between(COLUMNS_A, fa, ps) * ps, bp = between(COLUMNS_V, fv, p1) * p1;
-    u64 design = (2 * f.r + 100) * 10000, mce = 3 * f.r * 10000;
-    u64 q = up(spectrum(a, b, T) * 1000000, lower_factor(a, b, T, design, f.r - 25, 75));
-    u64 qm = up(spectrum(am, bm, T) * 1000000, lower_factor(am, bm, T, mce, f.r - 50, 50));
-    u64 p = blended(spectrum(ap, bp, T), upper_factor(ap, bp, T, design, f.r - 25, 75));
-    u64 v = up(f.i * modified(q) * W, 1400 * f.alpha_y), vm = up(f.i * modified(qm) * W, 1400 * f.alpha_y);
-    u64 star = up(f.i * p * W, 4200 * f.alpha_y), vd = v > vm ? v : vm;
+    u64 design = (2 * f->r + 100) * 10000, mce = 3 * f->r * 10000;
+    u64 q = up(spectrum(a, b, T) * 1000000, lower_factor(a, b, T, design, f->r - 25, 75));
+    u64 qm = up(spectrum(am, bm, T) * 1000000, lower_factor(am, bm, T, mce, f->r - 50, 50));
+    u64 p = blended(spectrum(ap, bp, T), upper_factor(ap, bp, T, design, f->r - 25, 75));
+    u64 v = up(f->i * modified(q) * W, 1400 * f->alpha_y), vm = up(f->i * modified(qm) * W, 1400 * f->alpha_y);
+    u64 star = up(f->i * p * W, 4200 * f->alpha_y), vd = v > vm ? v : vm;
     if (star > vd) vd = star;
     u64 ft = up(7 * T * vd, 100000), px = 0, above = 0;
     for (size_t x = n; x-- > 0;) {
@@ -116,7 +116,8 @@ JobReply OF(job)(Site s, Frame f, const u64 *w, size_t n, const u64 *h, size_t m
     }
     u64 moment = 0;
     for (size_t x = n; x-- > 0;) moments[x] = moment += shears[x] * (h[x] - (x ? h[x - 1] : 0));
-    return (JobReply){0, 0, v, vm, star, vd, T};
+    *reply = (JobReply){0, v, vm, star, vd, T};
+    return 0;
 }
 
 static u64 velocity(u64 kind, u64 value)
@@ -130,28 +131,28 @@ static u64 velocity(u64 kind, u64 value)
     return lo;
 }
 
-ClassReply OF(site_class)(const u64 *d, size_t n, const u64 *kinds, size_t nk, const u64 *values, size_t nv)
+u64 OF(site_class)(const u64 *d, u64 n, const u64 *kinds, u64 nk, const u64 *values, u64 nv, ClassReply *reply)
 {
-    if (nk != n || nv != n) return (ClassReply){2, 0, 0};
-    if (n < 1 || n > 40) return (ClassReply){13, 0, 0};
+    if (nk != n || nv != n) return reply_class(reply, 2, 0, 0);
+    if (n < 1 || n > 40) return reply_class(reply, 13, 0, 0);
     for (size_t i = 0; i < n; i++)
-        if (d[i] == 0) return (ClassReply){14, i + 1, 0};
+        if (d[i] == 0) return reply_class(reply, 14, i + 1, 0);
     u64 left = 3000;
     for (size_t i = 0; i < n; i++) {
-        if (d[i] > left) return (ClassReply){14, 0, 0};
+        if (d[i] > left) return reply_class(reply, 14, 0, 0);
         left -= d[i];
     }
-    if (left) return (ClassReply){14, 0, 0};
+    if (left) return reply_class(reply, 14, 0, 0);
     static const u64 least[] = {500, 2, 1}, most[] = {30000, 25, 50};
     u64 upper = 0, lower = 0;
     for (size_t i = 0; i < n; i++) {
         u64 k = kinds[i];
-        if (k < 1 || k > 3 || values[i] < least[k - 1] || values[i] > most[k - 1]) return (ClassReply){15, i + 1, 0};
+        if (k < 1 || k > 3 || values[i] < least[k - 1] || values[i] > most[k - 1]) return reply_class(reply, 15, i + 1, 0);
         u64 v = velocity(k, values[i]);
         upper += up(100000000 * d[i], v);
         lower += 100000000 * d[i] / v;
     }
-    if (27 * upper < 3000000000) return (ClassReply){0, 0, 1};
-    if (18 * lower > 3000000000) return (ClassReply){0, 0, 3};
-    return (ClassReply){0, 0, 2};
+    if (27 * upper < 3000000000) return reply_class(reply, 0, 0, 1);
+    if (18 * lower > 3000000000) return reply_class(reply, 0, 0, 3);
+    return reply_class(reply, 0, 0, 2);
 }

@@ -10,7 +10,7 @@ static int among(const u64 *values, int count, u64 x)
     return 0;
 }
 
-u64 OF(judged)(Site s, Frame f, const u64 *w, size_t n, const u64 *h, size_t m, size_t room)
+u64 OF(judged)(const Site *s, const Frame *f, const u64 *w, u64 n, const u64 *h, u64 m, u64 room)
 {
     static const u64 ssd[] = {50, 60, 70, 80}, s1d[] = {30, 35, 40, 45}, ssm[] = {70, 80, 90, 100}, s1m[] = {40, 45, 50, 55};
     static const u64 i_values[] = {100, 125, 150};
@@ -23,17 +23,17 @@ u64 OF(judged)(Site s, Frame f, const u64 *w, size_t n, const u64 *h, size_t m, 
         if (h[x] < 1 || h[x] > 2000 || h[x] <= below) return refusal(4, x + 1);
         below = h[x];
     }
-    if (!among(ssd, 4, s.ssd)) return refusal(5, 1);
-    if (!among(s1d, 4, s.s1d)) return refusal(5, 2);
-    if (!among(ssm, 4, s.ssm)) return refusal(5, 3);
-    if (!among(s1m, 4, s.s1m)) return refusal(5, 4);
-    if (s.na < 100 || s.na > 150) return refusal(6, 1);
-    if (s.nv < 100 || s.nv > 200) return refusal(6, 2);
-    if (s.class_number < 1 || s.class_number > 3) return refusal(7, 0);
-    if (f.r < 100 || f.r > 600) return refusal(8, 0);
-    if (!among(i_values, 3, f.i)) return refusal(9, 0);
-    if (f.alpha_y < 100 || f.alpha_y > 200) return refusal(10, 0);
-    if (f.kind < 1 || f.kind > 4) return refusal(11, 0);
-    if (f.calculated > 60000) return refusal(12, 0);
+    if (!among(ssd, 4, s->ssd)) return refusal(5, 1);
+    if (!among(s1d, 4, s->s1d)) return refusal(5, 2);
+    if (!among(ssm, 4, s->ssm)) return refusal(5, 3);
+    if (!among(s1m, 4, s->s1m)) return refusal(5, 4);
+    if (s->na < 100 || s->na > 150) return refusal(6, 1);
+    if (s->nv < 100 || s->nv > 200) return refusal(6, 2);
+    if (s->class_number < 1 || s->class_number > 3) return refusal(7, 0);
+    if (f->r < 100 || f->r > 600) return refusal(8, 0);
+    if (!among(i_values, 3, f->i)) return refusal(9, 0);
+    if (f->alpha_y < 100 || f->alpha_y > 200) return refusal(10, 0);
+    if (f->kind < 1 || f->kind > 4) return refusal(11, 0);
+    if (f->calculated > 60000) return refusal(12, 0);
     return 0;
 }

@@ -1,5 +1,6 @@
 /* The same rules in plain C, beside the entries of the core. A file of them is compiled once for each side that is timed: OF(job) is
  * plain_job, clang_job, best_job or double_job. */
+#include <stddef.h>
 #include "../include/rukeshomaji.h"
 
 typedef uint64_t u64;
@@ -8,10 +9,11 @@ typedef RukeshomajiFrame Frame;
 typedef RukeshomajiFigures JobReply;
 typedef RukeshomajiClass ClassReply;
 typedef RukeshomajiListing SheetReply;
+enum { LONGEST = RUKESHOMAJI_LONGEST_LISTING };
 
-typedef JobReply Job(Site, Frame, const u64 *, size_t, const u64 *, size_t, u64 *, size_t, u64 *, size_t, u64 *, size_t);
-typedef ClassReply Log(const u64 *, size_t, const u64 *, size_t, const u64 *, size_t);
-typedef SheetReply Sheet(const uint8_t *, size_t);
+typedef u64 Job(const Site *, const Frame *, const u64 *, u64, const u64 *, u64, u64 *, u64, u64 *, u64, u64 *, u64, JobReply *);
+typedef u64 Log(const u64 *, u64, const u64 *, u64, const u64 *, u64, ClassReply *);
+typedef u64 Sheet(const char *, u64, char *, SheetReply *);
 
 #define JOINED(side, name) side##_##name
 #define NAMED(side, name) JOINED(side, name)
@@ -23,5 +25,18 @@ Log OF(site_class);
 Sheet OF(sheet);
 
 /* 0 where nothing is refused, else number * 2^32 + place */
-u64 OF(judged)(Site, Frame, const u64 *, size_t, const u64 *, size_t, size_t room);
+u64 OF(judged)(const Site *, const Frame *, const u64 *, u64, const u64 *, u64, u64 room);
+
+/* the reply of a job that OF(judged) refuses, and of a soil log */
+static inline u64 refuse_job(JobReply *reply, u64 refused)
+{
+    *reply = (JobReply){refused & 0xffffffff, 0, 0, 0, 0, 0};
+    return refused >> 32;
+}
+
+static inline u64 reply_class(ClassReply *reply, u64 number, u64 place, u64 class_number)
+{
+    *reply = (ClassReply){place, class_number};
+    return number;
+}
 #endif

@@ -35,33 +35,35 @@ static uint8_t *put(uint8_t *out, const char *word, const u64 *values, int count
     return out;
 }
 
-static SheetReply refused(u64 number, u64 place)
+static u64 refused(uint8_t *listing, SheetReply *reply, u64 number, u64 place)
 {
-    SheetReply r = {{0}, 0};
-    r.length = put(r.bytes, "refused", (u64[]){number, place}, 2) - r.bytes;
-    return r;
+    *reply = (SheetReply){place, put(listing, "refused", (u64[]){number, place}, 2) - listing};
+    return number;
 }
 
-SheetReply OF(sheet)(const uint8_t *s, size_t length)
+#define REFUSED(number, place) return refused(out, reply, number, place)
+
+u64 OF(sheet)(const char *s, u64 length, char *listing, SheetReply *reply)
 {
-    const uint8_t *p = s, *end = s + length;
+    const uint8_t *p = (const uint8_t *)s, *end = p + length;
+    uint8_t *out = (uint8_t *)listing;
     u64 site[7], frame[5], level[2], w[50], h[50], forces[50], shears[50], moments[50];
-    if (length > 4096) return refused(17, 0);
-    if (!(p = line(p, end, "site", 7, site))) return refused(16, 1);
-    if (!(p = line(p, end, "frame", 5, frame))) return refused(16, 2);
+    if (length > 4096) REFUSED(17, 0);
+    if (!(p = line(p, end, "site", 7, site))) REFUSED(16, 1);
+    if (!(p = line(p, end, "frame", 5, frame))) REFUSED(16, 2);
     size_t n = 0;
     for (; p < end; n++) {
-        if (!(p = line(p, end, "level", 2, level))) return refused(16, n + 3);
+        if (!(p = line(p, end, "level", 2, level))) REFUSED(16, n + 3);
         if (n < 50) w[n] = level[0], h[n] = level[1];
     }
-    if (n > 50) return refused(1, 0);
+    if (n > 50) REFUSED(1, 0);
     Site a = {site[0], site[1], site[2], site[3], site[4], site[5], site[6]};
     Frame b = {frame[0], frame[1], frame[2], frame[3], frame[4]};
-    JobReply j = OF(job)(a, b, w, n, h, n, forces, n, shears, n, moments, n);
-    if (j.number) return refused(j.number, j.place);
-    SheetReply r = {{0}, 0};
-    uint8_t *out = put(r.bytes, "base", (u64[]){j.v, j.vm, j.star, j.vd, j.t}, 5);
+    JobReply j;
+    u64 number = OF(job)(&a, &b, w, n, h, n, forces, n, shears, n, moments, n, &j);
+    if (number) REFUSED(number, j.place);
+    out = put(out, "base", (u64[]){j.v, j.vm, j.star, j.vd, j.t}, 5);
     for (size_t x = n; x-- > 0;) out = put(out, "level", (u64[]){x + 1, forces[x], shears[x], moments[x]}, 4);
-    r.length = out - r.bytes;
-    return r;
+    *reply = (SheetReply){0, out - (uint8_t *)listing};
+    return 0;
 }

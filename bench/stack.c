@@ -19,32 +19,35 @@ static u64 forces[LEVELS], shears[LEVELS], moments[LEVELS];
 
 static void *one_job(void *p)
 {
+    static JobReply reply;
     HERE();
-    kept += rukeshomaji_job(job.site, job.frame, job.weights, 50, job.heights, 50, forces, 50, shears, 50, moments, 50).vd;
+    kept += rukeshomaji_job(&job.site, &job.frame, job.weights, 50, job.heights, 50, forces, 50, shears, 50, moments, 50, &reply);
     return p;
 }
 
 static void *one_figures(void *p)
 {
+    static JobReply reply;
     HERE();
-    kept += rukeshomaji_figures(job.site, job.frame, job.weights, 50, job.heights, 50).vd;
+    kept += rukeshomaji_figures(&job.site, &job.frame, job.weights, 50, job.heights, 50, &reply);
     return p;
 }
 
 static void *one_log(void *p)
 {
+    static ClassReply reply;
     HERE();
-    kept += rukeshomaji_site_class(soil.thicknesses, LAYERS, soil.kinds, LAYERS, soil.values, LAYERS).class_number;
+    kept += rukeshomaji_site_class(soil.thicknesses, LAYERS, soil.kinds, LAYERS, soil.values, LAYERS, &reply);
     return p;
 }
 
 static void *one_sheet(void *p)
 {
+    static char listing[LONGEST];
     static SheetReply reply;
     size_t length = sheet_of(&job, text);
     HERE();
-    reply = rukeshomaji_sheet((const uint8_t *)text, length);
-    kept += reply.length;
+    kept += rukeshomaji_sheet(text, length, listing, &reply);
     return p;
 }
 

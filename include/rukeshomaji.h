@@ -1,61 +1,171 @@
-/* The entries of the core for a program in C or C++, x86-64 (System V): link target/staticlib/liblinked.a, which `rt staticlib linked`
- * writes.
+/* Rukeshomaji: the seismic base shear of a building by Taiwan's 2005 code, in whole numbers. C99 or newer, and C++.
  *
- * Every input is taken, and nothing is kept between calls. Number and place are 0 on success; where data is refused they are those of
- * the first refusal that applies (1 to 17 of document 01's table), every figure is 0, and no buffer is touched. A list or a
- * buffer is a pointer and its length; with a length of 0 the pointer may be NULL, which is tried and not proved (docs/LIMITS.md). The
- * buffers that are written must not overlap each other or the lists. No entry uses the heap; README says how much stack each one takes.
+ * examples/build.sh makes the library of x86-64 Linux, librukeshomaji.a and librukeshomaji.so; examples/ has a program in C, one in C++ and
+ * a module for Python. Pointers and 64-bit numbers are all that an entry takes and returns.
+ *
+ * This page prints the contracts a second time: crates/linked/src/lib.rt has them, and each entry is proved to meet its own.
+ *
+ *   Every input is taken. An entry returns 0, or the number of the first refusal that applies; it writes no message and ends no program.
+ *   Every field of what an entry answers is written at each call: where data is refused all fields but `place` are 0.
+ *   Where data is refused the buffers of a job hold what they held. A listing's bytes past its length hold what they held, in any case.
+ *   Nothing is kept between calls: an answer depends on its own call alone. Calls may run at once, from any threads, also over lists that
+ *   they share, as long as nothing that one of them writes to is used by another.
+ *   A list or a buffer is a pointer and a count of its elements. With a count of 0 the pointer may be NULL, which is tried and not proved
+ *   (docs/LIMITS.md). No other pointer may be NULL; each is aligned for its type.
+ *   What is written (buffers, figures, reply, listing) must not overlap anything else that is handed on. What is only read may.
+ *   No entry uses the heap. README says how much stack each one takes.
  */
 #ifndef RUKESHOMAJI_H
 #define RUKESHOMAJI_H
-#include <stddef.h>
 #include <stdint.h>
 
 #ifdef __cplusplus
 extern "C" {
 #endif
 
-/* S_S and S_1 of the design level, S_S and S_1 of the MCE level, in 0.01 g; N_A and N_V in 0.01; class 1 hard, 2 normal, 3 soft */
+/* Three things, by numbers that are never used again for another state; the functions at the end of this page say those of the library
+ * that is linked. Version of the library: 1,000,000 times the major number, 1,000 times the minor one, and the last. Edition of the code:
+ * Taiwan's of 2005. Source: the state of the rules, 1 being document 01 by itself; a change of what any call answers takes the next. */
+#define RUKESHOMAJI_VERSION 1000000
+#define RUKESHOMAJI_EDITION 2005
+#define RUKESHOMAJI_SOURCE 1
+
+/* the most levels of a job, layers of a soil log and bytes of a sheet, and as many bytes as any listing may have */
+#define RUKESHOMAJI_MOST_LEVELS 50
+#define RUKESHOMAJI_MOST_LAYERS 40
+#define RUKESHOMAJI_MOST_BYTES 4096
+#define RUKESHOMAJI_LONGEST_LISTING 4610
+
+/* Refusals: what an entry returns where it does not return 0; beside each its place. Of 1 to 15 the lowest number that applies is returned,
+ * at its lowest place; for a sheet 17, then 16, come before all others. */
+#define RUKESHOMAJI_REFUSED_LEVELS 1      /* no level, or over 50: 0 */
+#define RUKESHOMAJI_REFUSED_LENGTHS 2     /* lists of unequal length, or a result buffer shorter than them: 0 */
+#define RUKESHOMAJI_REFUSED_WEIGHT 3      /* weight out of range: level, the lowest is 1 */
+#define RUKESHOMAJI_REFUSED_HEIGHT 4      /* height out of range, or not above the one below: level */
+#define RUKESHOMAJI_REFUSED_MAPPED 5      /* mapped value not in its table: 1 to 4, in the order of the site's fields */
+#define RUKESHOMAJI_REFUSED_NEAR_FAULT 6  /* near-fault factor out of range: 1 for N_A, 2 for N_V */
+#define RUKESHOMAJI_REFUSED_CLASS 7       /* unknown site class: 0 */
+#define RUKESHOMAJI_REFUSED_R 8           /* R out of range: 0 */
+#define RUKESHOMAJI_REFUSED_I 9           /* I not in its table: 0 */
+#define RUKESHOMAJI_REFUSED_ALPHA_Y 10    /* alpha-y out of range: 0 */
+#define RUKESHOMAJI_REFUSED_KIND 11       /* unknown kind of frame: 0 */
+#define RUKESHOMAJI_REFUSED_PERIOD 12     /* calculated period out of range: 0 */
+#define RUKESHOMAJI_REFUSED_LAYERS 13     /* no layer, or over 40: 0 */
+#define RUKESHOMAJI_REFUSED_THICKNESS 14  /* thickness 0: layer, the first is 1; else, where they do not add up to 3,000 cm: 0 */
+#define RUKESHOMAJI_REFUSED_LAYER 15      /* unknown kind of layer, or value out of range: layer */
+#define RUKESHOMAJI_REFUSED_LINE 16       /* line of a sheet not as laid out: line, the first is 1 */
+#define RUKESHOMAJI_REFUSED_SHEET 17      /* sheet over 4,096 bytes: 0 */
+
+/* site classes */
+#define RUKESHOMAJI_HARD 1
+#define RUKESHOMAJI_NORMAL 2
+#define RUKESHOMAJI_SOFT 3
+
+/* kinds of frame */
+#define RUKESHOMAJI_STEEL 1               /* steel moment frame */
+#define RUKESHOMAJI_CONCRETE 2            /* RC or SRC moment frame */
+#define RUKESHOMAJI_BRACED 3              /* eccentrically braced steel frame */
+#define RUKESHOMAJI_OTHER 4
+#define RUKESHOMAJI_NO_PERIOD 0           /* in place of a calculated period: none */
+
+/* kinds of layer */
+#define RUKESHOMAJI_MEASURED 1            /* its value is a velocity in dm/s */
+#define RUKESHOMAJI_COHESIVE 2            /* its value is N */
+#define RUKESHOMAJI_COHESIONLESS 3        /* its value is N */
+
 typedef struct {
-    uint64_t ssd, s1d, ssm, s1m, na, nv, class_number;
+    uint64_t ssd;             /* S_S of the design level, 0.01 g: 50, 60, 70 or 80 */
+    uint64_t s1d;             /* S_1 of the design level, 0.01 g: 30, 35, 40 or 45 */
+    uint64_t ssm;             /* S_S of the MCE level, 0.01 g: 70, 80, 90 or 100 */
+    uint64_t s1m;             /* S_1 of the MCE level, 0.01 g: 40, 45, 50 or 55 */
+    uint64_t na;              /* near-fault factor N_A, 0.01: 100 to 150 */
+    uint64_t nv;              /* near-fault factor N_V, 0.01: 100 to 200 */
+    uint64_t class_number;    /* site class: 1 hard, 2 normal, 3 soft */
 } RukeshomajiSite;
 
-/* kind 1 steel frame, 2 RC or SRC frame, 3 eccentric brace, 4 other; calculated period in ms, 0 for none; R, I and alpha-y in 0.01 */
 typedef struct {
-    uint64_t kind, calculated, r, i, alpha_y;
+    uint64_t kind;            /* of frame: 1 steel, 2 RC or SRC, 3 eccentrically braced, 4 other */
+    uint64_t calculated;      /* calculated period, ms: 1 to 60,000, or 0 for none */
+    uint64_t r;               /* ductility R, 0.01: 100 to 600 */
+    uint64_t i;               /* importance I, 0.01: 100, 125 or 150 */
+    uint64_t alpha_y;         /* first-yield factor alpha-y, 0.01: 100 to 200 */
 } RukeshomajiFrame;
 
-/* V, V_M, V*, V_D in N and T in ms */
 typedef struct {
-    uint64_t number, place, v, vm, star, vd, t;
+    uint64_t place;           /* of the refusal; 0 on success */
+    uint64_t v;               /* V, N */
+    uint64_t vm;              /* V_M, N */
+    uint64_t star;            /* V*, N */
+    uint64_t vd;              /* V_D, the design base shear, N: the largest of the three */
+    uint64_t t;               /* T, the period in use, ms */
 } RukeshomajiFigures;
 
 typedef struct {
-    uint64_t number, place, class_number;
+    uint64_t place;           /* of the refusal; 0 on success */
+    uint64_t class_number;    /* 1 hard, 2 normal, 3 soft; 0 where data is refused */
 } RukeshomajiClass;
 
-/* the bytes that are printed, and how many of them there are; no NUL ends them, and a refusal begins with the word `refused` */
 typedef struct {
-    uint8_t bytes[4610];
-    size_t length;
+    uint64_t place;           /* of the refusal; 0 on success */
+    uint64_t length;          /* of the listing, bytes: 1 to 4,610 */
 } RukeshomajiListing;
 
-/* weights in kN and heights in dm, lowest level first; into the first cells of the buffers, one a level, force and shear in N and
- * overturning in N*dm */
-RukeshomajiFigures rukeshomaji_job(RukeshomajiSite site, RukeshomajiFrame frame, const uint64_t *weights, size_t weight_count,
-                                   const uint64_t *heights, size_t height_count, uint64_t *forces, size_t force_cells,
-                                   uint64_t *shears, size_t shear_cells, uint64_t *overturnings, size_t overturning_cells);
+/* The job: the base shear of one building in one horizontal direction, and its storeys.
+ *
+ * Given      site, frame     see above
+ *            weights         of the levels, lowest first, kN: 1 to 20,000 each; 1 to 50 levels
+ *            heights         of the levels above the base, lowest first, dm: 1 to 2,000, each above the one below; as many
+ *            forces, shears, overturnings    buffers of at least as many cells
+ * Returned   0, or the refusal
+ * Refused    1 to 12
+ * Written    figures: all fields. On success the first cells of the buffers, one a level, lowest first: forces in N, which add up to V_D;
+ *            shears in N, each under its level; overturnings in N*dm, about the bottom of its storey. Other cells hold what they held
+ * Reference  document 000 (1), (4) to (9), (12) to (14), (16) to (21), (23) without its factor. docs/DIFFERENCES.md says where the rules
+ *            depart from it
+ */
+uint64_t rukeshomaji_job(const RukeshomajiSite *site, const RukeshomajiFrame *frame, const uint64_t *weights, uint64_t weight_count,
+                         const uint64_t *heights, uint64_t height_count, uint64_t *forces, uint64_t force_cells, uint64_t *shears,
+                         uint64_t shear_cells, uint64_t *overturnings, uint64_t overturning_cells, RukeshomajiFigures *figures);
 
-/* the same figures, with no buffer to write to */
-RukeshomajiFigures rukeshomaji_figures(RukeshomajiSite site, RukeshomajiFrame frame, const uint64_t *weights, size_t weight_count,
-                                       const uint64_t *heights, size_t height_count);
+/* The five figures of a job, without its storeys: those of rukeshomaji_job.
+ *
+ * Given      site, frame, weights, heights    as of rukeshomaji_job
+ * Returned   0, or the refusal
+ * Refused    1 to 12, with 2 for lists of unequal length alone
+ * Written    figures: all fields
+ * Reference  document 000 (1), (4) to (9), (12) to (14), (16) to (20)
+ */
+uint64_t rukeshomaji_figures(const RukeshomajiSite *site, const RukeshomajiFrame *frame, const uint64_t *weights, uint64_t weight_count,
+                             const uint64_t *heights, uint64_t height_count, RukeshomajiFigures *figures);
 
-/* thicknesses in cm; kind 1 measured, value in dm/s, 2 cohesive and 3 cohesionless, value N */
-RukeshomajiClass rukeshomaji_site_class(const uint64_t *thicknesses, size_t thickness_count, const uint64_t *kinds, size_t kind_count,
-                                        const uint64_t *values, size_t value_count);
+/* The site class of a soil log: the layers of the upper 30 m.
+ *
+ * Given      thicknesses     of the layers, cm: above 0, together 3,000; 1 to 40 layers
+ *            kinds           1 measured, 2 cohesive, 3 cohesionless; as many
+ *            values          measured: velocity, dm/s: 500 to 30,000; cohesive: N: 2 to 25; cohesionless: N: 1 to 50; as many
+ * Returned   0, or the refusal
+ * Refused    2, 13, 14, 15
+ * Written    reply: all fields
+ * Reference  document 000 (2), (3.a), (3.b), Table 3
+ */
+uint64_t rukeshomaji_site_class(const uint64_t *thicknesses, uint64_t thickness_count, const uint64_t *kinds, uint64_t kind_count,
+                                const uint64_t *values, uint64_t value_count, RukeshomajiClass *reply);
 
-/* the listing of a sheet, or the line of its refusal */
-RukeshomajiListing rukeshomaji_sheet(const uint8_t *sheet, size_t byte_count);
+/* What the program `shear` prints for a sheet: the listing of its job, or the one line of its refusal.
+ *
+ * Given      sheet           bytes: at most 4,096
+ * Returned   0, or the refusal
+ * Refused    17, 16, 1, 3 to 12
+ * Written    listing: its first bytes, as many as reply's length says, with no NUL after them; the others hold what they held.
+ *            reply: all fields. A refusal's line (`refused`, number, place) is a listing too, and has its length
+ * Reference  document 01, 'Sheet and listing'; else as of rukeshomaji_job
+ */
+uint64_t rukeshomaji_sheet(const char *sheet, uint64_t byte_count, char listing[RUKESHOMAJI_LONGEST_LISTING], RukeshomajiListing *reply);
+
+/* RUKESHOMAJI_VERSION, RUKESHOMAJI_EDITION and RUKESHOMAJI_SOURCE of the library that is linked. */
+uint64_t rukeshomaji_version(void);
+uint64_t rukeshomaji_edition(void);
+uint64_t rukeshomaji_source(void);
 
 #ifdef __cplusplus
 }

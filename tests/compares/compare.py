@@ -3,7 +3,7 @@
 usage: python3 -m tests.compares.compare [JOBS [BAD [LOGS [SHEETS [SEED]]]]]
 
 It prints the count of each stratum, the largest excess over the exact figure of demand 3, and the number of differences; on standard
-error it says how far it is. It needs x86-64.
+error it says how far it is. It needs x86-64, or RUKESHOMAJI_LIBRARY, a shared library of the core for the machine at hand.
 """
 
 import random
@@ -56,7 +56,7 @@ def held(lengths):
 
 
 def answer_of(result, lengths):
-    """The reply that the model's result stands for, what the buffers hold after, and that the lists are as they were."""
+    """The reply that the model's result stands for, what the buffers hold after, and that what is only read is as it was."""
     old = held(lengths)
     if result[0] == 'refused':
         return (*result[1:], 0, 0, 0, 0, 0), old, True
@@ -167,8 +167,9 @@ def compare_sheet(tally, library, data):
     """One sheet; counted by what the model prints first."""
     expected = sheet.shear(data)
     first = expected.split(b'\t')
-    stratum = 'sheet listed' if first[0] == b'base' else f'sheet refused {int(first[1]):2}'
-    tally.compare(stratum, data, core.sheet(library, data), expected)
+    refused = (0, 0) if first[0] == b'base' else (int(first[1]), int(first[2]))
+    stratum = f'sheet refused {refused[0]:2}' if refused[0] else 'sheet listed'
+    tally.compare(stratum, data, core.sheet(library, data), ((*refused, len(expected)), expected, True))
 
 
 def run_stored_sheets(library, tally, seed, count):

@@ -1,6 +1,10 @@
-"""The compiled core, by the archive that a program in C links."""
+"""The compiled core, by the archive that a program in C links.
+
+RUKESHOMAJI_LIBRARY names a shared library to use in its place: one that was built elsewhere, or for another machine.
+"""
 
 import ctypes
+import os
 import pathlib
 import platform
 import subprocess
@@ -9,7 +13,9 @@ import sys
 ROOT = pathlib.Path(__file__).resolve().parents[2]
 ARCHIVE = ROOT / 'target' / 'staticlib' / 'liblinked.a'
 SHARED = ROOT / 'target' / 'staticlib' / 'liblinked.so'
-U64, SIZE = ctypes.c_uint64, ctypes.c_size_t
+GIVEN = os.environ.get('RUKESHOMAJI_LIBRARY')
+U64 = ctypes.c_uint64
+LONGEST = 4_610
 
 
 def fields(names):
@@ -18,44 +24,46 @@ def fields(names):
 
 
 class Site(ctypes.Structure):
-    """SiteLine"""
+    """RukeshomajiSite"""
 
     _fields_ = fields('ssd s1d ssm s1m na nv cls')
 
 
 class Frame(ctypes.Structure):
-    """FrameLine"""
+    """RukeshomajiFrame"""
 
     _fields_ = fields('kind calculated r i alpha')
 
 
-class JobReply(ctypes.Structure):
-    """JobReply"""
+class Figures(ctypes.Structure):
+    """RukeshomajiFigures"""
 
-    _fields_ = fields('number place v vm star vd t')
-
-
-class ClassReply(ctypes.Structure):
-    """ClassReply"""
-
-    _fields_ = fields('number place cls')
+    _fields_ = fields('place v vm star vd t')
 
 
-class SheetReply(ctypes.Structure):
-    """SheetReply"""
+class SiteClass(ctypes.Structure):
+    """RukeshomajiClass"""
 
-    _fields_ = [('bytes', ctypes.c_uint8 * 4_610), ('length', SIZE)]
+    _fields_ = fields('place cls')
+
+
+class Listing(ctypes.Structure):
+    """RukeshomajiListing"""
+
+    _fields_ = fields('place length')
 
 
 def needs_x86_64():
-    """End at once on another machine."""
-    if platform.machine() not in ('x86_64', 'AMD64'):
+    """End at once on another machine, unless a library was named."""
+    if not GIVEN and platform.machine() not in ('x86_64', 'AMD64'):
         sys.exit(f'This needs an x86-64 machine, for which the core is compiled; this one is {platform.machine()}.')
 
 
 def build():
     """Prove the core and write the archive, then a shared library of the same machine code."""
     needs_x86_64()
+    if GIVEN:
+        return
     print('proving and building the core, which takes minutes where it has changed', file=sys.stderr, flush=True)
     subprocess.run(['rt', 'staticlib', 'linked'], cwd=ROOT, check=True, stdout=subprocess.DEVNULL)
     subprocess.run(['cc', '-shared', '-o', SHARED, '-Wl,--whole-archive', ARCHIVE, '-Wl,--no-whole-archive'], check=True)
@@ -64,16 +72,14 @@ def build():
 def load():
     """The functions, with their types."""
     needs_x86_64()
-    library = ctypes.CDLL(str(SHARED))
-    slices = [ctypes.POINTER(U64), SIZE]
-    library.rukeshomaji_job.argtypes = [Site, Frame] + slices * 5
-    library.rukeshomaji_job.restype = JobReply
-    library.rukeshomaji_figures.argtypes = [Site, Frame] + slices * 2
-    library.rukeshomaji_figures.restype = JobReply
-    library.rukeshomaji_site_class.argtypes = slices * 3
-    library.rukeshomaji_site_class.restype = ClassReply
-    library.rukeshomaji_sheet.argtypes = [ctypes.c_char_p, SIZE]
-    library.rukeshomaji_sheet.restype = SheetReply
+    library = ctypes.CDLL(GIVEN or str(SHARED))
+    slices, job_lines = [ctypes.POINTER(U64), U64], [ctypes.POINTER(Site), ctypes.POINTER(Frame)]
+    library.rukeshomaji_job.argtypes = [*job_lines, *slices * 5, ctypes.POINTER(Figures)]
+    library.rukeshomaji_figures.argtypes = [*job_lines, *slices * 2, ctypes.POINTER(Figures)]
+    library.rukeshomaji_site_class.argtypes = [*slices * 3, ctypes.POINTER(SiteClass)]
+    library.rukeshomaji_sheet.argtypes = [ctypes.c_char_p, U64, ctypes.c_char_p, ctypes.POINTER(Listing)]
+    for name in ('job', 'figures', 'site_class', 'sheet', 'version', 'edition', 'source'):
+        getattr(library, f'rukeshomaji_{name}').restype = U64
     return library
 
 
@@ -100,31 +106,51 @@ def cells_of(array):
 
 
 def numbers_of(struct):
-    """The fields of a reply, in order."""
+    """The fields of a struct, in order."""
     return tuple(getattr(struct, name) for name, _ in struct._fields_)
 
 
+def painted(kind):
+    """A struct to be answered through, between guards, all cells painted: a field that is not written, or one beside it that is, shows."""
+    array = (U64 * (len(kind._fields_) + 2 * GUARD))(*[PAINT] * (len(kind._fields_) + 2 * GUARD))
+    return array, ctypes.cast(ctypes.byref(array, GUARD * ctypes.sizeof(U64)), ctypes.POINTER(kind))
+
+
+def answer(number, array):
+    """The number that was returned, and the fields; None where something beside them was written."""
+    cells = cells_of(array)
+    return None if cells is None else (number, *cells)
+
+
 def job(library, site, frame, weights, heights, buffers):
-    """(number, place, V, V_M, V*, V_D, T), what the three buffers hold after, and whether the lists are as they were."""
-    out = [lent_out(each) for each in buffers]
-    lists = [lent(weights), lent(heights)]
-    reply = library.rukeshomaji_job(Site(*site), Frame(*frame), *lists[0], *lists[1],
-                                    *(part for _, pointer, length in out for part in (pointer, length)))
-    same = [list(array) for array, _ in lists] == [list(weights), list(heights)]
-    return numbers_of(reply), [cells_of(array) for array, _, _ in out], same
+    """(number, place, V, V_M, V*, V_D, T), what the three buffers hold after, and whether what is only read is as it was."""
+    out, read = [lent_out(each) for each in buffers], (Site(*site), Frame(*frame))
+    lists, (array, reply) = [lent(weights), lent(heights)], painted(Figures)
+    number = library.rukeshomaji_job(*read, *lists[0], *lists[1],
+                                     *(part for _, pointer, length in out for part in (pointer, length)), reply)
+    same = [*map(numbers_of, read), *(list(each) for each, _ in lists)] == [tuple(site), tuple(frame), list(weights), list(heights)]
+    return answer(number, array), [cells_of(each) for each, _, _ in out], same
 
 
 def figures(library, site, frame, weights, heights):
     """(number, place, V, V_M, V*, V_D, T), without buffers."""
-    return numbers_of(library.rukeshomaji_figures(Site(*site), Frame(*frame), *lent(weights), *lent(heights)))
+    array, reply = painted(Figures)
+    return answer(library.rukeshomaji_figures(Site(*site), Frame(*frame), *lent(weights), *lent(heights), reply), array)
 
 
 def site_class(library, thicknesses, kinds, values):
     """(number, place, class)"""
-    return numbers_of(library.rukeshomaji_site_class(*lent(thicknesses), *lent(kinds), *lent(values)))
+    array, reply = painted(SiteClass)
+    return answer(library.rukeshomaji_site_class(*lent(thicknesses), *lent(kinds), *lent(values), reply), array)
 
 
 def sheet(library, data):
-    """The bytes that are printed for the bytes of a sheet."""
-    reply = library.rukeshomaji_sheet(data, len(data))
-    return bytes(reply.bytes[:reply.length])
+    """(number, place, length), what the lent bytes hold up to that length, and whether all other bytes, and those beside, are as they were."""
+    array, reply = painted(Listing)
+    held = bytes(range(1, 252)) * 20
+    room = ctypes.create_string_buffer(held, len(held))
+    place = ctypes.cast(ctypes.byref(room, GUARD), ctypes.c_char_p)
+    said = answer(library.rukeshomaji_sheet(data, len(data), place, reply), array)
+    length = said[2] if said else 0
+    rest = room.raw[:GUARD] + room.raw[GUARD + length:] == held[:GUARD] + held[GUARD + length:]
+    return said, room.raw[GUARD:GUARD + length], rest and length <= LONGEST

@@ -14,33 +14,41 @@ static const char sheet[] = "site\t80\t45\t100\t55\t100\t100\t1\nframe\t2\t1000\
                             "level\t5000\t100\nlevel\t5000\t200\nlevel\t5000\t300\n";
 
 /* the list, or NULL where its bit is set; and how many there are */
-#define LIST(list, bit) (set >> (bit) & 1 ? NULL : (list)), (size_t)(set >> (bit) & 1 ? 0 : LEVELS)
+#define LIST(list, bit) (set >> (bit) & 1 ? NULL : (list)), (uint64_t)(set >> (bit) & 1 ? 0 : LEVELS)
+#define PAINT UINT64_C(0xa5a5a5a5a5a5a5a5)
 
-static void figures(const char *name, unsigned set, RukeshomajiFigures f) {
-    printf("%s %u: %" PRIu64 " %" PRIu64 " %" PRIu64 " %" PRIu64 " %" PRIu64 " %" PRIu64 " %" PRIu64, name, set, f.number, f.place, f.v,
+static void figures(const char *name, unsigned set, uint64_t number, RukeshomajiFigures f) {
+    printf("%s %u: %" PRIu64 " %" PRIu64 " %" PRIu64 " %" PRIu64 " %" PRIu64 " %" PRIu64 " %" PRIu64, name, set, number, f.place, f.v,
            f.vm, f.star, f.vd, f.t);
 }
 
 int main(void) {
     for (unsigned set = 0; set < 32; set++) {
         uint64_t cells[3][LEVELS] = {{7, 7, 7}, {8, 8, 8}, {9, 9, 9}};
-        figures("job", set, rukeshomaji_job(site, frame, LIST(weights, 0), LIST(heights, 1), LIST(cells[0], 2), LIST(cells[1], 3),
-                                            LIST(cells[2], 4)));
+        RukeshomajiFigures f = {PAINT, PAINT, PAINT, PAINT, PAINT, PAINT};
+        uint64_t number = rukeshomaji_job(&site, &frame, LIST(weights, 0), LIST(heights, 1), LIST(cells[0], 2), LIST(cells[1], 3),
+                                          LIST(cells[2], 4), &f);
+        figures("job", set, number, f);
         for (int i = 0; i < 3 * LEVELS; i++) printf(" %" PRIu64, cells[i / LEVELS][i % LEVELS]);
         printf("\n");
     }
     for (unsigned set = 0; set < 4; set++) {
-        figures("figures", set, rukeshomaji_figures(site, frame, LIST(weights, 0), LIST(heights, 1)));
+        RukeshomajiFigures f = {PAINT, PAINT, PAINT, PAINT, PAINT, PAINT};
+        uint64_t number = rukeshomaji_figures(&site, &frame, LIST(weights, 0), LIST(heights, 1), &f);
+        figures("figures", set, number, f);
         printf("\n");
     }
     for (unsigned set = 0; set < 8; set++) {
-        RukeshomajiClass c = rukeshomaji_site_class(LIST(thicknesses, 0), LIST(kinds, 1), LIST(values, 2));
-        printf("site_class %u: %" PRIu64 " %" PRIu64 " %" PRIu64 "\n", set, c.number, c.place, c.class_number);
+        RukeshomajiClass c = {PAINT, PAINT};
+        uint64_t number = rukeshomaji_site_class(LIST(thicknesses, 0), LIST(kinds, 1), LIST(values, 2), &c);
+        printf("site_class %u: %" PRIu64 " %" PRIu64 " %" PRIu64 "\n", set, number, c.place, c.class_number);
     }
     for (unsigned set = 0; set < 2; set++) {
-        RukeshomajiListing l = rukeshomaji_sheet(set ? NULL : (const uint8_t *)sheet, set ? 0 : sizeof sheet - 1);
-        printf("sheet %u: ", set);
-        for (size_t i = 0; i < l.length; i++) printf("%02x", l.bytes[i]);
+        char listing[RUKESHOMAJI_LONGEST_LISTING];
+        RukeshomajiListing reply = {PAINT, PAINT};
+        uint64_t number = rukeshomaji_sheet(set ? NULL : sheet, set ? 0 : sizeof sheet - 1, listing, &reply);
+        printf("sheet %u: %" PRIu64 " %" PRIu64 " ", set, number, reply.place);
+        for (uint64_t i = 0; i < reply.length; i++) printf("%02x", (unsigned char)listing[i]);
         printf("\n");
     }
     return 0;

@@ -3,12 +3,15 @@
 usage: python3 -m tests.compares.null_lists             builds the core, the program null_lists.c over it, and runs both
        python3 -m tests.compares.null_lists FILE        compares FILE, which null_lists.c wrote on an x86-64 machine, and calls nothing
 
-The language says nothing of such a pointer: to the core a list is a place and a length. It needs `rt`, `cc` and x86-64.
+The language says nothing of such a pointer: to the core a list is a place and a length. It needs `rt`, `cc` and x86-64, or
+RUKESHOMAJI_LIBRARY, a shared library of the core for the machine at hand.
 """
 
+import ctypes
 import pathlib
 import subprocess
 import sys
+import tempfile
 
 from tests.compares import core
 from tests.model import job as jobs, limits, sheet, soil
@@ -45,7 +48,9 @@ def by_model(entry, lists):
     if entry == 'site_class':
         answer = soil.log(*empty)
         return [0, 0, answer.cls] if isinstance(answer, soil.Log) else [*answer[1:], 0]
-    return [sheet.shear(empty[0]).hex()]
+    listing = sheet.shear(empty[0])
+    refused = listing.split() if listing.startswith(b'refused') else (None, 0, 0)
+    return [*map(int, refused[1:]), listing.hex()]
 
 
 def lent(each):
@@ -56,15 +61,18 @@ def lent(each):
 def by_ctypes(library, entry, lists):
     """What the core answers to Python."""
     if entry == 'sheet':
-        reply = library.rukeshomaji_sheet(lists[0], len(lists[0] or b''))
-        return [bytes(reply.bytes[:reply.length]).hex()]
+        room, (array, reply) = ctypes.create_string_buffer(core.LONGEST), core.painted(core.Listing)
+        *refused, length = core.answer(library.rukeshomaji_sheet(lists[0], len(lists[0] or b''), room, reply), array)
+        return [*refused, room.raw[:length].hex()]
     pairs = [lent(each) for each in lists]
     arguments = [part for pair in pairs for part in pair]
     if entry == 'site_class':
-        return list(core.numbers_of(library.rukeshomaji_site_class(*arguments)))
-    called = getattr(library, f'rukeshomaji_{entry}')(core.Site(*SITE), core.Frame(*FRAME), *arguments)
-    held = [cell for (array, _), old in zip(pairs[2:], LISTS[entry][2:]) for cell in (old if array is None else array)]
-    return [*core.numbers_of(called), *held]
+        array, reply = core.painted(core.SiteClass)
+        return list(core.answer(library.rukeshomaji_site_class(*arguments, reply), array))
+    array, reply = core.painted(core.Figures)
+    number = getattr(library, f'rukeshomaji_{entry}')(core.Site(*SITE), core.Frame(*FRAME), *arguments, reply)
+    held = [cell for (lent_to, _), old in zip(pairs[2:], LISTS[entry][2:]) for cell in (old if lent_to is None else lent_to)]
+    return [*core.answer(number, array), *held]
 
 
 def lines(answer):
@@ -76,9 +84,11 @@ def lines(answer):
 
 def by_c():
     """What the core answers to the program in C."""
-    program = core.ARCHIVE.parent / 'null_lists'
-    subprocess.run(['cc', '-I', core.ROOT / 'include', '-o', program, pathlib.Path(__file__).with_suffix('.c'), core.ARCHIVE], check=True)
-    return subprocess.run([program], check=True, capture_output=True, text=True).stdout.splitlines()
+    with tempfile.TemporaryDirectory() as folder:
+        program = pathlib.Path(folder) / 'null_lists'
+        source, library = pathlib.Path(__file__).with_suffix('.c'), core.GIVEN or core.ARCHIVE
+        subprocess.run(['cc', '-Wall', '-I', core.ROOT / 'include', '-o', program, source, library], check=True)
+        return subprocess.run([program], check=True, capture_output=True, text=True).stdout.splitlines()
 
 
 def main(stored=None):

@@ -1,0 +1,152 @@
+"""Holds include/rukeshomaji.h to the core by reading both: every constant, every range, every struct and every declaration.
+
+usage: python3 -m tests.compares.header
+
+- every constant of the header is the core's: one of crates/limits/src, crates/sheet/src or crates/linked/src, by the table below; every
+  refusal number of the core is in the header
+- every range that the header prints is the core's
+- every entry is declared, with the types in the order in which the core takes them; a struct has as many fields as the core's array has
+  cells, and those of site and frame are in the core's order
+
+It prints what is wrong and one line of counts, and exits with 1 where anything is.
+"""
+
+import pathlib
+import re
+import sys
+
+ROOT = pathlib.Path(__file__).resolve().parents[2]
+HEADER = (ROOT / 'include' / 'rukeshomaji.h').read_text()
+PREFIX = 'RUKESHOMAJI_'
+# each constant of the header but the refusals: file and name in the core
+CONSTANTS = {
+    'VERSION': 'linked/lib VERSION', 'EDITION': 'linked/lib EDITION', 'SOURCE': 'linked/lib SOURCE',
+    'MOST_LEVELS': 'limits/level MOST', 'MOST_LAYERS': 'limits/layer MOST', 'MOST_BYTES': 'limits/sheet BYTES_MOST',
+    'LONGEST_LISTING': 'sheet/listing LONGEST',
+    'HARD': 'limits/class HARD', 'NORMAL': 'limits/class NORMAL', 'SOFT': 'limits/class SOFT',
+    'STEEL': 'limits/kind STEEL', 'CONCRETE': 'limits/kind CONCRETE', 'BRACED': 'limits/kind BRACED', 'OTHER': 'limits/kind OTHER',
+    'NO_PERIOD': 'limits/frame NO_PERIOD',
+    'MEASURED': 'limits/layer MEASURED', 'COHESIVE': 'limits/layer COHESIVE', 'COHESIONLESS': 'limits/layer COHESIONLESS',
+}
+NOT_REFUSALS = {'NOWHERE'}      # of the constants beside the refusal numbers
+# how a range is printed: the words before it, and file and names of its ends, or of its list
+RANGES = [
+    ('S_S of the design level, 0.01 g: ', 'limits/site SS_DESIGN'), ('S_1 of the design level, 0.01 g: ', 'limits/site S1_DESIGN'),
+    ('S_S of the MCE level, 0.01 g: ', 'limits/site SS_MCE'), ('S_1 of the MCE level, 0.01 g: ', 'limits/site S1_MCE'),
+    ('N_A, 0.01: ', 'limits/site NA_LEAST NA_MOST'), ('N_V, 0.01: ', 'limits/site NV_LEAST NV_MOST'),
+    ('calculated period, ms: ', 'limits/frame PERIOD_LEAST PERIOD_MOST'), ('R, 0.01: ', 'limits/frame R_LEAST R_MOST'),
+    ('I, 0.01: ', 'limits/frame I_VALUES'), ('alpha-y, 0.01: ', 'limits/frame ALPHA_LEAST ALPHA_MOST'),
+    ('lowest first, kN: ', 'limits/level WEIGHT_LEAST WEIGHT_MOST'), ('lowest first, dm: ', 'limits/level HEIGHT_LEAST HEIGHT_MOST'),
+    ('each; ', 'limits/level FEWEST MOST', ' levels'), ('together 3,000; ', 'limits/layer FEWEST MOST', ' layers'),
+    ('cm: above 0, together ', 'limits/layer DEPTH'), ('do not add up to ', 'limits/layer DEPTH'),
+    ('dm/s: ', 'limits/layer VELOCITY_LEAST VELOCITY_MOST'), ('cohesive: N: ', 'limits/layer COHESIVE_LEAST COHESIVE_MOST'),
+    ('cohesionless: N: ', 'limits/layer COHESIONLESS_LEAST COHESIONLESS_MOST'), ('bytes: at most ', 'limits/sheet BYTES_MOST'),
+    ('sheet over ', 'limits/sheet BYTES_MOST'), ('no level, or over ', 'limits/level MOST'), ('no layer, or over ', 'limits/layer MOST'),
+    ('bytes: 1 to ', 'sheet/listing LONGEST'),
+]
+# what the core takes, as C declares it; the array of a struct by the parameter's name
+TYPES = {
+    '&[u64]': 'const uint64_t *, uint64_t', '&mut [u64]': 'uint64_t *, uint64_t', '&[u8]': 'const char *, uint64_t',
+    '&mut [u8; LONGEST]': 'char *',
+}
+STRUCTS = {
+    'site': 'RukeshomajiSite', 'frame': 'RukeshomajiFrame', 'figures': 'RukeshomajiFigures',
+    'site_class reply': 'RukeshomajiClass', 'sheet reply': 'RukeshomajiListing',
+}
+
+
+def source(name):
+    """The text of a file of the core, as limits/level."""
+    crate, file = name.split('/')
+    return (ROOT / 'crates' / crate / 'src' / f'{file}.rt').read_text()
+
+
+def constants(text):
+    """name -> number, or list of numbers, of the constants that a file of the core declares."""
+    found = {}
+    for name, value in re.findall(r'\bconst (\w+): [^=]+ = ([^;]+);', text):
+        numbers = [int(each.replace('_', '')) for each in re.findall(r'\b\d[\d_]*\b', value)]
+        found[name] = numbers if value.startswith('[') else numbers[0] if numbers else None
+    return found
+
+
+def core_constant(where):
+    """Of 'limits/level MOST' the number."""
+    file, name = where.split()
+    return constants(source(file))[name]
+
+
+def printed(numbers):
+    """Numbers as the header prints them."""
+    words = [f'{each:,}' for each in numbers]
+    return f"{', '.join(words[:-1])} or {words[-1]}"
+
+
+def check_constants():
+    """Every constant, and every refusal number."""
+    header = {name: int(value) for name, value in re.findall(rf'^#define {PREFIX}(\w+) (\d+)\b', HEADER, re.M)}
+    refusals = {f'REFUSED_{name}': value for name, value in constants(source('limits/refusal')).items() if name not in NOT_REFUSALS}
+    core = {**refusals, **{name: core_constant(where) for name, where in CONSTANTS.items()}}
+    for name in sorted(header.keys() | core.keys()):
+        yield header.get(name) == core.get(name), f'{PREFIX}{name}: the header has {header.get(name)}, the core {core.get(name)}'
+
+
+def check_ranges():
+    """Every range that is printed, wherever it is."""
+    text = re.sub(r'\s*\n \*\s*|\s+', ' ', HEADER)
+    for before, where, *after in RANGES:
+        file, *names = where.split()
+        values = [constants(source(file))[name] for name in names]
+        words = ' to '.join(f'{each:,}' for each in values) if len(values) == 2 else None
+        words = words or (printed(values[0]) if isinstance(values[0], list) else f'{values[0]:,}')
+        places = [match.end() for match in re.finditer(r'(?<![\w-])' + re.escape(before), text)]
+        right = places and all(re.match(re.escape(words + ''.join(after)) + r'(?![\d,]*\d)', text[place:]) for place in places)
+        yield right, f'after {before!r} the header has {[text[place:place + 20] for place in places]}, the core {words!r}'
+
+
+def fields(struct):
+    """The fields of a struct of the header."""
+    body = re.search(r'typedef struct \{([^}]*)\} ' + struct + ';', HEADER)[1]
+    return re.findall(r'^\s*uint64_t (\w+);', body, re.M)
+
+
+def check_entries():
+    """Every entry: its parameters, and the structs behind them."""
+    text = source('linked/lib')
+    declared = dict(re.findall(r'^uint64_t (rukeshomaji_\w+)\(([^)]*)\);', HEADER, re.M))
+    entries = dict(re.findall(r'extern "C" fn (rukeshomaji_\w+)\(([^)]*)\) -> u64', text))
+    for name in sorted(declared.keys() | entries.keys()):
+        expected = []
+        for parameter, kind in re.findall(r'(\w+): (&(?:mut )?\[[^\]]*\])', entries.get(name, '')):
+            sized = re.fullmatch(r'&(mut )?\[u64; (\d+)\]', kind)
+            if not sized:
+                expected.append(TYPES[kind])
+                continue
+            struct = STRUCTS.get(parameter) or STRUCTS[f"{name.split('_', 1)[1]} {parameter}"]
+            expected.append(f"{'' if sized[1] else 'const '}{struct} *")
+            yield len(fields(struct)) == int(sized[2]), f'{struct} has {len(fields(struct))} fields, the core {sized[2]} cells'
+        given = ', '.join(re.sub(r'\s*\w+$', '', re.sub(r'(char) (\w+)\[\w+\]$', r'\1 *\2', each.strip()))
+                          for each in declared.get(name, 'not declared').split(',') if each != 'void')
+        yield given == ', '.join(expected), f"{name}: the header takes ({given}), the core ({', '.join(expected)})"
+    for struct, function in (('RukeshomajiSite', 'site_values'), ('RukeshomajiFrame', 'frame_values')):
+        order = re.findall(r'(\w+): l\[\d\]', re.search(rf'fn {function}\b.*?^}}', text, re.S | re.M)[0])
+        names = [{'class': 'class_number', 'alpha': 'alpha_y'}.get(each, each) for each in order]
+        yield fields(struct) == names, f'{struct} has {fields(struct)}, the core {names}'
+
+
+def main():
+    """Check all, say what is wrong."""
+    counts, wrong = [], 0
+    for what, checks in (('constants', check_constants()), ('ranges', check_ranges()), ('declarations and structs', check_entries())):
+        results = list(checks)
+        for right, words in results:
+            if not right:
+                print(words)
+                wrong += 1
+        counts.append(f'{len(results)} {what}')
+    print(f"{', '.join(counts)}, {wrong} wrong")
+    return 1 if wrong else 0
+
+
+if __name__ == '__main__':
+    sys.exit(main())
