@@ -21,7 +21,7 @@ use Rattle.sheet.specs.Sheet.{Sheet}
 abbrev judgedSheet : Sheet → Outcome Given
 judgedSheet r = judgedJob (r .site) (r .frame) (r .levels .weights) (r .levels .heights) (length (r .levels .weights))
 
-pub record Listed (s : List ℕ) : Type 0 where
+pub record SheetKept (s : List ℕ) : Type 0 where
   pub sheet : Sheet
   pub laid : s ≡ sheetLaid sheet
   pub given : Given
@@ -29,11 +29,11 @@ pub record Listed (s : List ℕ) : Type 0 where
   pub printed : sheetListing s ≡ listing (accepted (resultsOf given (sheet .levels .weights) (sheet .levels .heights)))
   pub keeps : Promised given (sheet .levels .weights) (sheet .levels .heights)
 
-pub listed : (s : List ℕ) → ((n p : ℕ) → sheetListing s ≡ refusal n p → ⊥) → Listed s
+pub sheet-kept : (s : List ℕ) → ((n p : ℕ) → sheetListing s ≡ refusal n p → ⊥) → SheetKept s
 unfolding listing
-listed s none = read (readSheet s) refl
+sheet-kept s none = read (readSheet s) refl
   where
-    job : (r : Sheet) → readSheet s ≡ accepted r → (o : Outcome Given) → judgedSheet r ≡ o → Listed s
+    job : (r : Sheet) → readSheet s ≡ accepted r → (o : Outcome Given) → judgedSheet r ≡ o → SheetKept s
     job r e (refused n p) j =
         absurd (none n p
         (read-listed s r e
@@ -50,6 +50,6 @@ listed s none = read (readSheet s) refl
           keeps = promised (r .site) (r .frame) (r .levels .weights) (r .levels .heights) (length (r .levels .weights)) g j;
         }
 
-    read : (o : Outcome Sheet) → readSheet s ≡ o → Listed s
+    read : (o : Outcome Sheet) → readSheet s ≡ o → SheetKept s
     read (accepted r) e = job r e (judgedSheet r) refl
     read (refused n p) e = absurd (none n p (unread-listed s n p e))

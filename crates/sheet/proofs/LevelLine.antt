@@ -11,15 +11,15 @@ use Rattle.text.specs.Bytes.{bytes}
 use Rattle.text.specs.Line.{lf, field, fields, line}
 use Rattle.text.specs.Reading.{Reading, found, otherwise, read, word, _>>=_, _>>_}
 use Rattle.text.proofs.Readings.{Went, then-went, then-missed, first-missed, read-went}
-use Rattle.sheet.specs.declared.levels.LevelAnswer.the-variants.{Found, Otherwise}
-use Rattle.sheet.specs.Reading.{levelAnswer}
+use Rattle.sheet.specs.declared.levels.LevelLineAnswer.the-variants.{Found, Otherwise}
+use Rattle.sheet.specs.Reading.{levelLineAnswer}
 
 module _ (s : List ℕ) (c : Cursor) where
   abbrev Missed : Type 0
-  Missed = levelAnswer c (line (bytes "level") 2 (drop (c .at) s)) ≡ Otherwise
+  Missed = levelLineAnswer c (line (bytes "level") 2 (drop (c .at) s)) ≡ Otherwise
 
   missed : line (bytes "level") 2 (drop (c .at) s) ≡ otherwise → Missed
-  unfolding levelAnswer
+  unfolding levelLineAnswer
   missed o = rw o
 
   pub level-first : word (bytes "level") (drop (c .at) s) ≡ otherwise → Missed
@@ -56,8 +56,8 @@ module _ (s : List ℕ) (c : Cursor) where
         level-last o = begun (then-missed s (fields 2) (λ ns. word lf >> read ns) both (first-missed (word lf) (λ _. read (weight ∷ height ∷ [])) o))
 
         pub level-whole : (x : Cursor) → Went e x (word lf (drop (e .at) s)) tt
-            → levelAnswer c (line (bytes "level") 2 (drop (c .at) s)) ≡ Found weight height x
-        unfolding line levelAnswer
+            → levelLineAnswer c (line (bytes "level") 2 (drop (c .at) s)) ≡ Found weight height x
+        unfolding line levelLineAnswer
         level-whole x w₄ =
             let w : Went c x (line (bytes "level") 2 (drop (c .at) s)) (weight ∷ height ∷ []) =
             then-went s (word (bytes "level")) (λ _. fields 2 >>= λ ns. word lf >> read ns) w₁
@@ -66,8 +66,8 @@ module _ (s : List ℕ) (c : Cursor) where
             rw (w .is) (ap (Found weight height) (w .to))
 
 -- ---- what the answer says of the line
-pub level-missed : (c : Cursor) (o : Reading (List ℕ)) → levelAnswer c o ≡ Otherwise → o ≡ otherwise
-unfolding levelAnswer
+pub level-missed : (c : Cursor) (o : Reading (List ℕ)) → levelLineAnswer c o ≡ Otherwise → o ≡ otherwise
+unfolding levelLineAnswer
 level-missed c (found ns n) e = absurd (let z : _≡_ {A = ℕ} 0 1 = cc in let b : ⊥ = omega arith in b)
 level-missed c otherwise e = refl
 
@@ -77,9 +77,9 @@ pub record LevelWent (c c′ : Cursor) (o : Reading (List ℕ)) (weight height :
   pub height-is : getD numbers 1 0 ≡ height
   pub went : Went c c′ o numbers
 
-pub level-went : (c c′ : Cursor) (weight height : ℕ) (o : Reading (List ℕ)) → levelAnswer c o ≡ Found weight height c′
+pub level-went : (c c′ : Cursor) (weight height : ℕ) (o : Reading (List ℕ)) → levelLineAnswer c o ≡ Found weight height c′
     → LevelWent c c′ o weight height
-unfolding levelAnswer
+unfolding levelLineAnswer
 level-went c c′ weight height (found ns n) e =
     record { numbers = ns; weight-is = cc; height-is = cc; went = record { used = n; is = refl; to = cc } }
 level-went c c′ weight height otherwise e = absurd (let z : _≡_ {A = ℕ} 0 1 = cc in let b : ⊥ = omega arith in b)

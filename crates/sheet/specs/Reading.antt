@@ -4,7 +4,7 @@
 --   readSheet bytes        17 at 0 where there are over 4,096 bytes; else what the lines hold
 --   keptMost               how many levels are kept: one more than a job may have, so that the job can refuse the count
 --   kept l, cellsOf l      the first of a list, as many as are kept; in as many cells, zeros in the rest
---   levelAnswer c o        the code's answer to the reading o of a level line from c on: weight, height, where the next begins
+--   levelLineAnswer c o        the code's answer to the reading o of a level line from c on: weight, height, where the next begins
 --   levelsRead o, sheetRead o          the code's answer to the outcome o, its weights and heights in cells
 --   levelsOutcome a, sheetOutcome a    what the code's answer a says: how many levels are kept, with site and frame of a sheet;
 --                          or the refusal
@@ -19,8 +19,8 @@ use Rattle.limits.specs.declared.site.SiteValues.{SiteValues}
 use Rattle.limits.specs.Outcome.{Outcome, accepted, refused, zeros, require, _>>=_, _>>_}
 use Rattle.text.specs.Reading.{Reading, found, otherwise, after}
 use Rattle.text.specs.declared.reading.Cursor.{Cursor}
-use Rattle.sheet.specs.declared.levels.LevelAnswer.{LevelAnswer}
-use Rattle.sheet.specs.declared.levels.LevelAnswer.the-variants.{Found, Otherwise}
+use Rattle.sheet.specs.declared.levels.LevelLineAnswer.{LevelLineAnswer}
+use Rattle.sheet.specs.declared.levels.LevelLineAnswer.the-variants.{Found, Otherwise}
 use Rattle.sheet.specs.declared.levels.LevelsAnswer.{LevelsAnswer}
 use Rattle.sheet.specs.declared.levels.LevelsAnswer.the-variants.{Taken as TakenLevels, Refused as RefusedLevels}
 use Rattle.sheet.specs.declared.levels.LevelsRead.{LevelsRead}
@@ -54,9 +54,9 @@ kept l = take keptMost l
 abbrev pub cellsOf : List ℕ → List ℕ
 cellsOf l = laid (kept l) (zeros keptMost)
 
-unfoldable pub levelAnswer : Cursor → Reading (List ℕ) → LevelAnswer
-levelAnswer c (found ns n) = Found (getD ns 0 0) (getD ns 1 0) (after c n)
-levelAnswer c otherwise = Otherwise
+unfoldable pub levelLineAnswer : Cursor → Reading (List ℕ) → LevelLineAnswer
+levelLineAnswer c (found ns n) = Found (getD ns 0 0) (getD ns 1 0) (after c n)
+levelLineAnswer c otherwise = Otherwise
 
 unfoldable pub levelsRead : Outcome Levels → LevelsRead
 levelsRead (accepted ls) =

@@ -12,35 +12,35 @@ ghost use lib.ListN.{set, drop};
 ghost use Rattle.limits.specs.Outcome.{refused, refusalOf};
 ghost use Rattle.text.specs.Bytes.{bytes};
 ghost use Rattle.text.specs.Line.{line};
-ghost use Rattle.sheet.specs.Reading.{levelAnswer, levelLines, keptMost, levelsRead, levelsOutcome};
+ghost use Rattle.sheet.specs.Reading.{levelLineAnswer, levelLines, keptMost, levelsRead, levelsOutcome};
 
 // What a level line holds, weight and height, and where the next line begins; or it is otherwise.
-pub enum LevelAnswer {
+pub enum LevelLineAnswer {
     Found(u64, u64, Cursor),
     Otherwise,
 }
 
 // The line at a cursor, its two numbers by value: a sheet has many of these lines.
-fn level_line(s: &[u8], c: Cursor) -> LevelAnswer
-    ensures { λ a. ⌜ a ≡ levelAnswer c (line (bytes "level") 2 (drop (c .at) (now (s .entry)))) ⌝ }
+fn level_line(s: &[u8], c: Cursor) -> LevelLineAnswer
+    ensures { λ a. ⌜ a ≡ levelLineAnswer c (line (bytes "level") 2 (drop (c .at) (now (s .entry)))) ⌝ }
 {
     let first = word(s, c, b"level");
     let ReadAnswer::Found(begin) = first else {
-        return LevelAnswer::Otherwise;
+        return LevelLineAnswer::Otherwise;
     };
     let w = field(s, begin);
     let NumberAnswer::Found(weight, middle) = w else {
-        return LevelAnswer::Otherwise;
+        return LevelLineAnswer::Otherwise;
     };
     let h = field(s, middle);
     let NumberAnswer::Found(height, end) = h else {
-        return LevelAnswer::Otherwise;
+        return LevelLineAnswer::Otherwise;
     };
     let last = word(s, end, b"\n");
     let ReadAnswer::Found(next) = last else {
-        return LevelAnswer::Otherwise;
+        return LevelLineAnswer::Otherwise;
     };
-    LevelAnswer::Found(weight, height, next)
+    LevelLineAnswer::Found(weight, height, next)
 }
 
 // How many levels are kept, or the refusal.
@@ -113,7 +113,7 @@ pub fn level_lines(s: &[u8], c: Cursor) -> LevelsRead
     let mut at = c.at;
     while at < s.len() {
         let a = level_line(s, Cursor { at });
-        let LevelAnswer::Found(weight, height, next) = a else {
+        let LevelLineAnswer::Found(weight, height, next) = a else {
             return LevelsRead::otherwise(LEVEL_LINE + n as u64);
         };
         keep(&mut weights, n, weight);

@@ -91,7 +91,7 @@ pub fn sheet_listing(s: &[u8]) -> Listing
     }
 }
 
-// The same into a lent array, which holds every listing.
+// Writes the listing of a sheet into a lent array, which holds every listing.
 pub fn put_in_array(out: &mut [u8; LONGEST], s: &[u8]) -> Put
     ensures { λ p. ⌜ Puts (outcomeOf (now (s .entry))) (now (out .entry)) (now (out .exit)) p ⌝ }
 {

@@ -82,7 +82,7 @@ fn frame_values(n: [u64; 10]) -> FrameValues
 }
 
 // Line 1, line 2, and all later lines, each from where the one before it ended.
-pub fn read_lines(s: &[u8]) -> SheetRead
+pub fn sheet_lines(s: &[u8]) -> SheetRead
     ensures { λ r. ⌜ r ≡ sheetRead (sheetLines (now (s .entry))) ⌝ }
 {
     let first = line(s, Cursor { at: 0 }, b"site", SITE_NUMBERS);
@@ -119,5 +119,5 @@ pub fn read_sheet(s: &[u8]) -> SheetRead
     if Sheet::BYTES_MOST < s.len() as u64 {
         return SheetRead::stopped(Refusal::SHEET, Refusal::NOWHERE);
     }
-    read_lines(s)
+    sheet_lines(s)
 }

@@ -12,11 +12,11 @@ stopped-requires c κs = search needs
 returns : tie.Need-returns
 returns c = c .stopped .ensures ∙ ap sheetRead (sym (sheet-long _ (c .before .if1 .taken)))
 
-read-lines-requires : tie.Need-read-lines-requires
-read-lines-requires c κs = search needs
+sheet-lines-requires : tie.Need-sheet-lines-requires
+sheet-lines-requires c κs = search needs
 
 returns-2 : tie.Need-returns-2
-returns-2 c = c .read-lines .ensures ∙ ap sheetRead (sym (sheet-lines _ (c .before .if1 .left)))
+returns-2 c = c .sheet-lines .ensures ∙ ap sheetRead (sym (sheet-lines _ (c .before .if1 .left)))
 
 pub read-sheet-spec : {M : Type 1} → statement M
-read-sheet-spec = tie.close (tie.spec stopped-requires returns read-lines-requires returns-2)
+read-sheet-spec = tie.close (tie.spec stopped-requires returns sheet-lines-requires returns-2)

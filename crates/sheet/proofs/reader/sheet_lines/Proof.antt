@@ -1,4 +1,4 @@
--- `sheet::reader::read_lines` meets its contract: the stages of the code are the lines of `sheetLines`. Assumes nothing.
+-- `sheet::reader::sheet_lines` meets its contract: the stages of the code are the lines of `sheetLines`. Assumes nothing.
 use borrow.Author.Needs.{needs}
 use mathlib.Core.Path.{refl, sym, ap, _∙_}
 use Rattle.limits.specs.declared.refusal.Refusal.{Refusal}
@@ -7,8 +7,8 @@ use Rattle.limits.proofs.Stages.{yielded}
 use Rattle.text.proofs.Readings.{line-missed, line-went}
 use Rattle.sheet.proofs.Stages.{levels-refused, levels-taken, lines-first, lines-second, lines-later, lines-all}
 use Rattle.sheet.specs.Reading.{sheetRead, levelsOutcome}
-use Rattle.sheet.proofs.reader.read_lines.Statement.{statement}
-use Rattle.sheet.proofs.reader.read_lines.Tie as tie
+use Rattle.sheet.proofs.reader.sheet_lines.Statement.{statement}
+use Rattle.sheet.proofs.reader.sheet_lines.Tie as tie
 
 slice-aggregate-line : tie.Need-slice-aggregate-line
 slice-aggregate-line c = search needs
@@ -93,8 +93,8 @@ returns-4 c =
     let last = levels-taken _ _ _ (c .before .before .before .before .before .before .before .before .before .level-lines .ensures) (c .before .before .before .before .before .before .before .l .given .1) in
     lines-all s first middle last (c .before .site-values .ensures) (c .frame-values .ensures)
 
-pub read-lines-spec : {M : Type 1} → statement M
-read-lines-spec =
+pub sheet-lines-spec : {M : Type 1} → statement M
+sheet-lines-spec =
     tie.close
     (tie.spec
     slice-aggregate-line
