@@ -6,7 +6,7 @@
  * This page prints the contracts a second time: crates/linked/src/lib.rt has them, and each entry is proved to meet its own.
  *
  *   Every input is taken. An entry returns 0, or the number of the first refusal that applies; it writes no message and ends no program.
- *   Every field of what an entry answers is written at each call: where data is refused all fields but `place` are 0.
+ *   Every field of what an entry answers through is written at each call; where data is refused figures and class are 0.
  *   Where data is refused the buffers of a job hold what they held. A listing's bytes past its length hold what they held, in any case.
  *   Nothing is kept between calls: an answer depends on its own call alone. Calls may run at once, from any threads, also over lists that
  *   they share, as long as nothing that one of them writes to is used by another.

@@ -4,16 +4,17 @@ use mathlib.Core.Path.{_≡_, refl, sym, ap, ap₂, subst, _∙_}
 use mathlib.Core.List.{List, [], _∷_}
 use Prim.Native.Nat.{ℕ}
 use lib.ListN.{length}
+use Rattle.whole.specs.Cells.{laid}
 use Rattle.whole.proofs.Unique.{determined}
 use Rattle.limits.specs.declared.frame.FrameValues.{FrameValues}
 use Rattle.limits.specs.declared.refusal.Refusal.{Refusal}
 use Rattle.limits.specs.declared.site.SiteValues.{SiteValues}
 use Rattle.limits.specs.Outcome.{Outcome, accepted, refused, number, place, refusalOf}
 use Rattle.job.specs.declared.JobAnswer.{JobAnswer}
-use Rattle.job.specs.Job.{jobOf, figuresOnly, answerOutcome, Buffers, shortest, written, Figured, Answers}
+use Rattle.job.specs.Job.{Results, jobOf, figuresOnly, answerOutcome, Buffers, shortest, written, Figured, Answers}
 use Rattle.job.proofs.Calls.{answerOf, says-outcome}
 use Rattle.sheet.specs.declared.Put.{Put}
-use Rattle.sheet.specs.Listing.{outcomeOf, sheetListing, Puts}
+use Rattle.sheet.specs.Listing.{refusal, listing, outcomeOf, sheetListing, Puts}
 use Rattle.sheet.specs.Sheet.{siteValues, frameValues}
 use Rattle.linked.specs.Linked.{Replies, FiguresReply, JobReplies, FiguresReplies, LogReplies, SheetReplies}
 
@@ -82,6 +83,16 @@ sheet-replies s p t =
           (t .listed .length-is);
       listed = t .listed .bytes-are;
     }
+
+-- a sheet that is refused: the refusal's line is the listing, and all other bytes are as they were
+pub refused-sheet-reply : (s : List ℕ) {old : List ℕ} {n : ℕ} {held r : List ℕ} (k p : ℕ) → outcomeOf s ≡ refused k p
+    → SheetReplies s old n held r → (n ≡ k) × (held ≡ laid (refusal k p) old) × (r ≡ p ∷ length (refusal k p) ∷ [])
+unfolding sheetListing listing
+refused-sheet-reply s {old} k p e t = (
+  t .returned ∙ ap number e,
+  t .listed ∙ ap (λ (o : Outcome Results). laid (listing o) old) e,
+  t .replied ∙ ap (λ (o : Outcome Results). place o ∷ length (listing o) ∷ []) e,
+)
 
 pub one-sheet-reply : (s : List ℕ) {old : List ℕ} {n n′ : ℕ} {held held′ r r′ : List ℕ} → SheetReplies s old n held r
     → SheetReplies s old n′ held′ r′ → (n ≡ n′) × (held ≡ held′) × (r ≡ r′)

@@ -1,0 +1,130 @@
+"""The core from Python, by ctypes. After examples/build.sh, from the project's root, the worked sheet:
+
+    python3 examples/rukeshomaji.py
+
+job, figures, site_class and sheet take whole numbers in the units of include/rukeshomaji.h. A number that 64 bits do not hold is an
+OverflowError before anything is called, as ctypes would cut it (2**64 to 0, which of a calculated period means none). A refusal is raised as
+Refused, with its number, place and text. The library is target/lib/librukeshomaji.so, or what RUKESHOMAJI_LIBRARY names.
+"""
+
+import ctypes
+import operator
+import os
+import pathlib
+from collections import namedtuple
+
+Site = namedtuple('Site', 'ssd s1d ssm s1m na nv class_number')
+Frame = namedtuple('Frame', 'kind calculated r i alpha_y')
+Figures = namedtuple('Figures', 'v vm star vd t')
+Job = namedtuple('Job', 'figures forces shears overturnings')
+
+LONGEST = 4_610
+TEXTS = {
+    1: 'no level, or over 50',
+    2: 'lists of unequal length, or a result buffer shorter than them',
+    3: 'weight out of its range',
+    4: 'height out of its range, or not above the one below',
+    5: 'mapped value not in its table',
+    6: 'near-fault factor out of its range',
+    7: 'unknown site class',
+    8: 'R out of its range',
+    9: 'I not in its table',
+    10: 'alpha-y out of its range',
+    11: 'unknown kind of frame',
+    12: 'calculated period out of its range',
+    13: 'no layer, or over 40',
+    14: 'thickness 0, or thicknesses that do not add up to 3,000 cm',
+    15: 'unknown kind of layer, or value out of its range',
+    16: 'line not as laid out',
+    17: 'sheet over 4,096 bytes',
+}
+PLACES = {
+    3: 'level', 4: 'level', 5: ('S_S design', 'S_1 design', 'S_S MCE', 'S_1 MCE'), 6: ('N_A', 'N_V'), 14: 'layer', 15: 'layer', 16: 'line',
+}
+
+U64 = ctypes.c_uint64
+LIBRARY = os.environ.get('RUKESHOMAJI_LIBRARY') or pathlib.Path(__file__).resolve().parents[1] / 'target' / 'lib' / 'librukeshomaji.so'
+
+
+class Refused(ValueError):
+    """Bad data: number and place of document 01's table, and what the number means."""
+
+    def __init__(self, number, place):
+        self.number, self.place, self.text = number, place, TEXTS[number]
+        names = PLACES.get(number, '')
+        where = f' at {names} {place}' if isinstance(names, str) else f' at {names[place - 1]}'
+        super().__init__(f"refusal {number}{where if place else ''}: {self.text}")
+
+
+_core = ctypes.CDLL(str(LIBRARY))
+_lines, _list, _numbers = [ctypes.POINTER(U64)] * 2, [ctypes.POINTER(U64), U64], ctypes.POINTER(U64)
+_core.rukeshomaji_job.argtypes = [*_lines, *_list * 5, _numbers]
+_core.rukeshomaji_figures.argtypes = [*_lines, *_list * 2, _numbers]
+_core.rukeshomaji_site_class.argtypes = [*_list * 3, _numbers]
+_core.rukeshomaji_sheet.argtypes = [ctypes.c_char_p, U64, ctypes.c_char_p, _numbers]
+for _name in ('job', 'figures', 'site_class', 'sheet', 'version', 'edition', 'source'):
+    getattr(_core, f'rukeshomaji_{_name}').restype = U64
+
+
+def _array(numbers, count=None):
+    """Numbers as an array of 64-bit ones: each must be whole, and fit."""
+    numbers = [operator.index(each) for each in numbers]
+    for each in numbers:
+        if not 0 <= each < 2 ** 64:
+            raise OverflowError(f'{each} is not a number of 0 to 2**64 - 1')
+    if count is not None and len(numbers) != count:
+        raise TypeError(f'{count} numbers are wanted, {len(numbers)} are given')
+    return (U64 * len(numbers))(*numbers)
+
+
+def _taken(number, reply):
+    """What is answered after the place, or the refusal."""
+    if number:
+        raise Refused(number, reply[0])
+    return list(reply)[1:]
+
+
+def job(site, frame, weights, heights):
+    """The five figures, and the force, shear and overturning moment of each level, lowest first."""
+    weights, heights, reply = _array(weights), _array(heights), (U64 * 6)()
+    cells = [(U64 * len(weights))() for _ in range(3)]
+    number = _core.rukeshomaji_job(_array(site, 7), _array(frame, 5), weights, len(weights), heights, len(heights),
+                                   *(part for each in cells for part in (each, len(each))), reply)
+    return Job(Figures(*_taken(number, reply)), *map(list, cells))
+
+
+def figures(site, frame, weights, heights):
+    """The five figures alone."""
+    weights, heights, reply = _array(weights), _array(heights), (U64 * 6)()
+    number = _core.rukeshomaji_figures(_array(site, 7), _array(frame, 5), weights, len(weights), heights, len(heights), reply)
+    return Figures(*_taken(number, reply))
+
+
+def site_class(thicknesses, kinds, values):
+    """1 hard, 2 normal, 3 soft."""
+    lists, reply = [_array(each) for each in (thicknesses, kinds, values)], (U64 * 2)()
+    return _taken(_core.rukeshomaji_site_class(*(part for each in lists for part in (each, len(each))), reply), reply)[0]
+
+
+def sheet(data):
+    """The listing of the bytes of a sheet."""
+    data, listing, reply = bytes(data), ctypes.create_string_buffer(LONGEST), (U64 * 2)()
+    length = _taken(_core.rukeshomaji_sheet(data, len(data), listing, reply), reply)[0]
+    return listing.raw[:length]
+
+
+def version():
+    """Version of the library, edition of the code, source of the rules."""
+    return _core.rukeshomaji_version(), _core.rukeshomaji_edition(), _core.rukeshomaji_source()
+
+
+def main():
+    """The worked sheet."""
+    done = job(Site(80, 45, 100, 55, 100, 100, 1), Frame(2, 1000, 480, 100, 150), [5000] * 3, [100, 200, 300])
+    print('base', *done.figures, sep='\t')
+    for level in range(3, 0, -1):
+        print('level', level, done.forces[level - 1], done.shears[level - 1], done.overturnings[level - 1], sep='\t')
+
+
+if __name__ == '__main__':
+    main()

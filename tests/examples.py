@@ -1,0 +1,140 @@
+"""Builds and runs the examples as their heads say, and tries what the Python module refuses.
+
+usage: python3 -m tests.examples
+
+It needs `rt`, `cc`, `c++` and x86-64. RUKESHOMAJI_LIBRARY names a shared library of the core to use in place of the one that examples/build.sh
+makes: one for another machine, with which `rt` is not needed.
+"""
+
+import contextlib
+import importlib.util
+import os
+import pathlib
+import platform
+import re
+import subprocess
+import sys
+
+ROOT = pathlib.Path(__file__).resolve().parents[1]
+EXAMPLES = ROOT / 'examples'
+GIVEN = os.environ.get('RUKESHOMAJI_LIBRARY')
+ARCHIVE = 'target/lib/librukeshomaji.a'
+STRICT = {'cc ': 'cc -std=c99 -Wall -Wextra -pedantic -Werror ', 'c++ ': 'c++ -std=c++11 -Wall -Wextra -pedantic -Werror '}
+SITE, FRAME = (80, 45, 100, 55, 100, 100, 1), (2, 1000, 480, 100, 150)
+WEIGHTS, HEIGHTS = [5000] * 3, [100, 200, 300]
+
+
+def command(path):
+    """The command that the head of an example says, made strict, with the library that was named."""
+    said = re.search(r'^(?: \*|#)?\s{4,5}(\S.*target/.*|python3 .*)$', path.read_text(), re.M)[1]
+    for plain, strict in STRICT.items():
+        said = re.sub(rf'^{re.escape(plain)}', strict, said)
+    return said.replace(ARCHIVE, GIVEN) if GIVEN else said
+
+
+def printed(path):
+    """What it prints."""
+    return subprocess.run(command(path), shell=True, cwd=ROOT, check=True, stdout=subprocess.PIPE).stdout
+
+
+def run_programs():
+    """The three examples print the listing of the worked sheet; the one in C++ that of every sheet."""
+    expected = (EXAMPLES / 'office.listing').read_bytes()
+    for name in ('office.c', 'listing.cpp', 'rukeshomaji.py'):
+        yield name, printed(EXAMPLES / name) == expected
+    for sheet in sorted(EXAMPLES.glob('*.sheet')):
+        run = subprocess.run([ROOT / 'target' / 'lib' / 'listing'], input=sheet.read_bytes(), capture_output=True, check=False)
+        listing = sheet.with_suffix('.listing').read_bytes()
+        refused = listing.split()[1:] if listing.startswith(b'refused') else ()
+        wanted = (1, b'', b'refused %s at %s\n' % tuple(refused)) if refused else (0, listing, b'')
+        yield f'listing.cpp on {sheet.name}', (run.returncode, run.stdout, run.stderr) == wanted
+
+
+def module():
+    """examples/rukeshomaji.py"""
+    spec = importlib.util.spec_from_file_location('rukeshomaji', EXAMPLES / 'rukeshomaji.py')
+    loaded = importlib.util.module_from_spec(spec)
+    spec.loader.exec_module(loaded)
+    return loaded
+
+
+def raises(kind, function, *arguments):
+    """The error of that kind, or None."""
+    with contextlib.suppress(Exception):
+        try:
+            function(*arguments)
+        except kind as error:
+            return error
+    return None
+
+
+def refusals(core):
+    """A call for each refusal, and what it is to say."""
+    def job(site=SITE, frame=FRAME, weights=WEIGHTS, heights=HEIGHTS):
+        return core.job, (site, frame, weights, heights)
+
+    def log(*lists):
+        return core.site_class, lists
+
+    def with_number(numbers, place, number):
+        return (*numbers[:place], number, *numbers[place + 1:])
+
+    yield 1, 0, job(weights=[], heights=[])
+    yield 2, 0, job(heights=HEIGHTS[:2])
+    yield 3, 2, job(weights=[5000, 20_001, 5000])
+    yield 4, 3, job(heights=[100, 200, 200])
+    yield from ((5, place + 1, job(with_number(SITE, place, 75))) for place in (0, 1, 2, 3))
+    yield from ((6, place - 3, job(with_number(SITE, place, 99))) for place in (4, 5))
+    yield 7, 0, job(with_number(SITE, 6, 4))
+    yield from ((number, 0, job(frame=with_number(FRAME, place, 99_999))) for number, place in ((8, 2), (9, 3), (10, 4), (11, 0), (12, 1)))
+    yield 13, 0, log([], [], [])
+    yield 14, 2, log([3000, 0], [2, 2], [2, 2])
+    yield 14, 0, log([2999], [2], [2])
+    yield 15, 1, log([3000], [2], [1])
+    yield 16, 1, (core.sheet, (b'',))
+    yield 17, 0, (core.sheet, (b'\n' * 4097,))
+
+
+def run_module(core):
+    """What the Python module answers, refuses and does not call."""
+    yield 'the same figures alone', core.figures(SITE, FRAME, WEIGHTS, HEIGHTS) == core.job(SITE, FRAME, WEIGHTS, HEIGHTS).figures
+    yield 'a soil log', core.site_class([1000, 1000, 1000], [1, 2, 3], [3000, 20, 40]) == 1
+    yield 'a sheet', core.sheet((EXAMPLES / 'tower.sheet').read_bytes()) == (EXAMPLES / 'tower.listing').read_bytes()
+    header = (ROOT / 'include' / 'rukeshomaji.h').read_text()
+    numbers = tuple(int(re.search(rf'_{name} (\d+)', header)[1]) for name in ('VERSION', 'EDITION', 'SOURCE'))
+    yield 'version, edition and source', core.version() == numbers
+    seen = set()
+    for number, place, (function, arguments) in refusals(core):
+        error = raises(core.Refused, function, *arguments)
+        seen.add(number)
+        yield f'refusal {number} at {place}', error and (error.number, error.place) == (number, place) and error.text in str(error)
+    yield 'every refusal', seen == set(core.TEXTS) == set(range(1, 18))
+    for number in (2 ** 64, 2 ** 64 + 1000, -1):
+        yield f'a calculated period of {number}', raises(OverflowError, core.job, SITE, (2, number, 480, 100, 150), WEIGHTS, HEIGHTS)
+        yield f'a weight of {number}', raises(OverflowError, core.figures, SITE, FRAME, [5000, number, 5000], HEIGHTS)
+        yield f'a value of {number}', raises(OverflowError, core.site_class, [3000], [2], [number])
+    yield 'the largest number of 64 bits', raises(core.Refused, core.figures, SITE, (2, 2 ** 64 - 1, 480, 100, 150), WEIGHTS, HEIGHTS)
+    yield 'an R of 4.8', raises(TypeError, core.job, SITE, (2, 1000, 4.8, 100, 150), WEIGHTS, HEIGHTS)
+    yield 'a site of six numbers', raises(TypeError, core.job, SITE[:6], FRAME, WEIGHTS, HEIGHTS)
+
+
+def main():
+    """Try all, say how each went; 1 where one is wrong."""
+    if not GIVEN and platform.machine() not in ('x86_64', 'AMD64'):
+        sys.exit(f'This needs an x86-64 machine, for which the core is compiled, or RUKESHOMAJI_LIBRARY; this one is {platform.machine()}.')
+    (ROOT / 'target' / 'lib').mkdir(parents=True, exist_ok=True)
+    if not GIVEN:
+        subprocess.run([EXAMPLES / 'build.sh'], check=True, stdout=subprocess.DEVNULL)
+    tried = wrong = 0
+    for results in (run_programs(), run_module(module())):
+        for name, right in results:
+            tried += 1
+            if not right:
+                wrong += 1
+                print('WRONG', name)
+    print(f'{tried} tried, {wrong} wrong')
+    return 1 if wrong else 0
+
+
+if __name__ == '__main__':
+    sys.exit(main())
