@@ -141,6 +141,8 @@ class Paper:
             if STANDS_FOR_ANY.search(token) or not self.looks_like_path(token):
                 continue
             self.counted['paths'] += 1
+            if self.path.name == 'PROMISES.md' and '*' not in token and f'`{token}' not in text:
+                self.say(line, f'no link: {token}')
             places = [*([before] if before else []), *self.bases, ROOT, CRATES, self.path.parent]
             hits = [hit for place in places for hit in (sorted(place.glob(token)) or sorted(place.glob(token + '.antt')))]
             if not hits:
