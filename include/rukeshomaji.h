@@ -13,7 +13,7 @@
  *   A list or a buffer is a pointer and a count of its elements. With a count of 0 the pointer may be NULL, which is tried and not proved
  *   (docs/LIMITS.md). No other pointer may be NULL; each is aligned for its type.
  *   What is written (buffers, figures, reply, listing) must not overlap anything else that is handed on. What is only read may.
- *   No entry uses the heap. README says how much stack each one takes.
+ *   No entry uses the heap. docs/MEASURED.md says how much stack each one took.
  */
 #ifndef RUKESHOMAJI_H
 #define RUKESHOMAJI_H

@@ -14,6 +14,7 @@ CHECKS = (
     'tests.manual',
     'tests.writes.pictures check',
     'tests.compares.check_model',
+    'tests.compares.header',
 )
 
 

@@ -89,9 +89,9 @@ class Paper:
             first, block = number, [lines[number]]
             number += 1
             if block[0].startswith(('    ', '```')):
-                while block[0] == '```' and lines[number] != '```':
+                while block[0].startswith('```') and lines[number] != '```':
                     number += 1
-                number += block[0] == '```'
+                number += block[0].startswith('```')
                 self.modules(first + 1, block[0])
                 continue
             if not block[0].startswith(('|', '#')):
@@ -281,7 +281,7 @@ def edits():
 def main():
     """Check all, say what is wrong."""
     docs = ROOT / 'docs'
-    papers = [Paper(path) for path in [ROOT / 'README.md', ROOT / 'CHANGELOG.md', *sorted(docs.glob('*.md')), *sorted(docs.glob('manual/*.md'))]]
+    papers = [Paper(path) for path in [ROOT / 'README.md', ROOT / 'CHANGELOG.md', ROOT / 'CONTRIBUTING.md', *sorted(docs.glob('*.md')), *sorted(docs.glob('manual/*.md'))]]
     for paper in papers:
         paper.check()
     wrong = [each for paper in papers for each in paper.wrong] + [*functions(), *edits()]
