@@ -1,31 +1,50 @@
-"""Runs every check that is quick and needs no proof: papers, manual, pictures, model. Exits with 1 where one of them fails.
+"""Runs the tests outside the gate, one after the other: papers and links, manual, pictures, header, model; then the program, the examples and
+lists that are NULL, which need `rt`, and the last two x86-64 or RUKESHOMAJI_LIBRARY, a shared library of the core for the machine at hand.
 
-usage: python3 -m tests.all
+usage: python3 -m tests.all [quick]      quick: what needs Python alone, in less than a minute
+
+The comparison with the model (tests/compares/compare.py) and tests/tried.sh take longer, and are run by themselves.
 """
 
+import os
 import pathlib
+import platform
+import shutil
 import subprocess
 import sys
 
 ROOT = pathlib.Path(__file__).resolve().parents[1]
 # what follows `python3 -m`, one line a check
-CHECKS = (
+QUICK = (
     'tests.papers',
     'tests.manual',
     'tests.writes.pictures check',
-    'tests.compares.check_model',
     'tests.compares.header',
+    'tests.compares.check_model',
 )
+PROGRAM = 'tests.compares.run_program'
+LINKED = ('tests.examples', 'tests.compares.null_lists')
+
+
+def left_out():
+    """The checks that cannot be run here, and why."""
+    if sys.argv[1:] == ['quick']:
+        return dict.fromkeys((PROGRAM, *LINKED), 'it needs rt')
+    here = os.environ.get('RUKESHOMAJI_LIBRARY') or platform.machine() in ('x86_64', 'AMD64')
+    missing = {} if here else dict.fromkeys(LINKED, 'it needs x86-64 or RUKESHOMAJI_LIBRARY')
+    return missing if shutil.which('rt') else missing | {PROGRAM: 'it needs rt'}
 
 
 def main():
     """Run each, with what it prints."""
-    failed = []
-    for check in CHECKS:
+    failed, out, checks = [], left_out(), (*QUICK, PROGRAM, *LINKED)
+    for check in checks:
         print(f'{check}: ', end='', flush=True)
-        if subprocess.run([sys.executable, '-m', *check.split()], cwd=ROOT).returncode != 0:
+        if check in out:
+            print(f'left out: {out[check]}')
+        elif subprocess.run([sys.executable, '-m', *check.split()], cwd=ROOT).returncode != 0:
             failed.append(check)
-    print(f'{len(CHECKS) - len(failed)} passed, {len(failed)} failed', *failed)
+    print(f'{len(checks) - len(out) - len(failed)} passed, {len(out)} left out, {len(failed)} failed', *failed)
     return 1 if failed else 0
 
 
