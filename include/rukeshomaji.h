@@ -37,7 +37,7 @@ extern "C" {
 #define RUKESHOMAJI_LONGEST_LISTING 4610
 
 /* Refusals: what an entry returns where it does not return 0; beside each its place. Of 1 to 15 the lowest number that applies is returned,
- * at its lowest place; for a sheet 17, then 16, come before all others. */
+ * at its lowest place, but 14 at a layer of thickness 0 where there is one; for a sheet 17, then 16, come before all others. */
 #define RUKESHOMAJI_REFUSED_LEVELS 1      /* no level, or over 50: 0 */
 #define RUKESHOMAJI_REFUSED_LENGTHS 2     /* lists of unequal length, or a result buffer shorter than them: 0 */
 #define RUKESHOMAJI_REFUSED_WEIGHT 3      /* weight out of range: level, the lowest is 1 */
@@ -51,7 +51,7 @@ extern "C" {
 #define RUKESHOMAJI_REFUSED_KIND 11       /* unknown kind of frame: 0 */
 #define RUKESHOMAJI_REFUSED_PERIOD 12     /* calculated period out of range: 0 */
 #define RUKESHOMAJI_REFUSED_LAYERS 13     /* no layer, or over 40: 0 */
-#define RUKESHOMAJI_REFUSED_THICKNESS 14  /* thickness 0: layer, the first is 1; else, where they do not add up to 3,000 cm: 0 */
+#define RUKESHOMAJI_REFUSED_THICKNESS 14  /* thickness 0: layer, the first is 1; thicknesses that do not add up to 3,000 cm: 0 */
 #define RUKESHOMAJI_REFUSED_LAYER 15      /* unknown kind of layer, or value out of range: layer */
 #define RUKESHOMAJI_REFUSED_LINE 16       /* line of a sheet not as laid out: line, the first is 1 */
 #define RUKESHOMAJI_REFUSED_SHEET 17      /* sheet over 4,096 bytes: 0 */
