@@ -1,4 +1,4 @@
-/* A sheet on standard input, its listing on standard output, by C++: what ./shear prints. After examples/build.sh, from the project's root:
+/* A sheet on standard input, its listing on standard output; a refusal on standard error, with exit status 1. After examples/build.sh, from the project's root:
  *
  *     c++ -Iinclude -o target/lib/listing examples/listing.cpp target/lib/librukeshomaji.a && target/lib/listing < examples/office.sheet
  */

@@ -47,7 +47,7 @@ LIBRARY = os.environ.get('RUKESHOMAJI_LIBRARY') or pathlib.Path(__file__).resolv
 
 
 class Refused(ValueError):
-    """Bad data: number and place of document 01's table, and what the number means."""
+    """Bad data: number and place, and what the number means (docs/manual/refusals.md)."""
 
     def __init__(self, number, place):
         self.number, self.place, self.text = number, place, TEXTS[number]
@@ -107,8 +107,8 @@ def site_class(thicknesses, kinds, values):
 
 
 def sheet(data):
-    """The listing of the bytes of a sheet."""
-    data, listing, reply = bytes(data), ctypes.create_string_buffer(LONGEST), (U64 * 2)()
+    """The listing of the bytes of a sheet, as open(path, 'rb').read() gives them."""
+    data, listing, reply = bytes(memoryview(data)), ctypes.create_string_buffer(LONGEST), (U64 * 2)()
     length = _taken(_core.rukeshomaji_sheet(data, len(data), listing, reply), reply)[0]
     return listing.raw[:length]
 

@@ -3,17 +3,19 @@
  * examples/build.sh makes the library of x86-64 Linux, librukeshomaji.a and librukeshomaji.so; examples/ has a program in C, one in C++ and
  * a module for Python. Pointers and 64-bit numbers are all that an entry takes and returns.
  *
- * This page prints the contracts a second time: crates/linked/src/lib.rt has them, and each entry is proved to meet its own.
+ * crates/linked/src/lib.rt has the contracts, numbers, places, figures and buffers, which each entry is proved to meet; this page prints them a
+ * second time. What it says of threads, NULL, overlap, heap and stack is not proved (docs/LIMITS.md). Document 000 is the code's text in
+ * English; docs/manual states the rules.
  *
  *   Every input is taken. An entry returns 0, or the number of the first refusal that applies; it writes no message and ends no program.
- *   Every field of what an entry answers through is written at each call; where data is refused figures and class are 0.
+ *   Every field of `figures` or `reply` is written at each call. Where data is refused, all but the place and a listing's length are 0.
  *   Where data is refused the buffers of a job hold what they held. A listing's bytes past its length hold what they held, in any case.
  *   Nothing is kept between calls: an answer depends on its own call alone. Calls may run at once, from any threads, also over lists that
  *   they share, as long as nothing that one of them writes to is used by another.
  *   A list or a buffer is a pointer and a count of its elements. With a count of 0 the pointer may be NULL, which is tried and not proved
  *   (docs/LIMITS.md). No other pointer may be NULL; each is aligned for its type.
  *   What is written (buffers, figures, reply, listing) must not overlap anything else that is handed on. What is only read may.
- *   No entry uses the heap. docs/MEASURED.md says how much stack each one took.
+ *   No entry uses the heap; the library needs memcpy and memset alone. docs/MEASURED.md says how much stack each entry took.
  */
 #ifndef RUKESHOMAJI_H
 #define RUKESHOMAJI_H
@@ -23,14 +25,14 @@
 extern "C" {
 #endif
 
-/* Three things, by numbers that are never used again for another state; the functions at the end of this page say those of the library
- * that is linked. Version of the library: 1,000,000 times the major number, 1,000 times the minor one, and the last. Edition of the code:
- * Taiwan's of 2005. Source: the state of the rules, 1 being document 01 by itself; a change of what any call answers takes the next. */
+/* Three numbers name what you link; the functions at the end of this page give those of the library. Version: 1,000,000 times the major
+ * number, 1,000 times the minor one, and the last. Edition: the year of the code. Source: the state of the rules, which goes up by one
+ * whenever any call answers differently. */
 #define RUKESHOMAJI_VERSION 1000000
 #define RUKESHOMAJI_EDITION 2005
 #define RUKESHOMAJI_SOURCE 1
 
-/* the most levels of a job, layers of a soil log and bytes of a sheet, and as many bytes as any listing may have */
+/* the most levels of a job, layers of a soil log and bytes of a sheet, and the most bytes that a listing can have */
 #define RUKESHOMAJI_MOST_LEVELS 50
 #define RUKESHOMAJI_MOST_LAYERS 40
 #define RUKESHOMAJI_MOST_BYTES 4096
@@ -38,7 +40,7 @@ extern "C" {
 
 /* Refusals: what an entry returns where it does not return 0; beside each its place. Of 1 to 15 the lowest number that applies is returned,
  * at its lowest place, but 14 at a layer of thickness 0 where there is one; for a sheet 17, then 16, come before all others. */
-#define RUKESHOMAJI_REFUSED_LEVELS 1      /* no level, or over 50: 0 */
+#define RUKESHOMAJI_REFUSED_LEVELS 1      /* no level, or over 50, judged on the weights: 0 */
 #define RUKESHOMAJI_REFUSED_LENGTHS 2     /* lists of unequal length, or a result buffer shorter than them: 0 */
 #define RUKESHOMAJI_REFUSED_WEIGHT 3      /* weight out of range: level, the lowest is 1 */
 #define RUKESHOMAJI_REFUSED_HEIGHT 4      /* height out of range, or not above the one below: level */

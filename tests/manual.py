@@ -226,14 +226,14 @@ def value(formula, **names):
     return eval(exact, {'Fraction': Fraction}, names)       # of our own page
 
 
-def in_pieces(rule, number, **names):
-    """The value of 'X up to a; Y up to b; Z above' at a number."""
+def in_pieces(rule, **names):
+    """The value of 'X if a; Y if b; else Z'."""
     first, second, last = rule.split('; ')
     for piece in (first, second):
-        formula, limit = piece.split(' up to ')
-        if number <= value(limit, **names):
+        formula, test = piece.split(' if ')
+        if value(test, **names):
             return value(formula, **names)
-    return value(last.removesuffix(' above'), **names)
+    return value(last.removeprefix('else '), **names)
 
 
 def written_rules(rule):
@@ -266,8 +266,8 @@ def written_rules(rule):
         yield f'factor at {T}', y0 + (y1 - y0) * (at - x0) / (x1 - x0), response.factor(capacity, root, Fraction(1000), T)
     p = rule['p'].split(': ')[1]
     for q in range(1_000, 1_300_000, 9_999):
-        yield f'm at {q}', ceil(in_pieces(rule['m'], Fraction(q, 10**6), q=Fraction(q, 10**6)) * 10**6), response.modified_ratio(q)
-        yield f'p at {q}', ceil(in_pieces(p, q, Sa=q, F=1_234_567)), response.p_of_star(q, 1_234_567)
+        yield f'm at {q}', ceil(in_pieces(rule['m'], q=Fraction(q, 10**6)) * 10**6), response.modified_ratio(q)
+        yield f'p at {q}', ceil(in_pieces(p, Sa=q, F=1_234_567)), response.p_of_star(q, 1_234_567)
     frame, W = limits.Frame(2, 0, R, 125, 151), 9_001
     names = {'I': Fraction(frame.I, 100), 'alpha_y': Fraction(frame.alphay, 100), 'W': W * 1000, 'm': Fraction(292_321, 10**6)}
     yield 'V, V_M', ceil(value(rule['V, V_M'], **names)), shears.V(frame, 292_321, W)

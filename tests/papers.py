@@ -30,7 +30,7 @@ STANDS_FOR_ANY = re.compile(r'^lib\.rt$|(^|/)(C|CRATE|NAME)(/|$)')
 # words in backticks that are no names of the repository
 PLAIN = {
     'the language and its kit': 'requires ensures use do infixl lib Prim mathlib native borrow mir io libc os rt',
-    'other programs, and functions of C': 'cc read write open close',
+    'other programs, and functions of C': 'cc nm read write open close memcpy memset',
     'the sheet and the listing': 'site frame level base refused',
     'what the last line of the gate says': 'N passed, 0 failed',
 }
