@@ -108,13 +108,13 @@ def bad_lines(worked):
     lines = worked.splitlines(keepends=True)
     yield 'lines that end in CR LF', worked.replace(b'\n', b'\r\n'), 'a CR stands at its end'
     yield 'a byte order mark', b'\xef\xbb\xbf' + worked, 'a byte order mark stands before it'
-    yield 'blanks for tabs', worked.replace(b'\t', b' '), 'a blank stands in it, where one tab parts two fields'
+    yield 'blanks for tabs', worked.replace(b'\t', b' '), 'a blank stands in it: fields are separated by one tab'
     yield 'no LF at the end', worked[:-1], 'no LF ends it'
     yield 'no LF after a NUL', worked + b'\0', 'no LF ends it'
     yield 'a byte order mark, blanks and CR', b'\xef\xbb\xbf' + worked.replace(b'\t', b' ').replace(b'\n', b'\r\n'), \
-        'a byte order mark stands before it, a CR stands at its end, a blank stands in it, where one tab parts two fields'
+        'a byte order mark stands before it, a CR stands at its end, a blank stands in it: fields are separated by one tab'
     yield 'a blank at the end of the last line, and no LF', worked[:-1] + b' ', \
-        'a blank stands in it, where one tab parts two fields, no LF ends it'
+        'a blank stands in it: fields are separated by one tab, no LF ends it'
     yield 'a site line alone', lines[0], 'the sheet ends before it'
     yield 'another word', worked.replace(b'frame', b'Frame'), ''
     yield 'an empty line', b''.join([*lines[:3], b'\n', *lines[3:]]), ''
