@@ -117,7 +117,7 @@ def bad_lines(worked):
         'a blank stands in it: fields are separated by one tab, no LF ends it'
     yield 'a site line alone', lines[0], 'the sheet ends before it'
     yield 'another word', worked.replace(b'frame', b'Frame'), ''
-    yield 'an empty line', b''.join([*lines[:3], b'\n', *lines[3:]]), ''
+    yield 'an empty line', b''.join([*lines[:3], b'\n', *lines[3:]]), 'it is empty'
 
 
 def refused(worked):
