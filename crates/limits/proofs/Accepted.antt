@@ -1,4 +1,4 @@
--- What is accepted is allowed: a judged site and frame are within the ranges that the calculation goes by.
+-- What is accepted is allowed: a judged ground and frame are within the ranges that the calculation goes by.
 -- Assumes nothing.
 use mathlib.Core.Path.{_≡_, refl, sym, ap, subst, _∙_}
 use mathlib.Core.Bool.{Bool, true, false, _&&_, _||_}
@@ -14,18 +14,24 @@ use Rattle.whole.specs.Choice.{pick}
 use Rattle.limits.specs.declared.frame.Frame.{Frame}
 use Rattle.limits.specs.declared.frame.FrameValues.{FrameValues}
 use Rattle.limits.specs.declared.kind.Kind.{Kind}
+use Rattle.limits.specs.declared.ground.Ground.{Ground}
+use Rattle.limits.specs.declared.ground.Ground.the-variants.{Site as OnSite, Basin as InBasin}
+use Rattle.limits.specs.declared.ground.GroundValues.{GroundValues}
+use Rattle.limits.specs.declared.ground.GroundValues.the-variants.{Site as SiteOf, Basin}
 use Rattle.limits.specs.declared.judging.Given.{Given}
 use Rattle.limits.specs.declared.class.Class.{Class}
 use Rattle.limits.specs.declared.site.Site.{Site}
 use Rattle.limits.specs.declared.site.SiteValues.{SiteValues}
-use Rattle.limits.specs.Allowed.{AllowedSite, AllowedFrame, AllowedLevels, AllowedGiven}
+use Rattle.limits.specs.Allowed.{AllowedSite, AllowedGround, AllowedFrame, AllowedLevels, AllowedGiven}
 use Rattle.limits.specs.Frame.{judgedKind, judgedPeriod, frameOf, judgedFrame}
+use Rattle.limits.specs.Ground.{judgedGround}
 use Rattle.limits.specs.Judging.{judgedJob}
 use Rattle.limits.specs.Levels.{counted, paired, roomy, judgedWeight, weighed, judgedHeight, raised, judgedLevels, topHeight}
 use Rattle.limits.specs.Outcome.{Outcome, accepted, refused, Done, require, _>>=_, _>>_}
 use Rattle.limits.specs.Ranges.{inRange, among, within, listed}
 use Rattle.limits.proofs.Passed.{differ, one-value, then-passed, bind-passed, require-passed, within-passed}
 use Rattle.limits.specs.Site.{judgedClass, siteOf, judgedMapped, judgedNearFault, judgedSite}
+use Rattle.limits.specs.Zone.{judgedZone}
 
 -- ---- ranges
 both : (a b : Bool) → (a && b) ≡ true → (a ≡ true) × (b ≡ true)
@@ -76,6 +82,17 @@ site-allowed v s e =
       na = within-passed 100 150 (v .na) 6 1 (n1 .0);
       nv = within-passed 100 200 (v .nv) 6 2 (n1 .1);
     })
+
+-- ---- the ground
+pub ground-allowed : (v : GroundValues) (g : Ground) → judgedGround v ≡ accepted g → AllowedGround g
+ground-allowed (SiteOf v) g e =
+    let site = bind-passed (judgedSite v) (λ s. accepted (OnSite s)) e in
+    let same : OnSite (site .0) ≡ g = one-value (site .2) in
+    subst AllowedGround same (site-allowed v (site .0) (site .1))
+ground-allowed (Basin n) g e =
+    let zone = bind-passed (judgedZone n) (λ z. accepted (InBasin z)) e in
+    let same : InBasin (zone .0) ≡ g = one-value (zone .2) in
+    subst AllowedGround same tt
 
 -- ---- the frame
 pub frame-allowed : (v : FrameValues) (f : Frame) → judgedFrame v ≡ accepted f → AllowedFrame f
@@ -155,18 +172,18 @@ top-allowed ws hs l =
     omega (arith, top-last hs n, t)
 
 -- ---- the whole job
-pub given-allowed : (s : SiteValues) (f : FrameValues) (ws hs : List ℕ) (room : ℕ) (g : Given) → judgedJob s f ws hs room ≡ accepted g
+pub given-allowed : (s : GroundValues) (f : FrameValues) (ws hs : List ℕ) (room : ℕ) (g : Given) → judgedJob s f ws hs room ≡ accepted g
     → AllowedGiven g ws hs × (length ws ≤ room)
 unfolding judgedJob
 given-allowed s f ws hs room g e =
     let levels = then-passed (judgedLevels ws hs room) _ e in
-    let site = bind-passed (judgedSite s) _ (levels .1) in
-    let frame = bind-passed (judgedFrame f) (λ y. accepted (record { site = site .0; frame = y })) (site .2) in
-    let same : record { site = site .0; frame = frame .0 } ≡ g = one-value (frame .2) in
+    let ground = bind-passed (judgedGround s) _ (levels .1) in
+    let frame = bind-passed (judgedFrame f) (λ y. accepted (record { ground = ground .0; frame = y })) (ground .2) in
+    let same : record { ground = ground .0; frame = frame .0 } ≡ g = one-value (frame .2) in
     let l = levels-allowed ws hs room (levels .0) in (
       subst (λ (x : Given). AllowedGiven x ws hs) same
           (record {
-            site = site-allowed s (site .0) (site .1);
+            ground = ground-allowed s (ground .0) (ground .1);
             frame = frame-allowed f (frame .0) (frame .1);
             levels = l .0;
             top = top-allowed ws hs (l .0);

@@ -3,58 +3,50 @@
 -- Assumes nothing.
 use mathlib.Core.Path.{_≡_, subst}
 use mathlib.Core.List.{List}
+use mathlib.Core.Logic.{⊎-elim}
 use Prim.Native.Nat.{ℕ, _+_, _≤_}
 use native.Mathlib.Omega.{arith}
 use Rattle.limits.specs.declared.frame.FrameValues.{FrameValues}
 use Rattle.limits.specs.declared.judging.Given.{Given}
+use Rattle.limits.specs.declared.ground.GroundValues.{GroundValues}
+use Rattle.limits.specs.declared.ground.GroundValues.the-variants.{Site, Basin}
 use Rattle.limits.specs.declared.site.SiteValues.{SiteValues}
-use Rattle.limits.specs.Applies.{Applies, of-levels, of-site, of-frame}
+use Rattle.limits.specs.Applies.{Applies, of-levels, of-ground, of-frame}
 use Rattle.limits.specs.Frame.{judgedFrame}
+use Rattle.limits.specs.Ground.{judgedGround}
 use Rattle.limits.specs.Judging.{judgedJob}
 use Rattle.limits.specs.Levels.{judgedLevels}
 use Rattle.limits.specs.Order.{InOrder, NoLater}
 use Rattle.limits.specs.Outcome.{accepted, refused}
-use Rattle.limits.specs.Site.{judgedSite}
 use Rattle.limits.proofs.Precedence.{Stops, up-to-yields, stopped-number, stopped-place, first-stops, later-stops, bound-stops, value-stops}
 use Rattle.limits.proofs.Ascending.{lowest-first}
 use Rattle.limits.proofs.InOrder.{in-order}
 use Rattle.limits.proofs.LevelsStage.{levels-up-to, levels-stop}
-use Rattle.limits.proofs.SiteStage.{site-up-to, site-stops, site-later}
+use Rattle.limits.proofs.GroundStage.{ground-up-to, ground-stops, ground-later}
 use Rattle.limits.proofs.FrameStage.{frame-stops, frame-later}
-use Rattle.limits.proofs.Places.{numbered, named, not-above}
+use Rattle.limits.proofs.Places.{numbered, numbered-basin, named, not-above}
 use Rattle.limits.proofs.Refusing.{refused-applies}
 
-module _ (s : SiteValues) (f : FrameValues) (ws hs : List ℕ) (room : ℕ) where
+module _ (s : GroundValues) (f : FrameValues) (ws hs : List ℕ) (room : ℕ) where
   -- where a refusal applies, the job is given it or one that comes no later: the stages before its own have numbers that are judged
   -- before it
   stops : (n q : ℕ) → Applies s f ws hs room n q → Stops n q (judgedJob s f ws hs room)
   unfolding judgedJob
   stops n q (of-levels a) = first-stops n q (judgedLevels ws hs room) _ (levels-stop ws hs room n q a)
-  stops n q (of-site a) =
+  stops n q (of-ground a) =
       later-stops n q (judgedLevels ws hs room) _
-      (up-to-yields 4 n q (judgedLevels ws hs room) (levels-up-to ws hs room) (site-later s n q a))
-      (λ _. bound-stops n q (judgedSite s) _ (site-stops s n q a))
+      (up-to-yields 4 n q (judgedLevels ws hs room) (levels-up-to ws hs room) (ground-later s n q a))
+      (λ _. bound-stops n q (judgedGround s) _ (ground-stops s n q a))
   stops n q (of-frame a) =
       let after = frame-later f n q a in
       later-stops n q (judgedLevels ws hs room) _
       (up-to-yields 4 n q (judgedLevels ws hs room) (levels-up-to ws hs room) (omega (arith, after)))
-      (λ _. value-stops n q (judgedSite s) _ (up-to-yields 7 n q (judgedSite s) (site-up-to s) after)
-      (λ site. bound-stops n q (judgedFrame f) _ (frame-stops f n q a)))
-
-  -- every number that applies stands in the order
-  pub applies-in-order : (n p : ℕ) → Applies s f ws hs room n p → InOrder n
-  applies-in-order n p a = in-order n (let h = numbered a in omega arith)
+      (λ _. value-stops n q (judgedGround s) _ (up-to-yields 7 n q (judgedGround s) (ground-up-to s) after)
+      (λ ground. bound-stops n q (judgedFrame f) _ (frame-stops f n q a)))
 
   -- the first number that applies is given
   pub first-number : (n p m q : ℕ) → judgedJob s f ws hs room ≡ refused n p → Applies s f ws hs room m q → NoLater n m
   first-number n p m q e a = stopped-number m q n p (subst (Stops m q) e (stops m q a))
-
-  -- which is the lowest
-  pub lowest-number : (n p m q : ℕ) → judgedJob s f ws hs room ≡ refused n p → Applies s f ws hs room m q → n ≤ m
-  lowest-number n p m q e a =
-      let given = numbered (refused-applies s f ws hs room n p e) in
-      let other = numbered a in
-      lowest-first n m (omega arith) (omega arith) (first-number n p m q e a)
 
   -- at its lowest place
   pub lowest-place : (n p q : ℕ) → judgedJob s f ws hs room ≡ refused n p → Applies s f ws hs room n q → p ≤ q
@@ -65,3 +57,18 @@ module _ (s : SiteValues) (f : FrameValues) (ws hs : List ℕ) (room : ℕ) wher
   -- nothing is accepted to which a refusal applies
   pub accepted-none : (g : Given) (n p : ℕ) → judgedJob s f ws hs room ≡ accepted g → Applies s f ws hs room n p → ⊥
   accepted-none g n p e a = subst (Stops n p) e (stops n p a)
+
+-- every number that applies stands in the order
+pub applies-in-order : (s : GroundValues) (f : FrameValues) (ws hs : List ℕ) (room n p : ℕ) → Applies s f ws hs room n p → InOrder n
+applies-in-order (Site s) f ws hs room n p a = in-order n (let h = numbered a in omega arith)
+applies-in-order (Basin z) f ws hs room n p a =
+    ⊎-elim (λ h. in-order n (omega arith)) (λ h. ⊎-elim (λ e. in-order n (omega arith)) (λ k. in-order n (omega arith)) h)
+    (numbered-basin a)
+
+-- on a site the first number is the lowest; in the Basin it is 1 to 4, 18, 8 to 12 in this order (`zone-between`)
+pub lowest-number : (s : SiteValues) (f : FrameValues) (ws hs : List ℕ) (room n p m q : ℕ) → judgedJob (Site s) f ws hs room ≡ refused n p
+    → Applies (Site s) f ws hs room m q → n ≤ m
+lowest-number s f ws hs room n p m q e a =
+    let given = numbered (refused-applies (Site s) f ws hs room n p e) in
+    let other = numbered a in
+    lowest-first n m (omega arith) (omega arith) (first-number (Site s) f ws hs room n p m q e a)

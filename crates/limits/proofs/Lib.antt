@@ -16,6 +16,7 @@ pub mod NotAllowed
 pub mod EachLevel
 pub mod LevelsStage
 pub mod SiteStage
+pub mod GroundStage
 pub mod FrameStage
 pub mod Foremost
 pub mod Room

@@ -1,4 +1,4 @@
--- The refusals of a job are 1 to 12; which of them name a place: 3 to 6 do, the others have place 0.
+-- The refusals of a job are 1 to 12, and 18 in place of 5 to 7; which of them name a place: 3 to 6 do, the others have place 0.
 -- Assumes nothing.
 use mathlib.Core.Path.{_≡_, refl}
 use mathlib.Core.List.{List}
@@ -6,8 +6,10 @@ use mathlib.Core.Logic.{_⊎_, inl, inr, ⊎-elim}
 use Prim.Native.Nat.{ℕ, zero, suc, _+_, _≤_, _<_}
 use native.Mathlib.Omega.{arith}
 use Rattle.limits.specs.declared.frame.FrameValues.{FrameValues}
+use Rattle.limits.specs.declared.ground.GroundValues.{GroundValues}
+use Rattle.limits.specs.declared.ground.GroundValues.the-variants.{Site, Basin}
 use Rattle.limits.specs.declared.site.SiteValues.{SiteValues}
-use Rattle.limits.specs.Applies.{count, lists, buffer, weight, height, rising, LevelsApply, of-count, of-lengths, of-weights, of-heights, SiteApplies, ss-design, s1-design, ss-mce, s1-mce, na, nv, class, FrameApplies, r, i, alpha, kind, period, Applies, of-levels, of-site, of-frame}
+use Rattle.limits.specs.Applies.{count, lists, buffer, weight, height, rising, LevelsApply, of-count, of-lengths, of-weights, of-heights, SiteApplies, ss-design, s1-design, ss-mce, s1-mce, na, nv, class, ZoneApplies, zone, GroundApplies, FrameApplies, r, i, alpha, kind, period, Applies, of-levels, of-ground, of-frame}
 
 abbrev pub Named : ℕ → ℕ → Type 0
 Named n p = ((3 ≤ n) × (n ≤ 6) × (1 ≤ p)) ⊎ (((n < 3) ⊎ (6 < n)) × (p ≡ 0))
@@ -29,6 +31,10 @@ named-site (na o) = inl (omega arith)
 named-site (nv o) = inl (omega arith)
 named-site (class o) = inr (inr (omega arith), refl)
 
+named-ground : (s : GroundValues) {n p : ℕ} → GroundApplies s n p → Named n p
+named-ground (Site s) a = named-site a
+named-ground (Basin z) (zone o) = inr (inr (omega arith), refl)
+
 named-frame : {f : FrameValues} {n p : ℕ} → FrameApplies f n p → Named n p
 named-frame (r o) = inr (inr (omega arith), refl)
 named-frame (i o) = inr (inr (omega arith), refl)
@@ -36,30 +42,47 @@ named-frame (alpha o) = inr (inr (omega arith), refl)
 named-frame (kind o) = inr (inr (omega arith), refl)
 named-frame (period z o) = inr (inr (omega arith), refl)
 
-pub named : {s : SiteValues} {f : FrameValues} {ws hs : List ℕ} {room n p : ℕ} → Applies s f ws hs room n p → Named n p
+pub named : {s : GroundValues} {f : FrameValues} {ws hs : List ℕ} {room n p : ℕ} → Applies s f ws hs room n p → Named n p
 named (of-levels a) = named-levels a
-named (of-site a) = named-site a
+named {s = s} (of-ground a) = named-ground s a
 named (of-frame a) = named-frame a
 
-pub numbered : {s : SiteValues} {f : FrameValues} {ws hs : List ℕ} {room n p : ℕ} → Applies s f ws hs room n p → (1 ≤ n) × (n ≤ 12)
-numbered (of-levels (of-count (count o))) = omega arith
-numbered (of-levels (of-lengths (lists o))) = omega arith
-numbered (of-levels (of-lengths (buffer o))) = omega arith
-numbered (of-levels (of-weights (weight x l o))) = omega arith
-numbered (of-levels (of-heights (height x l o))) = omega arith
-numbered (of-levels (of-heights (rising x l o))) = omega arith
-numbered (of-site (ss-design o)) = omega arith
-numbered (of-site (s1-design o)) = omega arith
-numbered (of-site (ss-mce o)) = omega arith
-numbered (of-site (s1-mce o)) = omega arith
-numbered (of-site (na o)) = omega arith
-numbered (of-site (nv o)) = omega arith
-numbered (of-site (class o)) = omega arith
-numbered (of-frame (r o)) = omega arith
-numbered (of-frame (i o)) = omega arith
-numbered (of-frame (alpha o)) = omega arith
-numbered (of-frame (kind o)) = omega arith
-numbered (of-frame (period z o)) = omega arith
+numbered-levels : {ws hs : List ℕ} {room n p : ℕ} → LevelsApply ws hs room n p → (1 ≤ n) × (n ≤ 4)
+numbered-levels (of-count (count o)) = omega arith
+numbered-levels (of-lengths (lists o)) = omega arith
+numbered-levels (of-lengths (buffer o)) = omega arith
+numbered-levels (of-weights (weight x l o)) = omega arith
+numbered-levels (of-heights (height x l o)) = omega arith
+numbered-levels (of-heights (rising x l o)) = omega arith
+
+numbered-site : {s : SiteValues} {n p : ℕ} → SiteApplies s n p → (5 ≤ n) × (n ≤ 7)
+numbered-site (ss-design o) = omega arith
+numbered-site (s1-design o) = omega arith
+numbered-site (ss-mce o) = omega arith
+numbered-site (s1-mce o) = omega arith
+numbered-site (na o) = omega arith
+numbered-site (nv o) = omega arith
+numbered-site (class o) = omega arith
+
+numbered-frame : {f : FrameValues} {n p : ℕ} → FrameApplies f n p → (8 ≤ n) × (n ≤ 12)
+numbered-frame (r o) = omega arith
+numbered-frame (i o) = omega arith
+numbered-frame (alpha o) = omega arith
+numbered-frame (kind o) = omega arith
+numbered-frame (period z o) = omega arith
+
+-- of a job on a site
+pub numbered : {s : SiteValues} {f : FrameValues} {ws hs : List ℕ} {room n p : ℕ} → Applies (Site s) f ws hs room n p → (1 ≤ n) × (n ≤ 12)
+numbered (of-levels a) = let h = numbered-levels a in omega arith
+numbered (of-ground a) = let h = numbered-site a in omega arith
+numbered (of-frame a) = let h = numbered-frame a in omega arith
+
+-- of a job in the Basin
+pub numbered-basin : {z : ℕ} {f : FrameValues} {ws hs : List ℕ} {room n p : ℕ} → Applies (Basin z) f ws hs room n p
+    → ((1 ≤ n) × (n ≤ 4)) ⊎ ((n ≡ 18) ⊎ ((8 ≤ n) × (n ≤ 12)))
+numbered-basin (of-levels a) = inl (numbered-levels a)
+numbered-basin (of-ground (zone o)) = inr (inl refl)
+numbered-basin (of-frame a) = inr (inr (numbered-frame a))
 
 -- where a number has place 0 it has no other
 pub not-above : (n p q : ℕ) → Named n p → Named n q → ((k : ℕ) → q ≡ 1 + k → p ≤ 1 + k) → p ≤ q

@@ -12,15 +12,19 @@ use borrow.Author.Tests.{leb-false, ltb-false, eqb-false}
 use Rattle.whole.proofs.Choice.{by-test}
 use Rattle.limits.specs.declared.frame.FrameValues.{FrameValues}
 use Rattle.limits.specs.declared.judging.Given.{Given}
+use Rattle.limits.specs.declared.ground.GroundValues.{GroundValues}
+use Rattle.limits.specs.declared.ground.GroundValues.the-variants.{Site, Basin}
 use Rattle.limits.specs.declared.site.SiteValues.{SiteValues}
 use Rattle.whole.specs.Cells.{below}
-use Rattle.limits.specs.Applies.{OutOf, NotListed, count, lists, buffer, weight, height, rising, LevelsApply, of-count, of-lengths, of-weights, of-heights, SiteApplies, ss-design, s1-design, ss-mce, s1-mce, na, nv, class, FrameApplies, r, i, alpha, kind, period, Applies, of-levels, of-site, of-frame}
+use Rattle.limits.specs.Applies.{OutOf, NotListed, count, lists, buffer, weight, height, rising, LevelsApply, of-count, of-lengths, of-weights, of-heights, SiteApplies, ss-design, s1-design, ss-mce, s1-mce, na, nv, class, ZoneApplies, zone, GroundApplies, FrameApplies, r, i, alpha, kind, period, Applies, of-levels, of-ground, of-frame}
 use Rattle.limits.specs.Frame.{judgedKind, judgedPeriod, judgedFrame}
+use Rattle.limits.specs.Ground.{judgedGround}
 use Rattle.limits.specs.Judging.{judgedJob}
 use Rattle.limits.specs.Levels.{counted, paired, roomy, judgedWeight, weighed, judgedHeight, raised, judgedLevels}
 use Rattle.limits.specs.Outcome.{accepted, refused, require, _>>=_, _>>_}
 use Rattle.limits.specs.Ranges.{among, within, listed}
 use Rattle.limits.specs.Site.{judgedClass, judgedMapped, judgedNearFault, judgedSite}
+use Rattle.limits.specs.Zone.{judgedZone}
 use Rattle.limits.proofs.Passed.{differ}
 use Rattle.limits.proofs.GivenApplies.{Told, then-told, bind-told, require-told, within-told, given-applies, accepted-unless, told-as}
 
@@ -103,6 +107,21 @@ module _ (s : SiteValues) where
       (λ e₃. class (eqb-false _ _ e₁, (eqb-false _ _ e₂, (eqb-false _ _ e₃, tt)))))))
       (λ _. tt)))
 
+-- ---- the zone, and the ground
+pub zone-told : (z : ℕ) → Told (ZoneApplies z) (judgedZone z)
+unfolding judgedZone
+zone-told z =
+    let Z = Told (ZoneApplies z) in
+    by-test Z (eqb z 1) _ _ (λ _. tt)
+    (λ e₁. by-test Z (eqb z 2) _ _ (λ _. tt)
+    (λ e₂. by-test Z (eqb z 3) _ _ (λ _. tt)
+    (λ e₃. by-test Z (eqb z 4) _ _ (λ _. tt)
+    (λ e₄. zone (eqb-false _ _ e₁, (eqb-false _ _ e₂, (eqb-false _ _ e₃, (eqb-false _ _ e₄, tt))))))))
+
+pub ground-told : (s : GroundValues) → Told (GroundApplies s) (judgedGround s)
+ground-told (Site s) = bind-told (SiteApplies s) (judgedSite s) _ (site-told s) (λ _. tt)
+ground-told (Basin z) = bind-told (ZoneApplies z) (judgedZone z) _ (zone-told z) (λ _. tt)
+
 -- ---- the frame
 module _ (f : FrameValues) where
   abbrev F : ℕ → ℕ → Type 0
@@ -129,7 +148,7 @@ module _ (f : FrameValues) where
       (λ k. then-told F (judgedPeriod (f .calculated)) _ period-told (λ _. tt)))))
 
 -- ---- the job
-module _ (s : SiteValues) (f : FrameValues) (ws hs : List ℕ) (room : ℕ) where
+module _ (s : GroundValues) (f : FrameValues) (ws hs : List ℕ) (room : ℕ) where
   abbrev J : ℕ → ℕ → Type 0
   J = Applies s f ws hs room
 
@@ -137,8 +156,8 @@ module _ (s : SiteValues) (f : FrameValues) (ws hs : List ℕ) (room : ℕ) wher
   unfolding judgedJob
   job-told =
       then-told J (judgedLevels ws hs room) _ (told-as (LevelsApply ws hs room) J (λ n p. of-levels) (judgedLevels ws hs room) (levels-told ws hs room))
-      (λ _. bind-told J (judgedSite s) _ (told-as (SiteApplies s) J (λ n p. of-site) (judgedSite s) (site-told s))
-      (λ site. bind-told J (judgedFrame f) _ (told-as (FrameApplies f) J (λ n p. of-frame) (judgedFrame f) (frame-told f)) (λ frame. tt)))
+      (λ _. bind-told J (judgedGround s) _ (told-as (GroundApplies s) J (λ n p. of-ground) (judgedGround s) (ground-told s))
+      (λ ground. bind-told J (judgedFrame f) _ (told-as (FrameApplies f) J (λ n p. of-frame) (judgedFrame f) (frame-told f)) (λ frame. tt)))
 
   -- a refusal that is given applies
   pub refused-applies : (n p : ℕ) → judgedJob s f ws hs room ≡ refused n p → Applies s f ws hs room n p

@@ -6,11 +6,11 @@ use Prim.Native.Nat.{ℕ, _≤_}
 use lib.ListN.{length}
 use borrow.Author.Tests.{le-leb}
 use Rattle.limits.specs.declared.frame.FrameValues.{FrameValues}
-use Rattle.limits.specs.declared.site.SiteValues.{SiteValues}
+use Rattle.limits.specs.declared.ground.GroundValues.{GroundValues}
 use Rattle.limits.specs.Judging.{judgedJob}
 use Rattle.limits.specs.Levels.{judgedLevels}
 
-pub room-enough : (s : SiteValues) (f : FrameValues) (ws hs : List ℕ) (room room′ : ℕ) → length ws ≤ room → length ws ≤ room′
+pub room-enough : (s : GroundValues) (f : FrameValues) (ws hs : List ℕ) (room room′ : ℕ) → length ws ≤ room → length ws ≤ room′
     → judgedJob s f ws hs room ≡ judgedJob s f ws hs room′
 unfolding judgedJob judgedLevels
 room-enough s f ws hs room room′ h h′ = rw (le-leb _ _ h, le-leb _ _ h′)

@@ -7,6 +7,9 @@ use Rattle.limits.specs.declared.frame.FrameAnswer.the-variants.{Taken a
 use Rattle.limits.specs.declared.kind.Kind.{Kind}
 use Rattle.limits.specs.declared.kind.KindAnswer.{KindAnswer}
 use Rattle.limits.specs.declared.kind.KindAnswer.the-variants.{Taken as TakenKind, Refused as RefusedKind}
+use Rattle.limits.specs.declared.ground.Ground.{Ground}
+use Rattle.limits.specs.declared.ground.GroundAnswer.{GroundAnswer}
+use Rattle.limits.specs.declared.ground.GroundAnswer.the-variants.{Taken as TakenGround, Refused as RefusedGround}
 use Rattle.limits.specs.declared.judging.Given.{Given}
 use Rattle.limits.specs.declared.judging.GivenAnswer.{GivenAnswer}
 use Rattle.limits.specs.declared.judging.GivenAnswer.the-variants.{Taken as TakenGiven, Refused as RefusedGiven}
@@ -22,11 +25,16 @@ use Rattle.limits.specs.declared.class.ClassAnswer.the-variants.{Taken a
 use Rattle.limits.specs.declared.site.Site.{Site}
 use Rattle.limits.specs.declared.site.SiteAnswer.{SiteAnswer}
 use Rattle.limits.specs.declared.site.SiteAnswer.the-variants.{Taken as TakenSite, Refused as RefusedSite}
+use Rattle.limits.specs.declared.zone.Zone.{Zone}
+use Rattle.limits.specs.declared.zone.ZoneAnswer.{ZoneAnswer}
+use Rattle.limits.specs.declared.zone.ZoneAnswer.the-variants.{Taken as TakenZone, Refused as RefusedZone}
 use Rattle.limits.specs.Frame.{kindOutcome, frameOutcome}
+use Rattle.limits.specs.Ground.{groundOutcome}
 use Rattle.limits.specs.Judging.{givenOutcome}
 use Rattle.limits.specs.Levels.{levelOutcome}
 use Rattle.limits.specs.Outcome.{Outcome, accepted, refused, Done, verdictOutcome}
 use Rattle.limits.specs.Site.{classOutcome, siteOutcome}
+use Rattle.limits.specs.Zone.{zoneOutcome}
 
 -- an answer read back from what it says: `taken` of what is accepted, `stopped` of a refusal
 abbrev pub back : {A B : Type 0} → (B → A) → (Refusal → A) → Outcome B → A
@@ -47,6 +55,12 @@ class-unique = one-answer classOutcome TakenClass RefusedClass (λ x. elim x [ T
 
 pub site-unique : {a b : SiteAnswer} {o : Outcome Site} → siteOutcome a ≡ o → siteOutcome b ≡ o → a ≡ b
 site-unique = one-answer siteOutcome TakenSite RefusedSite (λ x. elim x [ TakenSite s ↦ refl | RefusedSite r ↦ refl ])
+
+pub zone-unique : {a b : ZoneAnswer} {o : Outcome Zone} → zoneOutcome a ≡ o → zoneOutcome b ≡ o → a ≡ b
+zone-unique = one-answer zoneOutcome TakenZone RefusedZone (λ x. elim x [ TakenZone z ↦ refl | RefusedZone r ↦ refl ])
+
+pub ground-unique : {a b : GroundAnswer} {o : Outcome Ground} → groundOutcome a ≡ o → groundOutcome b ≡ o → a ≡ b
+ground-unique = one-answer groundOutcome TakenGround RefusedGround (λ x. elim x [ TakenGround g ↦ refl | RefusedGround r ↦ refl ])
 
 pub kind-unique : {a b : KindAnswer} {o : Outcome Kind} → kindOutcome a ≡ o → kindOutcome b ≡ o → a ≡ b
 kind-unique = one-answer kindOutcome TakenKind RefusedKind (λ x. elim x [ TakenKind k ↦ refl | RefusedKind r ↦ refl ])

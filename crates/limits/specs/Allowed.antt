@@ -1,14 +1,17 @@
 -- What is known of a job that was judged: the ranges of 'Numbers and their ranges' that the calculation goes by.
 --   AllowedSite s         mapped values and near-fault factors in 0.01
+--   AllowedGround g       of a site these; of a zone nothing is left to say
 --   AllowedFrame f        R, I, alpha-y in 0.01, the calculated period in ms
 --   AllowedLevels ws hs   1 to 50 levels, weights in kN, heights in dm that rise strictly
---   AllowedGiven g ws hs  a judged site and frame with such levels, and the top height
+--   AllowedGiven g ws hs  a judged ground and frame with such levels, and the top height
 -- That what is accepted is so: proofs/Accepted.antt.
 use mathlib.Core.Path.{_≡_}
 use mathlib.Core.List.{List}
 use Prim.Native.Nat.{ℕ, _+_, _≤_, _<_}
 use lib.ListN.{length, getD}
 use Rattle.limits.specs.declared.frame.Frame.{Frame}
+use Rattle.limits.specs.declared.ground.Ground.{Ground}
+use Rattle.limits.specs.declared.ground.Ground.the-variants.{Site as OnSite, Basin as InBasin}
 use Rattle.limits.specs.declared.judging.Given.{Given}
 use Rattle.limits.specs.declared.site.Site.{Site}
 use Rattle.limits.specs.Levels.{topHeight}
@@ -20,6 +23,10 @@ pub record AllowedSite (s : Site) : Type 0 where
   pub s1m : (40 ≤ s .s1m) × (s .s1m ≤ 55)
   pub na : (100 ≤ s .na) × (s .na ≤ 150)
   pub nv : (100 ≤ s .nv) × (s .nv ≤ 200)
+
+abbrev pub AllowedGround : Ground → Type 0
+AllowedGround (OnSite s) = AllowedSite s
+AllowedGround (InBasin z) = Unit {0}
 
 pub record AllowedFrame (f : Frame) : Type 0 where
   pub r : (100 ≤ f .r) × (f .r ≤ 600)
@@ -36,7 +43,7 @@ pub record AllowedLevels (ws hs : List ℕ) : Type 0 where
   pub rising : (x : ℕ) → x + 1 < length hs → getD hs x 0 < getD hs (x + 1) 0
 
 pub record AllowedGiven (g : Given) (ws hs : List ℕ) : Type 0 where
-  pub site : AllowedSite (g .site)
+  pub ground : AllowedGround (g .ground)
   pub frame : AllowedFrame (g .frame)
   pub levels : AllowedLevels ws hs
   pub top : (1 ≤ topHeight hs) × (topHeight hs ≤ 2_000)

@@ -1,4 +1,4 @@
--- When each refusal of a job applies: 'What comes back when data is bad', 1 to 12, part by part. In each part refusal n applies at place p.
+-- When each refusal of a job applies: 'What comes back when data is bad', 1 to 12 and 18, part by part. In each part refusal n applies at place p.
 -- Level x, from 0, has place 1 + x.
 --   OutOf least most x           x is not from least to most
 --   NotListed vs x               x is none of the values
@@ -8,14 +8,18 @@
 --   HeightApplies hs n p         4: a height, or one that does not rise
 --   LevelsApply ws hs room n p   1 to 4: any of these
 --   SiteApplies s n p            5 to 7: of a site
+--   ZoneApplies z n p            18: of a zone of the Taipei Basin
+--   GroundApplies g n p          5 to 7 of a site, 18 of a zone
 --   FrameApplies f n p           8 to 12: of a frame
---   Applies s f ws hs room n p   of a job: of its levels, its site or its frame
+--   Applies s f ws hs room n p   of a job: of its levels, its ground or its frame
 use mathlib.Core.Path.{_≡_}
 use mathlib.Core.List.{List, [], _∷_}
 use mathlib.Core.Logic.{_⊎_}
 use Prim.Native.Nat.{ℕ, _+_, _≤_, _<_}
 use lib.ListN.{length, getD}
 use Rattle.limits.specs.declared.frame.FrameValues.{FrameValues}
+use Rattle.limits.specs.declared.ground.GroundValues.{GroundValues}
+use Rattle.limits.specs.declared.ground.GroundValues.the-variants.{Site, Basin}
 use Rattle.limits.specs.declared.site.SiteValues.{SiteValues}
 use Rattle.whole.specs.Cells.{below}
 
@@ -55,6 +59,13 @@ pub data SiteApplies (s : SiteValues) : ℕ → ℕ → Type 0 where
   nv : OutOf 100 200 (s .nv) → SiteApplies s 6 2
   class : NotListed (1 ∷ 2 ∷ 3 ∷ []) (s .class) → SiteApplies s 7 0
 
+pub data ZoneApplies (z : ℕ) : ℕ → ℕ → Type 0 where
+  zone : NotListed (1 ∷ 2 ∷ 3 ∷ 4 ∷ []) z → ZoneApplies z 18 0
+
+abbrev pub GroundApplies : GroundValues → ℕ → ℕ → Type 0
+GroundApplies (Site s) n p = SiteApplies s n p
+GroundApplies (Basin z) n p = ZoneApplies z n p
+
 pub data FrameApplies (f : FrameValues) : ℕ → ℕ → Type 0 where
   r : OutOf 100 600 (f .r) → FrameApplies f 8 0
   i : NotListed (100 ∷ 125 ∷ 150 ∷ []) (f .i) → FrameApplies f 9 0
@@ -62,7 +73,7 @@ pub data FrameApplies (f : FrameValues) : ℕ → ℕ → Type 0 where
   kind : NotListed (1 ∷ 2 ∷ 3 ∷ 4 ∷ []) (f .kind) → FrameApplies f 11 0
   period : (f .calculated ≡ 0 → ⊥) → OutOf 1 60_000 (f .calculated) → FrameApplies f 12 0
 
-pub data Applies (s : SiteValues) (f : FrameValues) (ws hs : List ℕ) (room n p : ℕ) : Type 0 where
+pub data Applies (s : GroundValues) (f : FrameValues) (ws hs : List ℕ) (room n p : ℕ) : Type 0 where
   of-levels : LevelsApply ws hs room n p → Applies s f ws hs room n p
-  of-site : SiteApplies s n p → Applies s f ws hs room n p
+  of-ground : GroundApplies s n p → Applies s f ws hs room n p
   of-frame : FrameApplies f n p → Applies s f ws hs room n p

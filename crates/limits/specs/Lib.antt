@@ -3,6 +3,8 @@ pub mod Order
 pub mod Ranges
 pub mod Levels
 pub mod Site
+pub mod Zone
+pub mod Ground
 pub mod Frame
 pub mod Judging
 pub mod Allowed

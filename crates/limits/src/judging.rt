@@ -2,19 +2,19 @@
 use crate::frame::Frame;
 use crate::frame::FrameAnswer;
 use crate::frame::FrameValues;
+use crate::ground::Ground;
+use crate::ground::GroundAnswer;
+use crate::ground::GroundValues;
 use crate::levels::judged_levels;
 use crate::refusal::Refusal;
 use crate::refusal::Verdict;
-use crate::site::Site;
-use crate::site::SiteAnswer;
-use crate::site::SiteValues;
 ghost use mathlib.Core.Path.{_≡_};
 ghost use Rattle.limits.specs.Judging.{judgedJob, givenOutcome};
 ghost use Rattle.limits.specs.Outcome.{refusalOf};
 
-// A judged site and frame.
+// A judged ground and frame.
 pub struct Given {
-    pub site: Site,
+    pub ground: Ground,
     pub frame: Frame,
 }
 
@@ -35,27 +35,27 @@ impl GivenAnswer {
     }
 }
 
-// All judgments of a job, one after the other: levels, site, frame.
+// All judgments of a job, one after the other: levels, ground, frame.
 pub fn judged(
-    site: SiteValues,
+    ground: GroundValues,
     frame: FrameValues,
     weights: &[u64],
     heights: &[u64],
     room: usize,
 ) -> GivenAnswer
-    ensures { λ a. ⌜ givenOutcome a ≡ judgedJob site frame (now (weights .entry)) (now (heights .entry)) room ⌝ }
+    ensures { λ a. ⌜ givenOutcome a ≡ judgedJob ground frame (now (weights .entry)) (now (heights .entry)) room ⌝ }
 {
     let v = judged_levels(weights, heights, room);
     let Verdict::Passed = v else {
         return GivenAnswer::Refused(v.refusal());
     };
-    let s = Site::judged(site);
-    let SiteAnswer::Taken(site) = s else {
-        return GivenAnswer::Refused(s.refusal());
+    let g = Ground::judged(ground);
+    let GroundAnswer::Taken(ground) = g else {
+        return GivenAnswer::Refused(g.refusal());
     };
     let f = Frame::judged(frame);
     let FrameAnswer::Taken(frame) = f else {
         return GivenAnswer::Refused(f.refusal());
     };
-    GivenAnswer::Taken(Given { site, frame })
+    GivenAnswer::Taken(Given { ground, frame })
 }

@@ -2,6 +2,7 @@
 
 pub mod class;
 pub mod frame;
+pub mod ground;
 pub mod judging;
 pub mod kind;
 pub mod layer;
@@ -11,3 +12,4 @@ pub mod ranges;
 pub mod refusal;
 pub mod sheet;
 pub mod site;
+pub mod zone;

@@ -44,6 +44,8 @@ impl Refusal {
     pub const LINE: u64 = 16;
     // sheet over 4,096 bytes
     pub const SHEET: u64 = 17;
+    // zone not 1 to 4
+    pub const ZONE: u64 = 18;
     // the place of a refusal for which none is named
     pub const NOWHERE: u64 = 0;
 

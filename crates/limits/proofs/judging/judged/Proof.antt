@@ -3,9 +3,9 @@ use borrow.Author.Needs.{needs}
 use mathlib.Core.Path.{refl}
 use Rattle.limits.proofs.Stages.{says, stopped}
 use Rattle.limits.specs.Frame.{frameOutcome}
+use Rattle.limits.specs.Ground.{groundOutcome}
 use Rattle.limits.specs.Judging.{judgedJob}
 use Rattle.limits.specs.Outcome.{verdictOutcome}
-use Rattle.limits.specs.Site.{siteOutcome}
 use Rattle.limits.proofs.judging.judged.Statement.{statement}
 use Rattle.limits.proofs.judging.judged.Tie as tie
 
@@ -29,8 +29,8 @@ returns c =
 judged-requires : tie.Need-judged-requires
 judged-requires c κs = search needs
 
-enum-known-s : tie.Need-enum-known-s
-enum-known-s c = search needs
+enum-known-g : tie.Need-enum-known-g
+enum-known-g c = search needs
 
 enum-told-3 : tie.Need-enum-told-3
 enum-told-3 c = search needs
@@ -44,7 +44,7 @@ returns-2 c =
     let c₁ = c .before .before .before .before in
     simp (
       says verdictOutcome (c₁ .before .before .judged-levels .ensures) (c₁ .enum-told .given .1),
-      stopped siteOutcome _ _ (c .before .before .before .judged .ensures) (c .before .enum-told3 .given .1) refl (c .refusal2 .ensures),
+      stopped groundOutcome _ _ (c .before .before .before .judged .ensures) (c .before .enum-told3 .given .1) refl (c .refusal2 .ensures),
     )
 
 judged-requires-2 : tie.Need-judged-requires-2
@@ -66,7 +66,7 @@ returns-3 c =
     let c₁ = c₂ .before .before .before in
     simp (
       says verdictOutcome (c₁ .before .before .judged-levels .ensures) (c₁ .enum-told .given .1),
-      says siteOutcome (c₂ .before .before .judged .ensures) (c₂ .s .given .1),
+      says groundOutcome (c₂ .before .before .judged .ensures) (c₂ .g .given .1),
       stopped frameOutcome _ _ (c .before .before .before .judged2 .ensures) (c .before .enum-told4 .given .1) refl (c .refusal3 .ensures),
     )
 
@@ -78,7 +78,7 @@ returns-4 c =
     let c₁ = c₂ .before .before .before in
     simp (
       says verdictOutcome (c₁ .before .before .judged-levels .ensures) (c₁ .enum-told .given .1),
-      says siteOutcome (c₂ .before .before .judged .ensures) (c₂ .s .given .1),
+      says groundOutcome (c₂ .before .before .judged .ensures) (c₂ .g .given .1),
       says frameOutcome (c₃ .before .before .judged2 .ensures) (c₃ .f .given .1),
     )
 
@@ -92,7 +92,7 @@ judged-spec =
     refusal-requires
     returns
     judged-requires
-    enum-known-s
+    enum-known-g
     enum-told-3
     refusal-requires-2
     returns-2
