@@ -10,7 +10,7 @@ pub struct Hazard {
     pub square: Fraction,
 }
 
-// The hazards of V, V_M and V*, the lines, and the divisors in tenths: 1.4 of V and V_M, 4.2 of V*.
+// The hazards of V, V_M and V*, the lines, and the divisors in tenths: 1.4 of V and V_M, 4.2 of V*, 3.5 in the Taipei Basin.
 pub struct Hazards {
     pub design: Hazard,
     pub mce: Hazard,

@@ -28,7 +28,7 @@ pub const LINES: Lines = Lines {
 };
 
 // The divisors of (7) and (17), 1.4, and of (19), 4.2, in tenths.
-const DIVISOR: u64 = 14;
+pub const DIVISOR: u64 = 14;
 
 const STAR_DIVISOR: u64 = 42;
 

@@ -1,0 +1,53 @@
+// The maker of the three hazards from a zone of the Taipei Basin: no site class and no near-fault factor plays a part.
+use crate::capacity::basin_capacity;
+use crate::capacity::basin_square;
+use crate::capacity::mce_capacity;
+use crate::capacity::mce_square;
+use crate::hazard::Hazard;
+use crate::hazard::Hazards;
+use crate::hazards::DIVISOR;
+use crate::hazards::LINES;
+use crate::table4::corner_period;
+use limits::zone::Zone;
+ghost use mathlib.Core.Path.{_≡_};
+ghost use Prim.Native.Nat.{_≤_};
+ghost use Rattle.site.specs.Basin.{basinHazards};
+
+// S_DS = 0.6 g of (10) and S_MS = 0.8 g of (15), in 10⁻⁵ g.
+const DESIGN: u64 = 60_000;
+
+const MCE: u64 = 80_000;
+
+// From 10⁻⁵ g to the 10⁻⁸ g of A; and from T0 in ms, B = A T0 / 1000.
+const FINER: u64 = 1_000;
+
+// The divisor of (19) in the Basin, 3.5, in tenths.
+const STAR_DIVISOR: u64 = 35;
+
+// V's, V_M's, and V*'s, which is V's: T0 is the zone's at both levels.
+pub fn basin_hazards(zone: Zone, r: u64) -> Hazards
+    requires { ⌜ (100 ≤ r) × (r ≤ 600) ⌝ }
+    ensures { λ k. ⌜ k ≡ basinHazards zone r ⌝ }
+{
+    let corner = corner_period(zone);
+    let design = Hazard {
+        a: DESIGN * FINER,
+        b: DESIGN * corner,
+        capacity: basin_capacity(r),
+        square: basin_square(r),
+    };
+    let mce = Hazard {
+        a: MCE * FINER,
+        b: MCE * corner,
+        capacity: mce_capacity(r),
+        square: mce_square(r),
+    };
+    Hazards {
+        design,
+        mce,
+        star: design,
+        lines: LINES,
+        divisor: DIVISOR,
+        stardivisor: STAR_DIVISOR,
+    }
+}
