@@ -4,9 +4,9 @@ use mathlib.Core.Path.{_≡_, refl, sym, ap, _∙_}
 use mathlib.Core.List.{List, [], _∷_}
 use Prim.Native.Nat.{ℕ}
 use Rattle.limits.specs.declared.frame.FrameValues.{FrameValues}
+use Rattle.limits.specs.declared.ground.GroundValues.{GroundValues}
 use Rattle.limits.specs.declared.judging.Given.{Given}
 use Rattle.limits.specs.declared.refusal.Refusal.{Refusal}
-use Rattle.limits.specs.declared.site.SiteValues.{SiteValues}
 use Rattle.limits.specs.Judging.{judgedJob}
 use Rattle.limits.specs.Outcome.{Outcome, accepted, refused, number, place, values}
 use Rattle.limits.proofs.Passed.{never, one-value}
@@ -19,7 +19,7 @@ use Rattle.job.proofs.Stages.{job-refused, job-accepted}
 one-refusal : {A : Type 0} {n p m q : ℕ} → _≡_ {A = Outcome A} (refused n p) (refused m q) → (n ≡ m) × (p ≡ q)
 one-refusal e = (ap number e, ap place e)
 
-module _ (s : SiteValues) (f : FrameValues) (ws hs : List ℕ) (b : Buffers) where
+module _ (s : GroundValues) (f : FrameValues) (ws hs : List ℕ) (b : Buffers) where
   -- of a taken answer: the judgments accept, n is what `givenFigures` gives, and each level's cells are written
   pub record Accepted (n : Figures) (b′ : Buffers) : Type 0 where
     pub given : Given

@@ -10,7 +10,7 @@ use lib.ListN.{length}
 use Rattle.whole.specs.Cells.{cells}
 use Rattle.whole.proofs.Cells.{cells-length}
 use Rattle.limits.specs.declared.frame.FrameValues.{FrameValues}
-use Rattle.limits.specs.declared.site.SiteValues.{SiteValues}
+use Rattle.limits.specs.declared.ground.GroundValues.{GroundValues}
 use Rattle.limits.specs.Outcome.{Outcome, accepted, refused}
 use Rattle.base_shear.specs.declared.Figures.{Figures}
 use Rattle.job.specs.declared.JobAnswer.{JobAnswer}
@@ -33,7 +33,7 @@ blank-room : (ws : List ℕ) → shortest (blank ws) ≡ length ws
 blank-room ws =
     ap (λ (n : ℕ). min (min n n) n) (cells-length (λ (x : ℕ). 0) (length ws)) ∙ omega arith
 
-module _ (s : SiteValues) (f : FrameValues) (ws hs : List ℕ) where
+module _ (s : GroundValues) (f : FrameValues) (ws hs : List ℕ) where
   pub outcome-answers : (b : Buffers)
       → Answers s f ws hs b (answerOf (figuresOnly (jobOf s f ws hs (shortest b)))) (written (jobOf s f ws hs (shortest b)) b)
   outcome-answers b = (says-outcome _, refl)

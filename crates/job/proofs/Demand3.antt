@@ -6,8 +6,8 @@ use mathlib.Core.List.{List}
 use Prim.Native.Nat.{ℕ}
 use lib.ListN.{getD}
 use Rattle.limits.specs.declared.frame.FrameValues.{FrameValues}
+use Rattle.limits.specs.declared.ground.GroundValues.{GroundValues}
 use Rattle.limits.specs.declared.judging.Given.{Given}
-use Rattle.limits.specs.declared.site.SiteValues.{SiteValues}
 use Rattle.limits.specs.Judging.{judgedJob}
 use Rattle.limits.specs.Levels.{topHeight}
 use Rattle.limits.specs.Outcome.{accepted}
@@ -26,7 +26,7 @@ use Rattle.job.proofs.Answered.{taken-accepted}
 use Rattle.job.proofs.Storeys.{shear-cell}
 use Rattle.job.proofs.GivenReached.{standing, given-reached, given-between}
 
-pub demand3-accepted : (s : SiteValues) (f : FrameValues) (ws hs : List ℕ) (room : ℕ) (g : Given)
+pub demand3-accepted : (s : GroundValues) (f : FrameValues) (ws hs : List ℕ) (room : ℕ) (g : Given)
     → judgedJob s f ws hs room ≡ accepted g
     → let n = givenFigures g ws hs in
     Demand3 unit (givenHazards g) (g .frame) ws hs (n .t) (n .vd) (shearUnder (n .t) (n .vd) ws hs)
@@ -36,8 +36,8 @@ demand3-accepted s f ws hs room g e =
     demand3-reached (givenHazards g) (g .frame) ws hs _ (given-reached g ws hs a) (a .frame) (given-between g ws hs a .3)
     (standing ws hs (a .levels) .positive)
 
-module _ (s : SiteValues) (f : FrameValues) (ws hs : List ℕ) (b : Buffers) where
-  -- at the period in use of the judged site and frame, with square roots unrounded
+module _ (s : GroundValues) (f : FrameValues) (ws hs : List ℕ) (b : Buffers) where
+  -- at the period in use of the judged ground and frame, with square roots unrounded
   pub record Kept (n : Figures) (b′ : Buffers) : Type 0 where
     pub given : Given
     pub judged : judgedJob s f ws hs (shortest b) ≡ accepted given

@@ -4,7 +4,7 @@ use mathlib.Core.Path.{sym, subst}
 use mathlib.Core.List.{List}
 use Prim.Native.Nat.{ℕ}
 use Rattle.limits.specs.declared.frame.FrameValues.{FrameValues}
-use Rattle.limits.specs.declared.site.SiteValues.{SiteValues}
+use Rattle.limits.specs.declared.ground.GroundValues.{GroundValues}
 use Rattle.limits.proofs.Accepted.{given-allowed}
 use Rattle.base_shear.specs.declared.Figures.{Figures}
 use Rattle.job.specs.declared.JobAnswer.the-variants.{Taken}
@@ -12,7 +12,7 @@ use Rattle.job.specs.Job.{Buffers, shortest, Answers}
 use Rattle.job.proofs.Answered.{taken-accepted}
 use Rattle.job.proofs.GivenReached.{Between, given-between}
 
-pub figures-between : (s : SiteValues) (f : FrameValues) (ws hs : List ℕ) (b : Buffers) (n : Figures) (b′ : Buffers)
+pub figures-between : (s : GroundValues) (f : FrameValues) (ws hs : List ℕ) (b : Buffers) (n : Figures) (b′ : Buffers)
     → Answers s f ws hs b (Taken n) b′ → Between n
 figures-between s f ws hs b n b′ a =
     let t = taken-accepted s f ws hs b n b′ a in

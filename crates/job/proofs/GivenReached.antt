@@ -1,5 +1,5 @@
 -- A judged job is within reach of the calculation: W in kN, the hazards, and what the storeys ask of levels, period and base
--- shear. What is known of its site goes through `given-reached` and `given-bounded`.
+-- shear. What is known of its ground goes through `given-reached` and `given-bounded`.
 --   Between n    V_D is 1 to 1,125,000,000 N and T is 1 to 6328 ms
 -- Assumes nothing.
 use mathlib.Core.Path.{sym}
@@ -21,7 +21,7 @@ use Rattle.base_shear.proofs.Bounds.{base-most, base-least}
 use Rattle.storeys.specs.Reach.{Load, Standing}
 use Rattle.storeys.proofs.Chain.{load-of, standing-of}
 use Rattle.job.specs.Job.{givenHazards, givenFigures}
-use Rattle.job.proofs.SiteReached.{site-bounded, site-reached}
+use Rattle.job.proofs.GroundReached.{ground-bounded, ground-reached}
 
 pub weight-most : (ws hs : List ℕ) → AllowedLevels ws hs → sum ws ≤ totalMost
 weight-most ws hs l =
@@ -41,10 +41,10 @@ Between n = (1 ≤ n .vd) × (n .vd ≤ 1_125_000_000) × (1 ≤ n .t) × (n .t 
 
 module _ (g : Given) (ws hs : List ℕ) (a : AllowedGiven g ws hs) where
   pub given-reached : Reached (givenHazards g)
-  given-reached = site-reached (g .site) (g .frame .r) (a .site) (a .frame .r .0) (a .frame .r .1)
+  given-reached = ground-reached (g .ground) (g .frame .r) (a .ground) (a .frame .r .0) (a .frame .r .1)
 
   given-bounded : Bounded 1_125_000_000 (givenHazards g)
-  given-bounded = site-bounded (g .site) (g .frame .r) (a .site) (a .frame .r .0) (a .frame .r .1) _ (omega arith)
+  given-bounded = ground-bounded (g .ground) (g .frame .r) (a .ground) (a .frame .r .0) (a .frame .r .1)
 
   abbrev period : (1 ≤ givenFigures g ws hs .t) × (givenFigures g ws hs .t ≤ 6328)
   unfolding figuresAt

@@ -9,8 +9,8 @@ use lib.ListN.{length, take, drop}
 use Rattle.whole.specs.Cells.{cells, laid}
 use Rattle.whole.proofs.Cells.{cells-length, laid-part, laid-rest}
 use Rattle.limits.specs.declared.frame.FrameValues.{FrameValues}
+use Rattle.limits.specs.declared.ground.GroundValues.{GroundValues}
 use Rattle.limits.specs.declared.judging.Given.{Given}
-use Rattle.limits.specs.declared.site.SiteValues.{SiteValues}
 use Rattle.limits.specs.Outcome.{Outcome, accepted, _>>=_}
 use Rattle.limits.proofs.Accepted.{given-allowed}
 use Rattle.limits.proofs.Room.{room-enough}
@@ -38,7 +38,7 @@ module _ (n : Figures) (ws hs : List ℕ) where
 one-figures : {n m : Figures} → Taken n ≡ Taken m → n ≡ m
 one-figures e = cc
 
-module _ (s : SiteValues) (f : FrameValues) (ws hs : List ℕ) where
+module _ (s : GroundValues) (f : FrameValues) (ws hs : List ℕ) where
   job-room : (room room′ : ℕ) → length ws ≤ room → length ws ≤ room′ → jobOf s f ws hs room ≡ jobOf s f ws hs room′
   unfolding jobOf
   job-room room room′ h h′ = ap (λ (o : Outcome Given). o >>= λ g. accepted (resultsOf g ws hs)) (room-enough s f ws hs room room′ h h′)

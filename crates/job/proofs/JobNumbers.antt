@@ -1,6 +1,6 @@
 -- A job by its numbers, and what it comes to in the unit in use.
---   Job                  site line, frame line, weights, heights, and what is given where they are accepted
---   jobOn ..             a job of the lines of a sheet, as its numbers stand there, with its class and kind
+--   Job                  ground, frame line, weights, heights, and what is given where they are accepted
+--   jobOn ..             a job of the lines of a sheet, as its numbers stand there, with its class and kind; inBasin .. of a zone
 --   IsAccepted j         they are accepted, with result buffers of as many cells as levels
 --   hazards j, period j  the three hazards; T
 --   printed j, printedUnder j x       V_D, and the shear under level x, from 0
@@ -21,9 +21,13 @@ use Rattle.limits.specs.Outcome.{accepted}
 use Rattle.limits.specs.Site.{siteOf}
 use Rattle.limits.specs.declared.frame.FrameValues.{FrameValues}
 use Rattle.limits.specs.declared.kind.Kind.{Kind}
+use Rattle.limits.specs.declared.ground.Ground.the-variants.{Site as OnSite, Basin as InBasin}
+use Rattle.limits.specs.declared.ground.GroundValues.{GroundValues}
+use Rattle.limits.specs.declared.ground.GroundValues.the-variants.{Site as SiteOf, Basin}
 use Rattle.limits.specs.declared.judging.Given.{Given}
 use Rattle.limits.specs.declared.class.Class.{Class}
 use Rattle.limits.specs.declared.site.SiteValues.{SiteValues}
+use Rattle.limits.specs.declared.zone.Zone.{Zone}
 use Rattle.site.specs.declared.hazard.Hazards.{Hazards}
 use Rattle.response.specs.Period.{periodOf}
 use Rattle.response.specs.Unit.{unit}
@@ -35,7 +39,7 @@ use Rattle.margin.specs.Demand3.{Demand3, marginOf}
 use Rattle.job.specs.Job.{givenHazards}
 
 pub record Job : Type 0 where
-  pub site : SiteValues
+  pub ground : GroundValues
   pub frame : FrameValues
   pub weights : List ℕ
   pub heights : List ℕ
@@ -50,15 +54,25 @@ frameLine kind calculated r i alpha = record { kind = kind; calculated = calcula
 abbrev pub jobOn : SiteValues → Class → FrameValues → Kind → List ℕ → List ℕ → Job
 jobOn s c f k ws hs =
     record {
-      site = s;
+      ground = SiteOf s;
       frame = f;
       weights = ws;
       heights = hs;
-      given = record { site = siteOf s c; frame = frameOf f k };
+      given = record { ground = OnSite (siteOf s c); frame = frameOf f k };
+    }
+
+abbrev pub inBasin : ℕ → Zone → FrameValues → Kind → List ℕ → List ℕ → Job
+inBasin n z f k ws hs =
+    record {
+      ground = Basin n;
+      frame = f;
+      weights = ws;
+      heights = hs;
+      given = record { ground = InBasin z; frame = frameOf f k };
     }
 
 abbrev pub IsAccepted : Job → Type 0
-IsAccepted j = judgedJob (j .site) (j .frame) (j .weights) (j .heights) (length (j .weights)) ≡ accepted (j .given)
+IsAccepted j = judgedJob (j .ground) (j .frame) (j .weights) (j .heights) (length (j .weights)) ≡ accepted (j .given)
 
 abbrev pub hazards : Job → Hazards
 hazards j = givenHazards (j .given)

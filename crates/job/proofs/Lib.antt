@@ -1,4 +1,8 @@
+pub mod Ductilities
+pub mod HazardsReached
 pub mod SiteReached
+pub mod BasinReached
+pub mod GroundReached
 pub mod GivenReached
 pub mod Stages
 pub mod Unique

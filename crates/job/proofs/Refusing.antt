@@ -4,6 +4,8 @@ use mathlib.Core.Path.{_≡_, refl}
 use mathlib.Core.List.{List}
 use Prim.Native.Nat.{ℕ, _≤_}
 use Rattle.limits.specs.declared.frame.FrameValues.{FrameValues}
+use Rattle.limits.specs.declared.ground.GroundValues.{GroundValues}
+use Rattle.limits.specs.declared.ground.GroundValues.the-variants.{Site}
 use Rattle.limits.specs.declared.refusal.Refusal.{Refusal}
 use Rattle.limits.specs.declared.site.SiteValues.{SiteValues}
 use Rattle.limits.specs.Applies.{Applies}
@@ -16,7 +18,7 @@ use Rattle.job.specs.declared.JobAnswer.the-variants.{Taken, Refused}
 use Rattle.job.specs.Job.{Buffers, shortest, Answers}
 use Rattle.job.proofs.Answered.{taken-accepted, refused-judged}
 
-module _ (s : SiteValues) (f : FrameValues) (ws hs : List ℕ) (b : Buffers) where
+module _ (s : GroundValues) (f : FrameValues) (ws hs : List ℕ) (b : Buffers) where
   -- refusal n applies to the call, at place p
   abbrev pub Wrong : ℕ → ℕ → Type 0
   Wrong = Applies s f ws hs (shortest b)
@@ -45,10 +47,12 @@ module _ (s : SiteValues) (f : FrameValues) (ws hs : List ℕ) (b : Buffers) whe
     first-number m q w =
         order.first-number s f ws hs (shortest b) (r .number) (r .place) m q (refused-judged s f ws hs b r b′ a) w
 
-    pub lowest-number : (m q : ℕ) → Wrong m q → r .number ≤ m
-    lowest-number m q w =
-        order.lowest-number s f ws hs (shortest b) (r .number) (r .place) m q (refused-judged s f ws hs b r b′ a) w
-
     pub lowest-place : (q : ℕ) → Wrong (r .number) q → r .place ≤ q
     lowest-place q w =
         order.lowest-place s f ws hs (shortest b) (r .number) (r .place) q (refused-judged s f ws hs b r b′ a) w
+
+-- on a site this is 'the lowest number that applies'; in the Basin 18 stands where 5 to 7 stand
+pub lowest-number : (s : SiteValues) (f : FrameValues) (ws hs : List ℕ) (b : Buffers) (r : Refusal) (b′ : Buffers)
+    → Answers (Site s) f ws hs b (Refused r) b′ → (m q : ℕ) → Wrong (Site s) f ws hs b m q → r .number ≤ m
+lowest-number s f ws hs b r b′ a m q w =
+    order.lowest-number s f ws hs (shortest b) (r .number) (r .place) m q (refused-judged (Site s) f ws hs b r b′ a) w

@@ -7,8 +7,8 @@ use lib.ListN.{length, getD}
 use Rattle.whole.specs.Cells.{sum}
 use Rattle.whole.proofs.Cells.{cells-at}
 use Rattle.limits.specs.declared.frame.FrameValues.{FrameValues}
+use Rattle.limits.specs.declared.ground.GroundValues.{GroundValues}
 use Rattle.limits.specs.declared.judging.Given.{Given}
-use Rattle.limits.specs.declared.site.SiteValues.{SiteValues}
 use Rattle.limits.specs.Judging.{judgedJob}
 use Rattle.limits.specs.Outcome.{accepted}
 use Rattle.limits.proofs.Accepted.{given-allowed}
@@ -21,13 +21,13 @@ use Rattle.job.specs.Job.{givenHazards, givenFigures, resultsOf}
 use Rattle.job.proofs.Demand3.{demand3-accepted}
 use Rattle.job.proofs.GivenReached.{load, standing}
 
--- of figures and storeys of a judged site and frame
+-- of figures and storeys of a judged ground and frame
 pub record Promised (g : Given) (ws hs : List ℕ) : Type 0 where
   pub adds-up : sum (resultsOf g ws hs .forces) ≡ givenFigures g ws hs .vd
   pub kept : let n = givenFigures g ws hs in
       Demand3 unit (givenHazards g) (g .frame) ws hs (n .t) (n .vd) (λ x. getD (resultsOf g ws hs .shears) x 0)
 
-pub promised : (s : SiteValues) (f : FrameValues) (ws hs : List ℕ) (room : ℕ) (g : Given) → judgedJob s f ws hs room ≡ accepted g
+pub promised : (s : GroundValues) (f : FrameValues) (ws hs : List ℕ) (room : ℕ) (g : Given) → judgedJob s f ws hs room ≡ accepted g
     → Promised g ws hs
 promised s f ws hs room g e =
     let n = givenFigures g ws hs in

@@ -5,16 +5,16 @@ use mathlib.Core.List.{List}
 use Prim.Native.Nat.{ℕ}
 use Rattle.whole.specs.Cells.{laid}
 use Rattle.limits.specs.declared.frame.FrameValues.{FrameValues}
+use Rattle.limits.specs.declared.ground.GroundValues.{GroundValues}
 use Rattle.limits.specs.declared.judging.Given.{Given}
 use Rattle.limits.specs.declared.refusal.Refusal.{Refusal}
-use Rattle.limits.specs.declared.site.SiteValues.{SiteValues}
 use Rattle.limits.specs.Judging.{judgedJob}
 use Rattle.limits.specs.Outcome.{Outcome, accepted, refused, _>>=_}
 use Rattle.base_shear.specs.declared.Figures.{Figures}
 use Rattle.job.specs.declared.JobAnswer.the-variants.{Taken, Refused}
 use Rattle.job.specs.Job.{Results, givenFigures, resultsAt, resultsOf, jobOf, figuresOnly, Buffers, shortest, written, Answers}
 
-module _ (s : SiteValues) (f : FrameValues) (ws hs : List ℕ) (room : ℕ) where
+module _ (s : GroundValues) (f : FrameValues) (ws hs : List ℕ) (room : ℕ) where
   pub job-refused : {n p : ℕ} → judgedJob s f ws hs room ≡ refused n p → jobOf s f ws hs room ≡ refused n p
   unfolding jobOf
   job-refused e = simp e

@@ -9,7 +9,7 @@ use lib.ListN.{length, take, getD}
 use Rattle.whole.specs.Cells.{sum}
 use Rattle.whole.proofs.Cells.{cells-at, laid-at}
 use Rattle.limits.specs.declared.frame.FrameValues.{FrameValues}
-use Rattle.limits.specs.declared.site.SiteValues.{SiteValues}
+use Rattle.limits.specs.declared.ground.GroundValues.{GroundValues}
 use Rattle.limits.proofs.Accepted.{given-allowed}
 use Rattle.base_shear.specs.declared.Figures.{Figures}
 use Rattle.storeys.specs.Reach.{Load, Standing}
@@ -21,7 +21,7 @@ use Rattle.job.proofs.Answered.{taken-accepted}
 use Rattle.job.proofs.Independent.{taken-written, shears-cells}
 use Rattle.job.proofs.GivenReached.{load, standing}
 
-module _ (s : SiteValues) (f : FrameValues) (ws hs : List ℕ) (b : Buffers) (n : Figures) (b′ : Buffers) (a : Answers s f ws hs b (Taken n) b′) where
+module _ (s : GroundValues) (f : FrameValues) (ws hs : List ℕ) (b : Buffers) (n : Figures) (b′ : Buffers) (a : Answers s f ws hs b (Taken n) b′) where
   -- the cells that were written
   abbrev pub forcesOut : List ℕ
   forcesOut = take (length ws) (b′ .forces)

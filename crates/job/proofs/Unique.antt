@@ -4,7 +4,7 @@ use mathlib.Core.Path.{_≡_, refl, sym, _∙_}
 use mathlib.Core.List.{List}
 use Prim.Native.Nat.{ℕ}
 use Rattle.limits.specs.declared.frame.FrameValues.{FrameValues}
-use Rattle.limits.specs.declared.site.SiteValues.{SiteValues}
+use Rattle.limits.specs.declared.ground.GroundValues.{GroundValues}
 use Rattle.limits.specs.Outcome.{Outcome}
 use Rattle.limits.proofs.Unique.{back, one-answer}
 use Rattle.base_shear.specs.declared.Figures.{Figures}
@@ -19,7 +19,7 @@ answer-unique = one-answer answerOutcome Taken Refused same
     same (Taken n) = refl
     same (Refused r) = refl
 
-module _ (s : SiteValues) (f : FrameValues) (ws hs : List ℕ) where
+module _ (s : GroundValues) (f : FrameValues) (ws hs : List ℕ) where
   -- `figures`
   pub one-figured : {a a′ : JobAnswer} → Figured s f ws hs a → Figured s f ws hs a′ → a ≡ a′
   one-figured p q = answer-unique p q

@@ -13,6 +13,7 @@ use Rattle.limits.specs.Judging.{judgedJob}
 use Rattle.limits.specs.Levels.{weighed, raised, judgedLevels}
 use Rattle.limits.specs.Outcome.{accepted}
 use Rattle.limits.specs.Ranges.{inRange, among, within, listed}
+use Rattle.limits.specs.declared.ground.GroundValues.the-variants.{Site}
 use Rattle.limits.specs.Site.{judgedClass, judgedMapped, judgedNearFault, judgedSite}
 use Rattle.response.specs.Factor.{factor, lowerFactor, upperFactor}
 use Rattle.response.specs.Period.{approximate, inUse}
@@ -22,7 +23,7 @@ use Rattle.base_shear.specs.Shears.{newtons, shear, star, base, figuresAt}
 use Rattle.storeys.specs.Storeys.{weightHeight, about}
 use Rattle.job.specs.Job.{jobOf}
 
-pub worked : jobOf (record { ssd = 80; s1d = 45; ssm = 100; s1m = 55; na = 100; nv = 100; class = 1 })
+pub worked : jobOf (Site (record { ssd = 80; s1d = 45; ssm = 100; s1m = 55; na = 100; nv = 100; class = 1 }))
     (record { kind = 2; calculated = 1000; r = 480; i = 100; alpha = 150 }) (5000 ∷ 5000 ∷ 5000 ∷ []) (100 ∷ 200 ∷ 300 ∷ []) 3
     ≡ accepted
     (record {

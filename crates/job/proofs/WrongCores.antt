@@ -39,7 +39,7 @@ Meets v u = (j : Job) → IsAccepted j → Demand3Of j (v j) (u j)
 -- the core is none of them
 pub core-meets : Meets printed printedUnder
 unfolding figuresAt
-core-meets j e = demand3-accepted (j .site) (j .frame) (j .weights) (j .heights) _ (j .given) e
+core-meets j e = demand3-accepted (j .ground) (j .frame) (j .weights) (j .heights) _ (j .given) e
 
 -- ---- the sheet, at any weights
 abbrev sheet : List ℕ → Job

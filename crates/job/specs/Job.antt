@@ -1,8 +1,8 @@
 -- The job: one building, one horizontal direction. Weights ws in kN and heights hs in dm, lowest level first.
 --   Results                    V, V_M, V*, V_D and T; per level, lowest first, force, shear and overturning
 --   resultsAt n ws hs          those of five figures: the storeys at V_D and T
---   givenHazards g             the hazards of a judged site, with the R of the frame
---   givenFigures g ws hs       the five figures of a judged site and frame: W is the sum of the weights, h the last height
+--   givenHazards g             the hazards of a judged ground, with the R of the frame
+--   givenFigures g ws hs       the five figures of a judged ground and frame: W is the sum of the weights, h the last height
 --   resultsOf g ws hs          the results of these
 --   jobOf s f ws hs room       the results, or the first refusal; room is the length of the shortest result buffer
 --   figuresOnly o              what is left of an outcome without the levels
@@ -18,12 +18,12 @@ use Prim.Native.Nat.{ℕ, min}
 use lib.ListN.{length}
 use Rattle.whole.specs.Cells.{sum, laid}
 use Rattle.limits.specs.declared.frame.FrameValues.{FrameValues}
+use Rattle.limits.specs.declared.ground.GroundValues.{GroundValues}
 use Rattle.limits.specs.declared.judging.Given.{Given}
-use Rattle.limits.specs.declared.site.SiteValues.{SiteValues}
 use Rattle.limits.specs.Judging.{judgedJob}
 use Rattle.limits.specs.Levels.{topHeight}
 use Rattle.limits.specs.Outcome.{Outcome, accepted, refused, _>>=_}
-use Rattle.site.specs.Hazards.{hazardsOf}
+use Rattle.site.specs.Ground.{groundHazards}
 use Rattle.site.specs.declared.hazard.Hazards.{Hazards}
 use Rattle.base_shear.specs.declared.Figures.{Figures}
 use Rattle.base_shear.specs.Shears.{baseFigures}
@@ -43,7 +43,7 @@ resultsAt n ws hs =
     record { figures = n; forces = forces us; shears = us; overturnings = overturnings (forces us) hs }
 
 abbrev pub givenHazards : Given → Hazards
-givenHazards g = hazardsOf (g .site) (g .frame .r)
+givenHazards g = groundHazards (g .ground) (g .frame .r)
 
 abbrev pub givenFigures : Given → List ℕ → List ℕ → Figures
 givenFigures g ws hs = baseFigures (givenHazards g) (g .frame) (sum ws) (topHeight hs)
@@ -51,7 +51,7 @@ givenFigures g ws hs = baseFigures (givenHazards g) (g .frame) (sum ws) (topHeig
 abbrev pub resultsOf : Given → List ℕ → List ℕ → Results
 resultsOf g ws hs = resultsAt (givenFigures g ws hs) ws hs
 
-unfoldable pub jobOf : SiteValues → FrameValues → List ℕ → List ℕ → ℕ → Outcome Results
+unfoldable pub jobOf : GroundValues → FrameValues → List ℕ → List ℕ → ℕ → Outcome Results
 jobOf s f ws hs room = do
   g ← judgedJob s f ws hs room
   accepted (resultsOf g ws hs)
@@ -85,10 +85,10 @@ written (accepted r) b =
     }
 written (refused n p) b = b
 
-abbrev pub Figured : SiteValues → FrameValues → List ℕ → List ℕ → JobAnswer → Type 0
+abbrev pub Figured : GroundValues → FrameValues → List ℕ → List ℕ → JobAnswer → Type 0
 Figured s f ws hs a = answerOutcome a ≡ figuresOnly (jobOf s f ws hs (length ws))
 
-abbrev pub Answers : SiteValues → FrameValues → List ℕ → List ℕ → Buffers → JobAnswer → Buffers → Type 0
+abbrev pub Answers : GroundValues → FrameValues → List ℕ → List ℕ → Buffers → JobAnswer → Buffers → Type 0
 Answers s f ws hs b a b′ =
     let o = jobOf s f ws hs (shortest b) in
     (answerOutcome a ≡ figuresOnly o) × (b′ ≡ written o b)

@@ -3,11 +3,11 @@ use crate::JobAnswer;
 use base_shear::Figures;
 use base_shear::base::base_figures;
 use limits::frame::FrameValues;
+use limits::ground::GroundValues;
 use limits::judging::Given;
 use limits::judging::GivenAnswer;
 use limits::judging::judged;
-use limits::site::SiteValues;
-use site::hazards::hazards_of;
+use site::ground::ground_hazards;
 ghost use mathlib.Core.Path.{_≡_};
 ghost use Rattle.whole.specs.Cells.{sum};
 ghost use Prim.Native.Nat.{_≤_, _<_};
@@ -38,12 +38,13 @@ pub fn top_height(heights: &[u64]) -> u64
     heights[heights.len() - 1]
 }
 
-// The five figures of a judged site and frame.
+// The five figures of a judged ground and frame.
 pub fn given_figures(given: Given, weights: &[u64], heights: &[u64]) -> Figures
     requires { ⌜ AllowedGiven given (now weights) (now heights) ⌝ }
     ensures { λ r. ⌜ r ≡ givenFigures given (now (weights .entry)) (now (heights .entry)) ⌝ }
 {
-    let hazards = hazards_of(given.site, given.frame.r);
+    let ground = given.ground;
+    let hazards = ground_hazards(ground, given.frame.r);
     base_figures(
         hazards,
         given.frame,
@@ -53,10 +54,15 @@ pub fn given_figures(given: Given, weights: &[u64], heights: &[u64]) -> Figures
 }
 
 // The five figures of unjudged values, or the refusal, with no buffer to write to.
-pub fn figures(site: SiteValues, frame: FrameValues, weights: &[u64], heights: &[u64]) -> JobAnswer
-    ensures { λ a. ⌜ Figured site frame (now (weights .entry)) (now (heights .entry)) a ⌝ }
+pub fn figures(
+    ground: GroundValues,
+    frame: FrameValues,
+    weights: &[u64],
+    heights: &[u64],
+) -> JobAnswer
+    ensures { λ a. ⌜ Figured ground frame (now (weights .entry)) (now (heights .entry)) a ⌝ }
 {
-    let g = judged(site, frame, weights, heights, weights.len());
+    let g = judged(ground, frame, weights, heights, weights.len());
     let GivenAnswer::Taken(given) = g else {
         return JobAnswer::Refused(g.refusal());
     };

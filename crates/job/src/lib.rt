@@ -2,10 +2,10 @@
 use base_shear::Figures;
 use figures::given_figures;
 use limits::frame::FrameValues;
+use limits::ground::GroundValues;
 use limits::judging::GivenAnswer;
 use limits::judging::judged;
 use limits::refusal::Refusal;
-use limits::site::SiteValues;
 use storeys::storey::fill_storeys;
 
 pub mod figures;
@@ -44,7 +44,7 @@ fn shorter(a: usize, b: usize) -> usize
 
 // The job: five figures or a refusal; a force, a shear and an overturning moment of each level in the lent buffers.
 pub fn job(
-    site: SiteValues,
+    ground: GroundValues,
     frame: FrameValues,
     weights: &[u64],
     heights: &[u64],
@@ -52,10 +52,10 @@ pub fn job(
     shears: &mut [u64],
     overturnings: &mut [u64],
 ) -> JobAnswer
-    ensures { λ a. ⌜ Answers site frame (now (weights .entry)) (now (heights .entry)) (record { forces = now (forces .entry); shears = now (shears .entry); overturnings = now (overturnings .entry) }) a (record { forces = now (forces .exit); shears = now (shears .exit); overturnings = now (overturnings .exit) }) ⌝ }
+    ensures { λ a. ⌜ Answers ground frame (now (weights .entry)) (now (heights .entry)) (record { forces = now (forces .entry); shears = now (shears .entry); overturnings = now (overturnings .entry) }) a (record { forces = now (forces .exit); shears = now (shears .exit); overturnings = now (overturnings .exit) }) ⌝ }
 {
     let room = shorter(shorter(forces.len(), shears.len()), overturnings.len());
-    let g = judged(site, frame, weights, heights, room);
+    let g = judged(ground, frame, weights, heights, room);
     let GivenAnswer::Taken(given) = g else {
         let r = g.refusal();
         // By its fields: handed on whole, it makes every answer of a job be copied once more.

@@ -37,20 +37,20 @@ returns c =
     let a = c .before .before .before .before .before .before .before .before .before .before .before .args in
     let e = stopped givenOutcome _ _ (c .before .before .before .judged .ensures) (c .before .enum-told .given .1) refl (c .refusal .ensures) in
     let room = c .before .before .before .before .shorter2 .ensures ∙ ap (λ (n : ℕ). min n (length (a .overturnings .now))) (c .before .before .before .before .before .shorter .ensures) in
-    refused-answers (a .site) (a .frame) (a .weights .now) (a .heights .now) _ _ room _ e
+    refused-answers (a .ground) (a .frame) (a .weights .now) (a .heights .now) _ _ room _ e
 
 given-figures-requires : tie.Need-given-figures-requires
 given-figures-requires c κs =
     let a = c .before .before .before .before .before .before .before .before .before .before .before .args in
     let e = says givenOutcome (c .before .before .before .judged .ensures) (c .before .g .given .1) in
-    given-allowed (a .site) (a .frame) (a .weights .now) (a .heights .now) _ (c .before .g .given .0 .0) e .0
+    given-allowed (a .ground) (a .frame) (a .weights .now) (a .heights .now) _ (c .before .g .given .0 .0) e .0
 
 fill-storeys-requires : tie.Need-fill-storeys-requires
 fill-storeys-requires c κs =
     let a = c .before .before .before .before .before .before .before .before .before .before .before .before .before .before .before .args in
     let g = c .before .before .before .before .before .g .given .0 .0 in
     let e = says givenOutcome (c .before .before .before .before .before .before .before .judged .ensures) (c .before .before .before .before .before .g .given .1) in
-    let all = given-allowed (a .site) (a .frame) (a .weights .now) (a .heights .now) _ g e in
+    let all = given-allowed (a .ground) (a .frame) (a .weights .now) (a .heights .now) _ g e in
     let n = c .before .before .before .given-figures .ensures in
     let short = c .before .before .before .before .before .before .before .before .shorter2 .ensures in
     let shorter = c .before .before .before .before .before .before .before .before .before .shorter .ensures in
@@ -77,7 +77,7 @@ returns-2 c =
     let e = says givenOutcome (c .before .before .before .before .before .before .before .before .before .before .before .before .before .before .judged .ensures) (c .before .before .before .before .before .before .before .before .before .before .before .before .g .given .1) in
     let short = c .before .before .before .before .before .before .before .before .before .before .before .before .before .before .before .shorter2 .ensures ∙ ap (λ (n : ℕ). min n (length (a .overturnings .now))) (c .before .before .before .before .before .before .before .before .before .before .before .before .before .before .before .before .shorter .ensures) in
     let cells = c .before .before .before .before .before .before .fill-storeys .ensures in
-    accepted-answers (a .site) (a .frame) (a .weights .now) (a .heights .now) _ _ short _ _ e (c .before .before .before .before .before .before .before .before .before .before .given-figures .ensures) (cells .0) (cells .1) (cells .2)
+    accepted-answers (a .ground) (a .frame) (a .weights .now) (a .heights .now) _ _ short _ _ e (c .before .before .before .before .before .before .before .before .before .before .given-figures .ensures) (cells .0) (cells .1) (cells .2)
 
 pub job-spec : {M : Type 1} → statement M
 job-spec =

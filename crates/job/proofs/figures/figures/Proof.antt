@@ -27,20 +27,20 @@ returns : tie.Need-returns
 returns c =
     let a = c .before .before .before .before .before .before .args in
     let e = stopped givenOutcome _ _ (c .before .before .before .judged .ensures) (c .before .enum-told .given .1) refl (c .refusal .ensures) in
-    sym (ap figuresOnly (job-refused (a .site) (a .frame) (a .weights .now) (a .heights .now) (length (a .weights .now)) e))
+    sym (ap figuresOnly (job-refused (a .ground) (a .frame) (a .weights .now) (a .heights .now) (length (a .weights .now)) e))
 
 given-figures-requires : tie.Need-given-figures-requires
 given-figures-requires c κs =
     let a = c .before .before .before .before .before .before .args in
     let e = says givenOutcome (c .before .before .before .judged .ensures) (c .before .g .given .1) in
-    given-allowed (a .site) (a .frame) (a .weights .now) (a .heights .now) (length (a .weights .now)) (c .before .g .given .0 .0) e .0
+    given-allowed (a .ground) (a .frame) (a .weights .now) (a .heights .now) (length (a .weights .now)) (c .before .g .given .0 .0) e .0
 
 returns-2 : tie.Need-returns-2
 returns-2 c =
     let a = c .before .before .before .before .before .before .before .args in
     let e = says givenOutcome (c .before .before .before .before .judged .ensures) (c .before .before .g .given .1) in
     ap accepted (c .given-figures .ensures)
-    ∙ sym (ap figuresOnly (job-accepted (a .site) (a .frame) (a .weights .now) (a .heights .now) (length (a .weights .now)) e))
+    ∙ sym (ap figuresOnly (job-accepted (a .ground) (a .frame) (a .weights .now) (a .heights .now) (length (a .weights .now)) e))
 
 pub figures-spec : {M : Type 1} → statement M
 figures-spec =

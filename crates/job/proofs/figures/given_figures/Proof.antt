@@ -8,10 +8,10 @@ use Rattle.job.proofs.GivenReached.{weight-most, given-reached}
 use Rattle.job.proofs.figures.given_figures.Statement.{statement}
 use Rattle.job.proofs.figures.given_figures.Tie as tie
 
-hazards-of-requires : tie.Need-hazards-of-requires
-hazards-of-requires c κs =
+ground-hazards-requires : tie.Need-ground-hazards-requires
+ground-hazards-requires c κs =
     let p = c .before .before .pre in
-    (p .site, p .frame .r .0, p .frame .r .1)
+    (p .ground, p .frame .r .0, p .frame .r .1)
 
 total-weight-requires : tie.Need-total-weight-requires
 total-weight-requires c κs =
@@ -29,11 +29,11 @@ base-figures-requires c κs =
     let h = c .top-height .ensures in
     let top = b .pre .top in
     let k = given-reached (b .args .given) (b .args .weights .now) (b .args .heights .now) (b .pre) in
-    (subst Reached (sym (c .before .before .hazards-of .ensures)) k, b .pre .frame, omega arith, omega arith, omega arith)
+    (subst Reached (sym (c .before .before .ground-hazards .ensures)) k, b .pre .frame, omega arith, omega arith, omega arith)
 
 returns : tie.Need-returns
 returns c =
-    let k = c .before .before .before .hazards-of .ensures in
+    let k = c .before .before .before .ground-hazards .ensures in
     let w = c .before .before .total-weight .ensures in
     let h = c .before .top-height .ensures in
     c .base-figures .ensures
@@ -43,7 +43,7 @@ pub given-figures-spec : {M : Type 1} → statement M
 given-figures-spec =
     tie.close
     (tie.spec
-    hazards-of-requires
+    ground-hazards-requires
     total-weight-requires
     top-height-requires
     base-figures-requires
