@@ -12,24 +12,31 @@ use Rattle.whole.specs.Choice.{pick}
 use Rattle.limits.specs.declared.frame.Frame.{Frame}
 use Rattle.limits.specs.declared.frame.FrameValues.{FrameValues}
 use Rattle.limits.specs.declared.kind.Kind.{Kind}
+use Rattle.limits.specs.declared.ground.Ground.{Ground}
+use Rattle.limits.specs.declared.ground.Ground.the-variants.{Site as OnSite, Basin as InBasin}
+use Rattle.limits.specs.declared.ground.GroundValues.{GroundValues}
+use Rattle.limits.specs.declared.ground.GroundValues.the-variants.{Site as SiteOf, Basin}
 use Rattle.limits.specs.declared.judging.Given.{Given}
 use Rattle.limits.specs.declared.class.Class.{Class}
 use Rattle.limits.specs.declared.site.Site.{Site}
 use Rattle.limits.specs.declared.site.SiteValues.{SiteValues}
+use Rattle.limits.specs.declared.zone.Zone.{Zone}
 use Rattle.limits.specs.Allowed.{AllowedSite, AllowedFrame}
 use Rattle.limits.specs.Frame.{judgedKind, judgedPeriod, frameOf, judgedFrame}
+use Rattle.limits.specs.Ground.{judgedGround}
 use Rattle.limits.specs.Judging.{judgedJob}
 use Rattle.limits.specs.Levels.{judgedLevels}
 use Rattle.limits.specs.Outcome.{Outcome, accepted, _>>_}
 use Rattle.limits.specs.Ranges.{within, listed}
 use Rattle.limits.specs.Site.{judgedClass, siteOf, judgedMapped, judgedNearFault, judgedSite}
+use Rattle.limits.specs.Zone.{judgedZone}
 use Rattle.limits.proofs.Accepted.{site-allowed, frame-allowed, levels-allowed}
 use Rattle.limits.proofs.Passed.{never, one-value, then-passed, bind-passed}
 use Rattle.text.specs.Bytes.{bytes}
 use Rattle.text.specs.Writing.{AllShort}
 use Rattle.text.proofs.Trip.{line-short}
-use Rattle.sheet.specs.Laid.{siteNumbers, frameNumbers, levelLinesOf, sheetLaid, Laid}
-use Rattle.sheet.specs.Layouts.{linesLaid}
+use Rattle.sheet.specs.Laid.{siteNumbers, frameNumbers, groundLine, levelLinesOf, sheetLaid, Laid}
+use Rattle.sheet.specs.Layouts.{lineLaid, linesLaid}
 use Rattle.sheet.specs.Sheet.{Sheet}
 
 -- a number that is chosen from a list of numbers up to m
@@ -45,6 +52,13 @@ class-small : (n : ℕ) (c : Class) → judgedClass n ≡ accepted c → n ≤ 3
 unfolding judgedClass
 class-small n c =
     chosen 3 1 n _ c _ (omega arith) (chosen 3 2 n _ c _ (omega arith) (chosen 3 3 n _ c _ (omega arith) (λ e. absurd (never e))))
+
+zone-small : (n : ℕ) (z : Zone) → judgedZone n ≡ accepted z → n ≤ 4
+unfolding judgedZone
+zone-small n z =
+    chosen 4 1 n _ z _ (omega arith)
+    (chosen 4 2 n _ z _ (omega arith)
+    (chosen 4 3 n _ z _ (omega arith) (chosen 4 4 n _ z _ (omega arith) (λ e. absurd (never e)))))
 
 kind-small : (n : ℕ) (k : Kind) → judgedKind n ≡ accepted k → n ≤ 4
 unfolding judgedKind
@@ -67,6 +81,19 @@ site-short v s e =
         (omega (arith, a .ssm), (omega (arith, a .s1m), (omega (arith, a .na), (omega (arith, a .nv), (omega arith, tt))))),
       ),
     )
+
+ground-short : (v : GroundValues) (g : Ground) → judgedGround v ≡ accepted g → AllShort (groundLine v .numbers)
+ground-short (SiteOf v) g e =
+    let site = bind-passed (judgedSite v) (λ s. accepted (OnSite s)) e in
+    site-short v (site .0) (site .1)
+ground-short (Basin n) g e =
+    let zone = bind-passed (judgedZone n) (λ z. accepted (InBasin z)) e in
+    let small = zone-small n (zone .0) (zone .1) in
+    (omega arith, tt)
+
+ground-length : (v : GroundValues) → AllShort (groundLine v .numbers) → length (lineLaid (groundLine v)) ≤ 75
+ground-length (SiteOf v) s = omega (arith, line-short (bytes "site") (siteNumbers v) s)
+ground-length (Basin n) s = omega (arith, line-short (bytes "basin") (n ∷ []) s)
 
 frame-short : (v : FrameValues) (f : Frame) → judgedFrame v ≡ accepted f → AllShort (frameNumbers v)
 unfolding judgedFrame
@@ -92,19 +119,19 @@ levels-length (w ∷ ws) (h ∷ hs) s t =
     (omega (arith, levels-length ws hs (s .1) (t .1), line-short (bytes "level") (w ∷ h ∷ []) (s .0, (t .0, tt))))
 
 pub allowed-laid : (r : Sheet) (room : ℕ) (g : Given)
-    → judgedJob (r .site) (r .frame) (r .levels .weights) (r .levels .heights) room ≡ accepted g → Laid r
+    → judgedJob (r .ground) (r .frame) (r .levels .weights) (r .levels .heights) room ≡ accepted g → Laid r
 unfolding judgedJob sheetLaid
 allowed-laid r room g e =
     let levels = then-passed (judgedLevels (r .levels .weights) (r .levels .heights) room) _ e in
-    let site = bind-passed (judgedSite (r .site)) _ (levels .1) in
-    let frame = bind-passed (judgedFrame (r .frame)) (λ y. accepted (record { site = site .0; frame = y })) (site .2) in
+    let ground = bind-passed (judgedGround (r .ground)) _ (levels .1) in
+    let frame = bind-passed (judgedFrame (r .frame)) (λ y. accepted (record { ground = ground .0; frame = y })) (ground .2) in
     let l = levels-allowed (r .levels .weights) (r .levels .heights) room (levels .0) .0 in
     let ws = all-short (r .levels .weights) (λ x h. omega (arith, l .weights x h)) in
     let hs = all-short (r .levels .heights) (λ x h. omega (arith, l .heights x h)) in
-    let ss = site-short (r .site) (site .0) (site .1) in
+    let gs = ground-short (r .ground) (ground .0) (ground .1) in
     let fs = frame-short (r .frame) (frame .0) (frame .1) in
     record {
-      site = ss;
+      ground = gs;
       frame = fs;
       weights = ws;
       heights = hs;
@@ -115,8 +142,7 @@ allowed-laid r room g e =
             arith,
             l .few,
             levels-length (r .levels .weights) (r .levels .heights) ws hs,
-            line-short (bytes "site")
-                (siteNumbers (r .site)) ss,
+            ground-length (r .ground) gs,
             line-short (bytes "frame") (frameNumbers (r .frame)) fs,
           ));
     }

@@ -19,7 +19,7 @@ use Rattle.sheet.specs.Reading.{readSheet}
 use Rattle.sheet.specs.Sheet.{Sheet}
 
 abbrev judgedSheet : Sheet → Outcome Given
-judgedSheet r = judgedJob (r .site) (r .frame) (r .levels .weights) (r .levels .heights) (length (r .levels .weights))
+judgedSheet r = judgedJob (r .ground) (r .frame) (r .levels .weights) (r .levels .heights) (length (r .levels .weights))
 
 pub record SheetKept (s : List ℕ) : Type 0 where
   pub sheet : Sheet
@@ -37,7 +37,7 @@ sheet-kept s none = read (readSheet s) refl
     job r e (refused n p) j =
         absurd (none n p
         (read-listed s r e
-        ∙ ap listing (job-refused (r .site) (r .frame) (r .levels .weights) (r .levels .heights) (length (r .levels .weights)) j)))
+        ∙ ap listing (job-refused (r .ground) (r .frame) (r .levels .weights) (r .levels .heights) (length (r .levels .weights)) j)))
     job r e (accepted g) j =
         record {
           sheet = r;
@@ -46,8 +46,8 @@ sheet-kept s none = read (readSheet s) refl
           judged = j;
           printed =
               read-listed s r e
-              ∙ ap listing (job-accepted (r .site) (r .frame) (r .levels .weights) (r .levels .heights) (length (r .levels .weights)) j);
-          keeps = promised (r .site) (r .frame) (r .levels .weights) (r .levels .heights) (length (r .levels .weights)) g j;
+              ∙ ap listing (job-accepted (r .ground) (r .frame) (r .levels .weights) (r .levels .heights) (length (r .levels .weights)) j);
+          keeps = promised (r .ground) (r .frame) (r .levels .weights) (r .levels .heights) (length (r .levels .weights)) g j;
         }
 
     read : (o : Outcome Sheet) → readSheet s ≡ o → SheetKept s

@@ -3,6 +3,7 @@
 use mathlib.Core.Path.{_≡_, refl, ap, _∙_}
 use mathlib.Core.List.{List, [], _∷_, _++_}
 use Prim.Native.Nat.{ℕ}
+use Rattle.limits.specs.declared.ground.GroundValues.the-variants.{Site}
 use Rattle.limits.specs.Outcome.{Outcome, accepted, refused, _>>=_}
 use Rattle.limits.specs.Ranges.{inRange}
 use Rattle.text.specs.Bytes.{bytes}
@@ -22,7 +23,7 @@ office =
     ++ (bytes "level\t5000\t100\n" ++ (bytes "level\t5000\t200\n" ++ bytes "level\t5000\t300\n")))
 
 pub office-read : readSheet office ≡ accepted (record {
-  site = record { ssd = 80; s1d = 45; ssm = 100; s1m = 55; na = 100; nv = 100; class = 1 };
+  ground = Site (record { ssd = 80; s1d = 45; ssm = 100; s1m = 55; na = 100; nv = 100; class = 1 });
   frame = record { kind = 2; calculated = 1_000; r = 480; i = 100; alpha = 150 };
   levels = record { weights = 5_000 ∷ 5_000 ∷ 5_000 ∷ []; heights = 100 ∷ 200 ∷ 300 ∷ [] };
 })

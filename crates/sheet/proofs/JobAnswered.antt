@@ -11,8 +11,8 @@ use lib.Dec.{leb}
 use lib.ListN.{length, take}
 use borrow.Author.Tests.{leb-true, leb-false, le-leb, lt-leb}
 use Rattle.limits.specs.declared.frame.FrameValues.{FrameValues}
+use Rattle.limits.specs.declared.ground.GroundValues.{GroundValues}
 use Rattle.limits.specs.declared.refusal.Refusal.{Refusal}
-use Rattle.limits.specs.declared.site.SiteValues.{SiteValues}
 use Rattle.limits.specs.Judging.{judgedJob}
 use Rattle.limits.specs.Levels.{judgedLevels}
 use Rattle.limits.specs.Outcome.{accepted, refused, zeros}
@@ -30,12 +30,12 @@ use Rattle.sheet.specs.Listing.{Levelled}
 abbrev pub lent : Buffers
 lent = record { forces = zeros 50; shears = zeros 50; overturnings = zeros 50 }
 
-pub too-many : (s : SiteValues) (f : FrameValues) (ws hs : List ℕ) (room : ℕ) → 50 < length ws
+pub too-many : (s : GroundValues) (f : FrameValues) (ws hs : List ℕ) (room : ℕ) → 50 < length ws
     → judgedJob s f ws hs room ≡ refused 1 0
 unfolding judgedJob judgedLevels within inRange
 too-many s f ws hs room h = simp (le-leb 1 (length ws) (omega arith), lt-leb (length ws) 50 h)
 
-module _ (s : SiteValues) (f : FrameValues) (ws hs : List ℕ) where
+module _ (s : GroundValues) (f : FrameValues) (ws hs : List ℕ) where
   room : judgedJob s f ws hs (length ws) ≡ judgedJob s f ws hs 50
   room = go (leb (length ws) 50) refl
     where

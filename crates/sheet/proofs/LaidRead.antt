@@ -1,20 +1,23 @@
 -- A sheet that is laid out as the document says is read, and gives back its numbers: `laid-lines-read` of a sheet's form.
 -- Assumes nothing.
-use mathlib.Core.Path.{_≡_, refl, ap, _∙_}
-use mathlib.Core.List.{List, [], _∷_, List·Memᴰ·head}
+use mathlib.Core.Path.{_≡_, refl, ap, ap₂, _∙_}
+use mathlib.Core.List.{List, [], _∷_, List·Memᴰ, List·Memᴰ·head, List·Memᴰ·tail}
 use Prim.Native.Nat.{ℕ, zero, suc, _≤_, _<_}
 use native.Mathlib.Nat.{suc-inj}
 use native.Mathlib.Omega.{arith}
 use lib.ListN.{length}
 use borrow.Author.Tests.{le-leb, lt-leb}
+use Rattle.limits.specs.declared.ground.GroundValues.{GroundValues}
+use Rattle.limits.specs.declared.ground.GroundValues.the-variants.{Site, Basin}
 use Rattle.limits.specs.Outcome.{Outcome, accepted, refused, _>>=_}
+use Rattle.text.specs.Reading.{starts}
 use Rattle.text.specs.Writing.{AllShort}
 use Rattle.sheet.proofs.Lines.{WordedForm, laid-lines-read}
 use Rattle.sheet.proofs.OneLine.{no-word, and-word}
-use Rattle.sheet.specs.Laid.{levelLinesOf, linesOf, sheetLaid, Laid}
-use Rattle.sheet.specs.Layouts.{Line, past, linesLaid, LaidLines}
+use Rattle.sheet.specs.Laid.{groundLine, levelLinesOf, linesOf, sheetLaid, Laid}
+use Rattle.sheet.specs.Layouts.{Line, layoutOf, firstOf, past, linesLaid, LaidLines}
 use Rattle.sheet.specs.Reading.{sheetLines, readSheet}
-use Rattle.sheet.specs.Sheet.{sheetForm, levelForm, siteLayout, frameLayout, levelLayout, Levels, levelsOf, Sheet, sheetOf}
+use Rattle.sheet.specs.Sheet.{sheetForm, levelForm, siteLayout, basinLayout, frameLayout, levelLayout, groundOf, Levels, levelsOf, Sheet, sheetOf}
 
 -- ---- 17 before everything
 module _ (s : List ℕ) where
@@ -35,7 +38,7 @@ frame-worded zero = and-word frameLayout (omega arith) no-word
 frame-worded (suc i) = level-worded i
 
 pub sheet-worded : WordedForm sheetForm
-sheet-worded zero = and-word siteLayout (omega arith) no-word
+sheet-worded zero = and-word siteLayout (omega arith) (and-word basinLayout (omega arith) no-word)
 sheet-worded (suc i) = frame-worded i
 
 -- ---- the lines of what a sheet holds
@@ -52,6 +55,16 @@ levels-back (w ∷ ws) [] e = absurd (let z : ⊥ = omega arith in z)
 levels-back (w ∷ ws) (h ∷ hs) e =
     ap (λ (ls : Levels). record { weights = w ∷ ls .weights; heights = h ∷ ls .heights }) (levels-back ws hs (suc-inj e))
 
+-- ---- line 1
+ground-laid : (g : GroundValues) → List·Memᴰ (layoutOf (groundLine g)) (firstOf sheetForm)
+ground-laid (Site v) = List·Memᴰ·head refl
+ground-laid (Basin z) = List·Memᴰ·tail (List·Memᴰ·head refl)
+
+ground-same : (g : GroundValues) → groundOf (groundLine g) ≡ g
+unfolding starts
+ground-same (Site v) = refl
+ground-same (Basin z) = refl
+
 -- lines that are laid out are read, and hold what they hold
 pub lines-held : (ls : List Line) → LaidLines sheetForm ls → sheetLines (linesLaid ls) ≡ accepted (sheetOf ls)
 unfolding sheetLines
@@ -65,11 +78,11 @@ unfolding sheetLaid
 laid-read r l =
     sheet-lines (linesLaid (linesOf r)) (l .fits)
     ∙ lines-held (linesOf r) (
-      record { layout = List·Memᴰ·head refl; short = l .site },
+      record { layout = ground-laid (r .ground); short = l .ground },
       (
         record { layout = List·Memᴰ·head refl; short = l .frame },
         levels-laid (r .levels .weights) (r .levels .heights) (l .weights) (l .heights),
       ),
     )
-    ∙ ap (λ (ls : Levels). accepted (record { site = r .site; frame = r .frame; levels = ls }))
-    (levels-back (r .levels .weights) (r .levels .heights) (l .same))
+    ∙ ap₂ (λ (g : GroundValues) (ls : Levels). accepted (record { ground = g; frame = r .frame; levels = ls }))
+    (ground-same (r .ground)) (levels-back (r .levels .weights) (r .levels .heights) (l .same))

@@ -43,16 +43,16 @@ unfolding listing
 refused-short n p = refusal-room n p
 
 job-short : (r : Sheet) → length (listing (jobOfSheet r)) ≤ longest
-job-short r = go (judgedJob (r .site) (r .frame) (r .levels .weights) (r .levels .heights) (length (r .levels .weights))) refl
+job-short r = go (judgedJob (r .ground) (r .frame) (r .levels .weights) (r .levels .heights) (length (r .levels .weights))) refl
   where
-    go : (o : Outcome Given) → judgedJob (r .site) (r .frame) (r .levels .weights) (r .levels .heights) (length (r .levels .weights)) ≡ o
+    go : (o : Outcome Given) → judgedJob (r .ground) (r .frame) (r .levels .weights) (r .levels .heights) (length (r .levels .weights)) ≡ o
         → length (listing (jobOfSheet r)) ≤ longest
     go (accepted g) e =
-        let few = given-allowed (r .site) (r .frame) (r .levels .weights) (r .levels .heights) (length (r .levels .weights)) g e .0 .levels .few in
-        rw (job-accepted (r .site) (r .frame) (r .levels .weights) (r .levels .heights) (length (r .levels .weights)) e)
+        let few = given-allowed (r .ground) (r .frame) (r .levels .weights) (r .levels .heights) (length (r .levels .weights)) g e .0 .levels .few in
+        rw (job-accepted (r .ground) (r .frame) (r .levels .weights) (r .levels .heights) (length (r .levels .weights)) e)
         (results-short _ (r .levels .weights) (r .levels .heights) few)
     go (refused n p) e =
-        rw (job-refused (r .site) (r .frame) (r .levels .weights) (r .levels .heights) (length (r .levels .weights)) e) (refused-short n p)
+        rw (job-refused (r .ground) (r .frame) (r .levels .weights) (r .levels .heights) (length (r .levels .weights)) e) (refused-short n p)
 
 pub listing-short : (s : List ℕ) → length (sheetListing s) ≤ longest
 unfolding sheetListing

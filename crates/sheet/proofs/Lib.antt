@@ -7,6 +7,8 @@ pub mod Otherwise
 pub mod Foremost
 pub mod LevelLine
 pub mod Gathering
+pub mod Fitting
+pub mod GroundLine
 pub mod Stages
 pub mod Listings
 pub mod JobAnswered

@@ -32,12 +32,12 @@ module _ (r : Sheet) where
   laid-job l = read-listed (sheetLaid r) r (laid-read r l)
 
   pub laid-listed : ((n p : ℕ) → JobApplies r n p → ⊥)
-      → (g : Given) × (judgedJob (r .site) (r .frame) (r .levels .weights) (r .levels .heights) (length (r .levels .weights)) ≡ accepted g)
+      → (g : Given) × (judgedJob (r .ground) (r .frame) (r .levels .weights) (r .levels .heights) (length (r .levels .weights)) ≡ accepted g)
       × (sheetListing (sheetLaid r) ≡ listing (accepted (resultsOf g (r .levels .weights) (r .levels .heights))))
   laid-listed none =
-      let j = accepted-unless-refused (r .site) (r .frame) (r .levels .weights) (r .levels .heights) (length (r .levels .weights)) none in (
+      let j = accepted-unless-refused (r .ground) (r .frame) (r .levels .weights) (r .levels .heights) (length (r .levels .weights)) none in (
         j .0,
         j .1,
         laid-job (allowed-laid r (length (r .levels .weights)) (j .0) (j .1))
-            ∙ ap listing (job-accepted (r .site) (r .frame) (r .levels .weights) (r .levels .heights) (length (r .levels .weights)) (j .1)),
+            ∙ ap listing (job-accepted (r .ground) (r .frame) (r .levels .weights) (r .levels .heights) (length (r .levels .weights)) (j .1)),
       )

@@ -2,7 +2,8 @@
 -- again from what it holds.
 -- Assumes nothing.
 use mathlib.Core.Path.{_≡_, refl, sym, ap, ap₂, subst, _∙_}
-use mathlib.Core.List.{List, [], _∷_, List·Memᴰ·eq-of-singleton}
+use mathlib.Core.List.{List, [], _∷_, List·Memᴰ·cases-cons, List·Memᴰ·eq-of-singleton}
+use mathlib.Core.Logic.{⊎-elim}
 use Prim.Native.Nat.{ℕ, suc, _≤_}
 use lib.Dec.{leb}
 use lib.ListN.{length, getD, length-map}
@@ -10,15 +11,18 @@ use lib.Seq.{ext-getD}
 use borrow.Author.Tests.{leb-true}
 use Rattle.whole.specs.Cells.{cells}
 use Rattle.whole.proofs.Cells.{cells-length, cells-at}
+use Rattle.limits.specs.declared.ground.GroundValues.{GroundValues}
+use Rattle.limits.specs.declared.ground.GroundValues.the-variants.{Site, Basin}
 use Rattle.limits.specs.Outcome.{accepted, require}
 use Rattle.limits.proofs.Passed.{differ, one-value, bind-passed, then-passed, require-passed}
+use Rattle.text.specs.Reading.{starts}
 use Rattle.text.specs.Writing.{AllShort}
 use Rattle.sheet.proofs.Lines.{read-lines-laid}
-use Rattle.sheet.specs.Laid.{levelLinesOf, linesOf, sheetLaid, Laid}
-use Rattle.sheet.specs.Layouts.{Layout, Line, linesLaid, LaidLine, LaidLines}
+use Rattle.sheet.specs.Laid.{groundLine, levelLinesOf, linesOf, sheetLaid, Laid}
+use Rattle.sheet.specs.Layouts.{Layout, Line, layoutOf, linesLaid, LaidLine, LaidLines}
 use Rattle.sheet.specs.Lines.{readFrom}
 use Rattle.sheet.specs.Reading.{sheetLines, readSheet}
-use Rattle.sheet.specs.Sheet.{siteLayout, frameLayout, levelLayout, sheetForm, levelForm}
+use Rattle.sheet.specs.Sheet.{siteLayout, basinLayout, frameLayout, levelLayout, sheetForm, levelForm, siteValues, groundOf}
 use Rattle.sheet.specs.Sheet.{levelsOf, Sheet, sheetOf}
 
 -- ---- the lines of a sheet that is read
@@ -54,17 +58,42 @@ numbers-back ns k e =
     ext-getD 0 (cells (λ i. getD ns i 0) k) ns (cells-length (λ i. getD ns i 0) k ∙ sym e)
     (λ i h. cells-at (λ i. getD ns i 0) k i (rw (cells-length (λ i. getD ns i 0) k) at h))
 
-module _ (k : Layout) {l : Line} (t : LaidLine (k ∷ []) l) where
+module _ (k : Layout) (l : Line) (e : layoutOf l ≡ k) where
   line-back : record { word = k .word; numbers = cells (λ i. getD (l .numbers) i 0) (k .numbers) } ≡ l
   line-back =
-      let e = List·Memᴰ·eq-of-singleton (t .layout) in
       λ i. record {
         word = ap (λ (j : Layout). j .word) (sym e) i;
         numbers = numbers-back (l .numbers) (k .numbers) (ap (λ (j : Layout). j .numbers) e) i;
       }
 
-  short-back : AllShort (cells (λ i. getD (l .numbers) i 0) (k .numbers))
-  short-back = subst (λ (x : Line). AllShort (x .numbers)) (sym line-back) (t .short)
+  short-back : AllShort (l .numbers) → AllShort (cells (λ i. getD (l .numbers) i 0) (k .numbers))
+  short-back t = subst (λ (x : Line). AllShort (x .numbers)) (sym line-back) t
+
+only-layout : {k : Layout} {l : Line} → LaidLine (k ∷ []) l → layoutOf l ≡ k
+only-layout t = List·Memᴰ·eq-of-singleton (t .layout)
+
+-- ---- line 1, by the word that it has
+pub record GroundBack (l : Line) : Type 0 where
+  pub line : groundLine (groundOf l) ≡ l
+  pub short : AllShort (groundLine (groundOf l) .numbers)
+
+module _ (l : Line) (short : AllShort (l .numbers)) where
+  known : (g : GroundValues) → groundOf l ≡ g → groundLine g ≡ l → GroundBack l
+  known g same back =
+      let line : groundLine (groundOf l) ≡ l = ap groundLine same ∙ back in
+      record { line = line; short = subst (λ (x : Line). AllShort (x .numbers)) (sym line) short }
+
+  on-site : layoutOf l ≡ siteLayout → GroundBack l
+  unfolding cells starts
+  on-site e = known (Site (siteValues (l .numbers))) (rw (ap (λ (k : Layout). k .word) e)) (line-back siteLayout l e)
+
+  in-basin : layoutOf l ≡ basinLayout → GroundBack l
+  unfolding cells starts
+  in-basin e = known (Basin (getD (l .numbers) 0 0)) (rw (ap (λ (k : Layout). k .word) e)) (line-back basinLayout l e)
+
+ground-back : (l : Line) → LaidLine (siteLayout ∷ basinLayout ∷ []) l → GroundBack l
+ground-back l t =
+    ⊎-elim (on-site l (t .short)) (λ m. in-basin l (t .short) (List·Memᴰ·eq-of-singleton m)) (List·Memᴰ·cases-cons (t .layout))
 
 -- ---- the level lines
 pub record LevelsBack (ls : List Line) : Type 0 where
@@ -76,10 +105,11 @@ levels-back : (ls : List Line) → LaidLines levelForm ls → LevelsBack ls
 unfolding cells
 levels-back [] t = record { lines = refl; weights = tt; heights = tt }
 levels-back (l ∷ ls) t =
-    let two = short-back levelLayout (t .0) in
+    let e = only-layout (t .0) in
+    let two = short-back levelLayout l e (t .0 .short) in
     let later = levels-back ls (t .1) in
     record {
-      lines = ap₂ (λ (x : Line) (xs : List Line). x ∷ xs) (line-back levelLayout (t .0)) (later .lines);
+      lines = ap₂ (λ (x : Line) (xs : List Line). x ∷ xs) (line-back levelLayout l e) (later .lines);
       weights = (two .0, later .weights);
       heights = (two .1 .0, later .heights);
     }
@@ -92,12 +122,14 @@ sheet-back [] t fits = absurd (differ (sym t))
 sheet-back (a ∷ []) t fits = absurd (differ (sym (t .1)))
 sheet-back (a ∷ b ∷ ls) t fits =
     let later = levels-back ls (t .1 .1) in
+    let ground = ground-back a (t .0) in
+    let e = only-layout (t .1 .0) in
     let same : linesOf (sheetOf (a ∷ b ∷ ls)) ≡ a ∷ b ∷ ls =
-    λ i. line-back siteLayout (t .0) i ∷ line-back frameLayout (t .1 .0) i ∷ later .lines i in (
+    λ i. ground .line i ∷ line-back frameLayout b e i ∷ later .lines i in (
       ap linesLaid (sym same),
       record {
-        site = short-back siteLayout (t .0);
-        frame = short-back frameLayout (t .1 .0);
+        ground = ground .short;
+        frame = short-back frameLayout b e (t .1 .0 .short);
         weights = later .weights;
         heights = later .heights;
         same = simp length-map;

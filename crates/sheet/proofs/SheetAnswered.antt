@@ -11,8 +11,8 @@ use lib.Seq.{take-all}
 use borrow.Author.Tests.{leb-true, leb-false}
 use Rattle.whole.proofs.Cells.{laid-part}
 use Rattle.limits.specs.declared.frame.FrameValues.{FrameValues}
+use Rattle.limits.specs.declared.ground.GroundValues.{GroundValues}
 use Rattle.limits.specs.declared.refusal.Refusal.{Refusal}
-use Rattle.limits.specs.declared.site.SiteValues.{SiteValues}
 use Rattle.limits.specs.Outcome.{Outcome, accepted, refused, zeros, Done, _>>=_}
 use Rattle.limits.proofs.Passed.{never}
 use Rattle.job.specs.Job.{jobOf}
@@ -29,10 +29,10 @@ use Rattle.sheet.proofs.ReadLaid.{read-same}
 use Rattle.sheet.proofs.Refused.{answer-refused}
 
 -- ---- an answer, once it is known
-abbrev keptSheet : Sheet → SiteValues × (FrameValues × ℕ)
-keptSheet r = (r .site, (r .frame, length (kept (r .levels .weights))))
+abbrev keptSheet : Sheet → GroundValues × (FrameValues × ℕ)
+keptSheet r = (r .ground, (r .frame, length (kept (r .levels .weights))))
 
--- it says the outcome: site, frame, and how many levels are kept
+-- it says the outcome: ground, frame, and how many levels are kept
 pub sheet-said : (o : Outcome Sheet) → sheetOutcome (sheetRead o .answer) ≡ (o >>= λ r. accepted (keptSheet r))
 unfolding sheetRead
 sheet-said (accepted r) = refl
@@ -42,16 +42,16 @@ said-refused : (o : Outcome Sheet) (c : SheetRead) (f : Refusal) → c ≡ sheet
     → o ≡ refused (f .number) (f .place)
 said-refused o c f e m = answer-refused keptSheet sheetRead (λ (x : SheetRead). sheetOutcome (x .answer)) sheet-said o c e (ap sheetOutcome m)
 
-pub record SheetTaken (o : Outcome Sheet) (c : SheetRead) (v : SiteValues) (f : FrameValues) (n : ℕ) : Type 0 where
+pub record SheetTaken (o : Outcome Sheet) (c : SheetRead) (v : GroundValues) (f : FrameValues) (n : ℕ) : Type 0 where
   pub read : Sheet
   pub is : o ≡ accepted read
-  pub site : read .site ≡ v
+  pub ground : read .ground ≡ v
   pub frame : read .frame ≡ f
   pub count : length (kept (read .levels .weights)) ≡ n
   pub weights : c .weights ≡ cellsOf (read .levels .weights)
   pub heights : c .heights ≡ cellsOf (read .levels .heights)
 
-said-taken : (o : Outcome Sheet) (c : SheetRead) (v : SiteValues) (f : FrameValues) (n : ℕ) → c ≡ sheetRead o
+said-taken : (o : Outcome Sheet) (c : SheetRead) (v : GroundValues) (f : FrameValues) (n : ℕ) → c ≡ sheetRead o
     → c .answer ≡ Taken v f n
     → SheetTaken o c v f n
 unfolding sheetRead
@@ -60,7 +60,7 @@ said-taken (accepted r) c v f n e m =
     record {
       read = r;
       is = refl;
-      site = cc;
+      ground = cc;
       frame = cc;
       count = cc;
       weights = ap (λ (x : SheetRead). x .weights) e;
@@ -70,7 +70,7 @@ said-taken (refused k p) c v f n e m = absurd (never (ap sheetOutcome (sym (ap (
 
 -- ---- the outcome, by what the code holds
 -- the job of the levels that are kept is the job of all: where some are not kept, both are refused by their count
-kept-job : (v : SiteValues) (f : FrameValues) (ws hs : List ℕ) → length hs ≡ length ws
+kept-job : (v : GroundValues) (f : FrameValues) (ws hs : List ℕ) → length hs ≡ length ws
     → jobOf v f (kept ws) (kept hs) (length (kept ws)) ≡ jobOf v f ws hs (length ws)
 kept-job v f ws hs same = go (leb (length ws) 50) refl
   where
@@ -84,14 +84,14 @@ kept-job v f ws hs same = go (leb (length ws) 50) refl
         job-refused v f (kept ws) (kept hs) _ (too-many v f (kept ws) (kept hs) _ (omega arith))
         ∙ sym (job-refused v f ws hs _ (too-many v f ws hs _ many))
 
-sheet-job : (s : List ℕ) (r : Sheet) {v : SiteValues} {f : FrameValues} {ws hs : List ℕ} → readSheet s ≡ accepted r
-    → r .site ≡ v → r .frame ≡ f → ws ≡ kept (r .levels .weights) → hs ≡ kept (r .levels .heights)
+sheet-job : (s : List ℕ) (r : Sheet) {v : GroundValues} {f : FrameValues} {ws hs : List ℕ} → readSheet s ≡ accepted r
+    → r .ground ≡ v → r .frame ≡ f → ws ≡ kept (r .levels .weights) → hs ≡ kept (r .levels .heights)
     → length (r .levels .heights) ≡ length (r .levels .weights) → jobOf v f ws hs (length ws) ≡ outcomeOf s
 sheet-job s r e ev ef ew eh same =
-    rw (ew, eh, ← ev, ← ef, e) (kept-job (r .site) (r .frame) (r .levels .weights) (r .levels .heights) same)
+    rw (ew, eh, ← ev, ← ef, e) (kept-job (r .ground) (r .frame) (r .levels .weights) (r .levels .heights) same)
 
 -- the job of the first cells
-pub record SheetJob (s : List ℕ) (c : SheetRead) (v : SiteValues) (f : FrameValues) (n : ℕ) : Type 0 where
+pub record SheetJob (s : List ℕ) (c : SheetRead) (v : GroundValues) (f : FrameValues) (n : ℕ) : Type 0 where
   pub weights-room : n ≤ length (c .weights)
   pub heights-room : n ≤ length (c .heights)
   pub weights-length : length (take n (c .weights)) ≡ n
@@ -102,7 +102,7 @@ module _ (s : List ℕ) (c : SheetRead) (e : c ≡ sheetRead (readSheet s)) wher
   pub sheet-refused : (f : Refusal) → c .answer ≡ Refused f → outcomeOf s ≡ refused (f .number) (f .place)
   sheet-refused f m = ap (λ (o : Outcome Sheet). o >>= jobOfSheet) (said-refused (readSheet s) c f e m)
 
-  module _ (v : SiteValues) (f : FrameValues) (n : ℕ) (m : c .answer ≡ Taken v f n) where
+  module _ (v : GroundValues) (f : FrameValues) (n : ℕ) (m : c .answer ≡ Taken v f n) where
     held : SheetTaken (readSheet s) c v f n
     held = said-taken (readSheet s) c v f n e m
 
@@ -133,5 +133,5 @@ module _ (s : List ℕ) (c : SheetRead) (e : c ≡ sheetRead (readSheet s)) wher
           heights-room = omega (arith, ap length (held .heights), kept-length (zeros keptMost) hs, length-take keptMost hs, as-many);
           weights-length = ap length weights-cut ∙ held .count;
           heights-length = ap length heights-cut ∙ as-many;
-          outcome = sheet-job s (held .read) (held .is) (held .site) (held .frame) weights-cut heights-cut same;
+          outcome = sheet-job s (held .read) (held .is) (held .ground) (held .frame) weights-cut heights-cut same;
         }

@@ -67,7 +67,7 @@ pub record Puts (o : Outcome Results) (old held : List ℕ) (p : Put) : Type 0 w
   pub refusal-is : p .refusal ≡ refusalOf o
 
 abbrev pub jobOfSheet : Sheet → Outcome Results
-jobOfSheet r = jobOf (r .site) (r .frame) (r .levels .weights) (r .levels .heights) (length (r .levels .weights))
+jobOfSheet r = jobOf (r .ground) (r .frame) (r .levels .weights) (r .levels .heights) (length (r .levels .weights))
 
 abbrev pub outcomeOf : List ℕ → Outcome Results
 outcomeOf s = readSheet s >>= jobOfSheet

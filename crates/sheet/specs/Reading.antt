@@ -4,9 +4,11 @@
 --   readSheet bytes        17 at 0 where there are over 4,096 bytes; else what the lines hold
 --   keptMost               how many levels are kept: one more than a job may have, so that the job can refuse the count
 --   kept l, cellsOf l      the first of a list, as many as are kept; in as many cells, zeros in the rest
+--   groundLineAnswer o q       the code's answer to the readings of line 1, o as a site line and q as a basin line: the ground, and where
+--                          the next line begins
 --   levelLineAnswer c o        the code's answer to the reading o of a level line from c on: weight, height, where the next begins
 --   levelsRead o, sheetRead o          the code's answer to the outcome o, its weights and heights in cells
---   levelsOutcome a, sheetOutcome a    what the code's answer a says: how many levels are kept, with site and frame of a sheet;
+--   levelsOutcome a, sheetOutcome a    what the code's answer a says: how many levels are kept, with ground and frame of a sheet;
 --                          or the refusal
 -- A sheet without level lines is read: 1 is refused by the job.
 use mathlib.Core.List.{List}
@@ -15,10 +17,13 @@ use lib.Dec.{leb}
 use lib.ListN.{length, getD, take}
 use Rattle.whole.specs.Cells.{laid}
 use Rattle.limits.specs.declared.frame.FrameValues.{FrameValues}
-use Rattle.limits.specs.declared.site.SiteValues.{SiteValues}
+use Rattle.limits.specs.declared.ground.GroundValues.{GroundValues}
+use Rattle.limits.specs.declared.ground.GroundValues.the-variants.{Site, Basin}
 use Rattle.limits.specs.Outcome.{Outcome, accepted, refused, zeros, require, _>>=_, _>>_}
 use Rattle.text.specs.Reading.{Reading, found, otherwise, after}
 use Rattle.text.specs.declared.reading.Cursor.{Cursor}
+use Rattle.sheet.specs.declared.reader.GroundLineAnswer.{GroundLineAnswer}
+use Rattle.sheet.specs.declared.reader.GroundLineAnswer.the-variants.{Found as FoundGround, Otherwise as NoGround}
 use Rattle.sheet.specs.declared.levels.LevelLineAnswer.{LevelLineAnswer}
 use Rattle.sheet.specs.declared.levels.LevelLineAnswer.the-variants.{Found, Otherwise}
 use Rattle.sheet.specs.declared.levels.LevelsAnswer.{LevelsAnswer}
@@ -28,7 +33,7 @@ use Rattle.sheet.specs.declared.reader.SheetAnswer.{SheetAnswer}
 use Rattle.sheet.specs.declared.reader.SheetAnswer.the-variants.{Taken, Refused}
 use Rattle.sheet.specs.declared.reader.SheetRead.{SheetRead}
 use Rattle.sheet.specs.Lines.{readFrom}
-use Rattle.sheet.specs.Sheet.{sheetForm, levelForm, Levels, levelsOf, Sheet, sheetOf}
+use Rattle.sheet.specs.Sheet.{sheetForm, levelForm, siteValues, Levels, levelsOf, Sheet, sheetOf}
 
 unfoldable pub sheetLines : List ℕ → Outcome Sheet
 sheetLines s = do
@@ -54,6 +59,15 @@ kept l = take keptMost l
 abbrev pub cellsOf : List ℕ → List ℕ
 cellsOf l = laid (kept l) (zeros keptMost)
 
+-- the front of a sheet
+abbrev pub start : Cursor
+start = record { at = 0 }
+
+unfoldable pub groundLineAnswer : Reading (List ℕ) → Reading (List ℕ) → GroundLineAnswer
+groundLineAnswer (found ns n) q = FoundGround (Site (siteValues ns)) (after start n)
+groundLineAnswer otherwise (found ns n) = FoundGround (Basin (getD ns 0 0)) (after start n)
+groundLineAnswer otherwise otherwise = NoGround
+
 unfoldable pub levelLineAnswer : Cursor → Reading (List ℕ) → LevelLineAnswer
 levelLineAnswer c (found ns n) = Found (getD ns 0 0) (getD ns 1 0) (after c n)
 levelLineAnswer c otherwise = Otherwise
@@ -67,7 +81,7 @@ levelsRead (refused n p) =
 unfoldable pub sheetRead : Outcome Sheet → SheetRead
 sheetRead (accepted r) =
     record {
-      answer = Taken (r .site) (r .frame) (length (kept (r .levels .weights)));
+      answer = Taken (r .ground) (r .frame) (length (kept (r .levels .weights)));
       weights = cellsOf (r .levels .weights);
       heights = cellsOf (r .levels .heights);
     }
@@ -78,6 +92,6 @@ abbrev pub levelsOutcome : LevelsAnswer → Outcome ℕ
 levelsOutcome (TakenLevels n) = accepted n
 levelsOutcome (RefusedLevels r) = refused (r .number) (r .place)
 
-abbrev pub sheetOutcome : SheetAnswer → Outcome (SiteValues × (FrameValues × ℕ))
+abbrev pub sheetOutcome : SheetAnswer → Outcome (GroundValues × (FrameValues × ℕ))
 sheetOutcome (Taken s f n) = accepted (s, (f, n))
 sheetOutcome (Refused r) = refused (r .number) (r .place)

@@ -1,8 +1,10 @@
 -- 'Sheet and listing': the lines of a sheet, and what they hold.
---   siteLayout, frameLayout, levelLayout    the layouts of the lines
---   sheetForm          'Line 1 is `site`', 'Line 2 is `frame`', 'All later lines are `level`'
+--   siteLayout, basinLayout, frameLayout, levelLayout    the layouts of the lines
+--   sheetForm          'Line 1 is `site`', or `basin` with the zone in its place; 'Line 2 is `frame`', 'All later lines are
+--                      `level`'
 --   levelForm          the form of the lines after these two
 --   siteValues ns      S_S D, S_1 D, S_S M, S_1 M, N_A, N_V, class
+--   groundOf l         what line 1 holds: the zone where its word is `basin`, else the site
 --   frameValues ns     kind, calculated period, R, I, alpha-y
 --   Levels             weights in kN and heights in dm, lowest level first
 --   levelsOf ls        those of level lines: weight, height
@@ -11,13 +13,20 @@
 use mathlib.Core.List.{List, [], _∷_, map}
 use Prim.Native.Nat.{ℕ}
 use lib.ListN.{getD, drop}
+use Rattle.whole.specs.Choice.{pick}
 use Rattle.limits.specs.declared.frame.FrameValues.{FrameValues}
+use Rattle.limits.specs.declared.ground.GroundValues.{GroundValues}
+use Rattle.limits.specs.declared.ground.GroundValues.the-variants.{Site, Basin}
 use Rattle.limits.specs.declared.site.SiteValues.{SiteValues}
 use Rattle.text.specs.Bytes.{bytes}
+use Rattle.text.specs.Reading.{starts}
 use Rattle.sheet.specs.Layouts.{Layout, Line, Form}
 
 abbrev pub siteLayout : Layout
 siteLayout = record { word = bytes "site"; numbers = 7 }
+
+abbrev pub basinLayout : Layout
+basinLayout = record { word = bytes "basin"; numbers = 1 }
 
 abbrev pub frameLayout : Layout
 frameLayout = record { word = bytes "frame"; numbers = 5 }
@@ -26,7 +35,7 @@ abbrev pub levelLayout : Layout
 levelLayout = record { word = bytes "level"; numbers = 2 }
 
 abbrev pub sheetForm : Form
-sheetForm = record { heads = (siteLayout ∷ []) ∷ (frameLayout ∷ []) ∷ []; later = levelLayout ∷ [] }
+sheetForm = record { heads = (siteLayout ∷ basinLayout ∷ []) ∷ (frameLayout ∷ []) ∷ []; later = levelLayout ∷ [] }
 
 abbrev pub levelForm : Form
 levelForm = record { heads = []; later = levelLayout ∷ [] }
@@ -43,6 +52,9 @@ siteValues ns =
       class = getD ns 6 0;
     }
 
+abbrev pub groundOf : Line → GroundValues
+groundOf l = pick (starts (basinLayout .word) (l .word)) (Basin (getD (l .numbers) 0 0)) (Site (siteValues (l .numbers)))
+
 abbrev pub frameValues : List ℕ → FrameValues
 frameValues ns =
     record { kind = getD ns 0 0; calculated = getD ns 1 0; r = getD ns 2 0; i = getD ns 3 0; alpha = getD ns 4 0 }
@@ -55,14 +67,14 @@ abbrev pub levelsOf : List Line → Levels
 levelsOf ls = record { weights = map (λ l. getD (l .numbers) 0 0) ls; heights = map (λ l. getD (l .numbers) 1 0) ls }
 
 pub record Sheet : Type 0 where
-  pub site : SiteValues
+  pub ground : GroundValues
   pub frame : FrameValues
   pub levels : Levels
 
--- the numbers of line i, from 0
-abbrev pub numbersAt : List Line → ℕ → List ℕ
-numbersAt ls i = getD (map (λ l. l .numbers) ls) i []
+-- line i, from 0
+abbrev pub lineAt : List Line → ℕ → Line
+lineAt ls i = getD ls i (record { word = []; numbers = [] })
 
 abbrev pub sheetOf : List Line → Sheet
 sheetOf ls =
-    record { site = siteValues (numbersAt ls 0); frame = frameValues (numbersAt ls 1); levels = levelsOf (drop 2 ls) }
+    record { ground = groundOf (lineAt ls 0); frame = frameValues (lineAt ls 1 .numbers); levels = levelsOf (drop 2 ls) }

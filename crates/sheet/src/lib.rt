@@ -2,8 +2,8 @@
 use job::JobAnswer;
 use job::job;
 use limits::frame::FrameValues;
+use limits::ground::GroundValues;
 use limits::refusal::Refusal;
-use limits::site::SiteValues;
 use listing::LONGEST;
 use listing::Listing;
 use listing::put_refusal;
@@ -31,19 +31,19 @@ pub struct Put {
 // Does a job and writes its listing. The job refuses over 50 levels before it looks at the buffers.
 pub fn put_job(
     out: &mut [u8],
-    site: SiteValues,
+    ground: GroundValues,
     frame: FrameValues,
     weights: &[u64],
     heights: &[u64],
 ) -> Put
     requires { ⌜ longest ≤ length (now out) ⌝ }
-    ensures { λ p. ⌜ Puts (jobOf site frame (now (weights .entry)) (now (heights .entry)) (length (now (weights .entry)))) (now (out .entry)) (now (out .exit)) p ⌝ }
+    ensures { λ p. ⌜ Puts (jobOf ground frame (now (weights .entry)) (now (heights .entry)) (length (now (weights .entry)))) (now (out .entry)) (now (out .exit)) p ⌝ }
 {
     let mut forces = [0; 50];
     let mut shears = [0; 50];
     let mut overturnings = [0; 50];
     let a = job(
-        site,
+        ground,
         frame,
         weights,
         heights,
@@ -69,14 +69,14 @@ pub fn put_sheet(out: &mut [u8], s: &[u8]) -> Put
 {
     let read = read_sheet(s);
     let a = read.answer;
-    let SheetAnswer::Taken(site, frame, levels) = a else {
+    let SheetAnswer::Taken(ground, frame, levels) = a else {
         let refusal = a.refusal();
         let length = put_refusal(out, refusal);
         return Put { length, refusal };
     };
     let weights = read.weights;
     let heights = read.heights;
-    put_job(out, site, frame, &weights[..levels], &heights[..levels])
+    put_job(out, ground, frame, &weights[..levels], &heights[..levels])
 }
 
 // The bytes that are printed for the bytes of a sheet.

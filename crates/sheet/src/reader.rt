@@ -1,12 +1,14 @@
 // How a sheet is read: line 1, line 2 and the level lines, or 17, then 16.
+use crate::layout::BASIN_NUMBERS;
 use crate::layout::FRAME_LINE;
 use crate::layout::FRAME_NUMBERS;
-use crate::layout::SITE_LINE;
+use crate::layout::GROUND_LINE;
 use crate::layout::SITE_NUMBERS;
 use crate::levels::KEPT;
 use crate::levels::LevelsAnswer;
 use crate::levels::level_lines;
 use limits::frame::FrameValues;
+use limits::ground::GroundValues;
 use limits::refusal::Refusal;
 use limits::sheet::Sheet;
 use limits::site::SiteValues;
@@ -15,12 +17,21 @@ use text::reading::Cursor;
 use text::reading::ReadAnswer;
 ghost use mathlib.Core.Path.{_≡_};
 ghost use Rattle.limits.specs.Outcome.{refused, refusalOf};
-ghost use Rattle.sheet.specs.Reading.{sheetLines, readSheet, sheetRead, sheetOutcome};
+ghost use Rattle.text.specs.Bytes.{bytes};
+ghost use Rattle.text.specs.Line.{line};
+ghost use Rattle.text.specs.Reading.{otherwise};
+ghost use Rattle.sheet.specs.Reading.{groundLineAnswer, sheetLines, readSheet, sheetRead, sheetOutcome};
 ghost use Rattle.sheet.specs.Sheet.{siteValues, frameValues};
 
-// What the site line and the frame line hold, and how many levels are kept; or the refusal.
+// What line 1 holds, and where line 2 begins; or it is otherwise.
+pub enum GroundLineAnswer {
+    Found(GroundValues, Cursor),
+    Otherwise,
+}
+
+// What line 1 and line 2 hold, ground and frame, and how many levels are kept; or the refusal.
 pub enum SheetAnswer {
-    Taken(SiteValues, FrameValues, usize),
+    Taken(GroundValues, FrameValues, usize),
     Refused(Refusal),
 }
 
@@ -81,14 +92,40 @@ fn frame_values(n: [u64; 10]) -> FrameValues
     }
 }
 
+// Line 1, by the first of its two layouts that it fits.
+fn ground_line(s: &[u8]) -> GroundLineAnswer
+    ensures { λ a. ⌜ a ≡ groundLineAnswer (line (bytes "site") 7 (now (s .entry))) (line (bytes "basin") 1 (now (s .entry))) ⌝ }
+{
+    let front = Cursor { at: 0 };
+    let site = line(s, front, b"site", SITE_NUMBERS);
+    let a = site.answer;
+    let ReadAnswer::Found(second) = a else {
+        return basin_line(s);
+    };
+    let numbers = site.numbers;
+    GroundLineAnswer::Found(GroundValues::Site(site_values(numbers)), second)
+}
+
+fn basin_line(s: &[u8]) -> GroundLineAnswer
+    ensures { λ a. ⌜ a ≡ groundLineAnswer otherwise (line (bytes "basin") 1 (now (s .entry))) ⌝ }
+{
+    let front = Cursor { at: 0 };
+    let basin = line(s, front, b"basin", BASIN_NUMBERS);
+    let a = basin.answer;
+    let ReadAnswer::Found(second) = a else {
+        return GroundLineAnswer::Otherwise;
+    };
+    let numbers = basin.numbers;
+    GroundLineAnswer::Found(GroundValues::Basin(numbers[0]), second)
+}
+
 // Line 1, line 2, and all later lines, each from where the one before it ended.
 pub fn sheet_lines(s: &[u8]) -> SheetRead
     ensures { λ r. ⌜ r ≡ sheetRead (sheetLines (now (s .entry))) ⌝ }
 {
-    let first = line(s, Cursor { at: 0 }, b"site", SITE_NUMBERS);
-    let a = first.answer;
-    let ReadAnswer::Found(second) = a else {
-        return SheetRead::stopped(Refusal::LINE, SITE_LINE);
+    let first = ground_line(s);
+    let GroundLineAnswer::Found(ground, second) = first else {
+        return SheetRead::stopped(Refusal::LINE, GROUND_LINE);
     };
     let middle = line(s, second, b"frame", FRAME_NUMBERS);
     let b = middle.answer;
@@ -101,12 +138,11 @@ pub fn sheet_lines(s: &[u8]) -> SheetRead
         let r = l.refusal();
         return SheetRead::stopped(r.number, r.place);
     };
-    let of_site = first.numbers;
     let of_frame = middle.numbers;
     let weights = last.weights;
     let heights = last.heights;
     SheetRead {
-        answer: SheetAnswer::Taken(site_values(of_site), frame_values(of_frame), count),
+        answer: SheetAnswer::Taken(ground, frame_values(of_frame), count),
         weights,
         heights,
     }

@@ -20,13 +20,13 @@ abbrev held : tie.After-job → Buffers
 held c = let l = c .job .last .1 .1 .1 .1 in record { forces = l .0; shears = l .1 .0; overturnings = l .1 .1 .0 }
 
 taken : (c : tie.After-a)
-    → Answers (c .before .before .before .before .before .before .before .before .before .before .before .before .args .site) (c .before .before .before .before .before .before .before .before .before .before .before .before .args .frame) (c .before .before .before .before .before .before .before .before .before .before .before .before .args .weights .now) (c .before .before .before .before .before .before .before .before .before .before .before .before .args .heights .now) lent (Taken (c .a .given .0 .0)) (held (c .before .before .before .before .before))
+    → Answers (c .before .before .before .before .before .before .before .before .before .before .before .before .args .ground) (c .before .before .before .before .before .before .before .before .before .before .before .before .args .frame) (c .before .before .before .before .before .before .before .before .before .before .before .before .args .weights .now) (c .before .before .before .before .before .before .before .before .before .before .before .before .args .heights .now) lent (Taken (c .a .given .0 .0)) (held (c .before .before .before .before .before))
 taken c =
     let g = c .before .before .before .before .before .before .before .before .before .before .before .before .args in
-    subst (λ (x : JobAnswer). Answers (g .site) (g .frame) (g .weights .now) (g .heights .now) lent x (held (c .before .before .before .before .before))) (c .a .given .1) (c .before .before .before .before .before .job .ensures)
+    subst (λ (x : JobAnswer). Answers (g .ground) (g .frame) (g .weights .now) (g .heights .now) lent x (held (c .before .before .before .before .before))) (c .a .given .1) (c .before .before .before .before .before .job .ensures)
 
 few-levels : (c : tie.After-a) → length (c .before .before .before .before .before .before .before .before .before .before .before .before .args .weights .now) ≤ 50
-few-levels c = let g = c .before .before .before .before .before .before .before .before .before .before .before .before .args in few (g .site) (g .frame) (g .weights .now) (g .heights .now) _ _ (taken c)
+few-levels c = let g = c .before .before .before .before .before .before .before .before .before .before .before .before .args in few (g .ground) (g .frame) (g .weights .now) (g .heights .now) _ _ (taken c)
 
 slice-aggregate-job : tie.Need-slice-aggregate-job
 slice-aggregate-job c = search needs
@@ -61,9 +61,9 @@ returns c =
     let g = b .args in
     let h = held (c .before .before .before .before .before .before .before .before .before .before) in
     let told = c .before .before .before .before .before .enum-told .given .1 in
-    let answer = subst (λ (x : JobAnswer). Answers (g .site) (g .frame) (g .weights .now) (g .heights .now) lent x h) told (c .before .before .before .before .before .before .before .before .before .before .job .ensures) in
+    let answer = subst (λ (x : JobAnswer). Answers (g .ground) (g .frame) (g .weights .now) (g .heights .now) lent x h) told (c .before .before .before .before .before .before .before .before .before .before .job .ensures) in
     let same = yielded answerOutcome _ _ told refl (c .before .before .before .before .refusal .ensures) in
-    puts-refused _ (refused-outcome (g .site) (g .frame) (g .weights .now) (g .heights .now) _ h answer ∙ sym (ap (λ (x : Refusal). refused (x .number) (x .place)) same)) (c .before .before .put-refusal .ensures)
+    puts-refused _ (refused-outcome (g .ground) (g .frame) (g .weights .now) (g .heights .now) _ h answer ∙ sym (ap (λ (x : Refusal). refused (x .number) (x .place)) same)) (c .before .before .put-refusal .ensures)
 
 array-share-prefix-forces : tie.Need-array-share-prefix-forces
 array-share-prefix-forces c = omega (arith, few-levels (c .before .before))
@@ -71,7 +71,7 @@ array-share-prefix-forces c = omega (arith, few-levels (c .before .before))
 slice-aggregate-put-results : tie.Need-slice-aggregate-put-results
 slice-aggregate-put-results c =
     let b = c .before .before .before .before .before .before .before .before .before .before .before .before .before .before .before in
-    sym (forces-cut (b .args .site) (b .args .frame) (b .args .weights .now) (b .args .heights .now) _ _ (taken (c .before .before .before)))
+    sym (forces-cut (b .args .ground) (b .args .frame) (b .args .weights .now) (b .args .heights .now) _ _ (taken (c .before .before .before)))
 
 array-share-prefix-shears : tie.Need-array-share-prefix-shears
 array-share-prefix-shears c = omega (arith, few-levels (c .before .before .before))
@@ -79,7 +79,7 @@ array-share-prefix-shears c = omega (arith, few-levels (c .before .before .befor
 slice-aggregate-put-results-2 : tie.Need-slice-aggregate-put-results-2
 slice-aggregate-put-results-2 c =
     let b = c .before .before .before .before .before .before .before .before .before .before .before .before .before .before .before .before in
-    sym (shears-cut (b .args .site) (b .args .frame) (b .args .weights .now) (b .args .heights .now) _ _ (taken (c .before .before .before .before)))
+    sym (shears-cut (b .args .ground) (b .args .frame) (b .args .weights .now) (b .args .heights .now) _ _ (taken (c .before .before .before .before)))
 
 array-share-prefix-overturnings : tie.Need-array-share-prefix-overturnings
 array-share-prefix-overturnings c = omega (arith, few-levels (c .before .before .before .before))
@@ -87,12 +87,12 @@ array-share-prefix-overturnings c = omega (arith, few-levels (c .before .before 
 slice-aggregate-put-results-3 : tie.Need-slice-aggregate-put-results-3
 slice-aggregate-put-results-3 c =
     let b = c .before .before .before .before .before .before .before .before .before .before .before .before .before .before .before .before .before in
-    sym (overturnings-cut (b .args .site) (b .args .frame) (b .args .weights .now) (b .args .heights .now) _ _ (taken (c .before .before .before .before .before)))
+    sym (overturnings-cut (b .args .ground) (b .args .frame) (b .args .weights .now) (b .args .heights .now) _ _ (taken (c .before .before .before .before .before)))
 
 put-results-requires : tie.Need-put-results-requires
 put-results-requires c κs =
     let b = c .before .before .before .before .before .before .before .before .before .before .before .before .before .before .before .before .before in
-    (cut-levelled (b .args .site) (b .args .frame) (b .args .weights .now) (b .args .heights .now) _ _ (taken (c .before .before .before .before .before)), b .pre)
+    (cut-levelled (b .args .ground) (b .args .frame) (b .args .weights .now) (b .args .heights .now) _ _ (taken (c .before .before .before .before .before)), b .pre)
 
 none-requires : tie.Need-none-requires
 none-requires c κs = search needs
@@ -104,7 +104,7 @@ returns-2 : tie.Need-returns-2
 returns-2 c =
     let g = c .before .before .before .before .before .before .before .before .before .before .before .before .before .before .before .before .before .before .before .before .before .args in
     let t = taken (c .before .before .before .before .before .before .before .before .before) in
-    puts-results (cut (g .site) (g .frame) (g .weights .now) (g .heights .now) _ _ t) (taken-outcome (g .site) (g .frame) (g .weights .now) (g .heights .now) _ _ t) (c .none .ensures) (c .before .before .before .put-results .ensures)
+    puts-results (cut (g .ground) (g .frame) (g .weights .now) (g .heights .now) _ _ t) (taken-outcome (g .ground) (g .frame) (g .weights .now) (g .heights .now) _ _ t) (c .none .ensures) (c .before .before .before .put-results .ensures)
 
 pub put-job-spec : {M : Type 1} → statement M
 put-job-spec =
