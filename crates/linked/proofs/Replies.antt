@@ -1,4 +1,4 @@
--- What is replied is what the core answered to the lines' numbers; and no second reply meets the contracts.
+-- What is replied is what the core answered to the ground and the frame line; and no second reply meets the contracts.
 -- Assumes nothing.
 use mathlib.Core.Path.{_≡_, refl, sym, ap, ap₂, subst, _∙_}
 use mathlib.Core.List.{List, [], _∷_}
@@ -7,15 +7,15 @@ use lib.ListN.{length}
 use Rattle.whole.specs.Cells.{laid}
 use Rattle.whole.proofs.Unique.{determined}
 use Rattle.limits.specs.declared.frame.FrameValues.{FrameValues}
+use Rattle.limits.specs.declared.ground.GroundValues.{GroundValues}
 use Rattle.limits.specs.declared.refusal.Refusal.{Refusal}
-use Rattle.limits.specs.declared.site.SiteValues.{SiteValues}
 use Rattle.limits.specs.Outcome.{Outcome, accepted, refused, number, place, refusalOf}
 use Rattle.job.specs.declared.JobAnswer.{JobAnswer}
 use Rattle.job.specs.Job.{Results, jobOf, figuresOnly, answerOutcome, Buffers, shortest, written, Figured, Answers}
 use Rattle.job.proofs.Calls.{answerOf, says-outcome}
 use Rattle.sheet.specs.declared.Put.{Put}
 use Rattle.sheet.specs.Listing.{refusal, listing, outcomeOf, sheetListing, Puts}
-use Rattle.sheet.specs.Sheet.{siteValues, frameValues}
+use Rattle.sheet.specs.Sheet.{frameValues}
 use Rattle.linked.specs.Linked.{Replies, FiguresReply, JobReplies, FiguresReplies, LogReplies, SheetReplies}
 
 -- ---- a reply to an outcome is one to an equal outcome, and there is no second
@@ -27,38 +27,38 @@ module _ {A : Type 0} {f : A → List ℕ} {k : ℕ} where
       → (n ≡ n′) × (r ≡ r′)
   replies-unique t t′ = (determined (t .returned) (t′ .returned), determined (t .replied) (t′ .replied))
 
-module _ (l m ws hs : List ℕ) where
-  pub job-replies : (s : SiteValues) (f : FrameValues) (b : Buffers) (a : JobAnswer) (b′ : Buffers) {n : ℕ} {r : List ℕ}
-      → s ≡ siteValues l → f ≡ frameValues m → Answers s f ws hs b a b′ → FiguresReply (answerOutcome a) n r
-      → JobReplies l m ws hs b n r b′
+module _ (g : GroundValues) (m ws hs : List ℕ) where
+  pub job-replies : (s : GroundValues) (f : FrameValues) (b : Buffers) (a : JobAnswer) (b′ : Buffers) {n : ℕ} {r : List ℕ}
+      → s ≡ g → f ≡ frameValues m → Answers s f ws hs b a b′ → FiguresReply (answerOutcome a) n r
+      → JobReplies g m ws hs b n r b′
   job-replies s f b a b′ es ef t p =
-      let o = ap₂ (λ (s : SiteValues) (f : FrameValues). jobOf s f ws hs (shortest b)) es ef in
+      let o = ap₂ (λ (s : GroundValues) (f : FrameValues). jobOf s f ws hs (shortest b)) es ef in
       (replies-as (t .0 ∙ ap figuresOnly o) p, t .1 ∙ ap (λ x. written x b) o)
 
-  pub figures-replies : (s : SiteValues) (f : FrameValues) (a : JobAnswer) {n : ℕ} {r : List ℕ} → s ≡ siteValues l
-      → f ≡ frameValues m → Figured s f ws hs a → FiguresReply (answerOutcome a) n r → FiguresReplies l m ws hs n r
+  pub figures-replies : (s : GroundValues) (f : FrameValues) (a : JobAnswer) {n : ℕ} {r : List ℕ} → s ≡ g
+      → f ≡ frameValues m → Figured s f ws hs a → FiguresReply (answerOutcome a) n r → FiguresReplies g m ws hs n r
   figures-replies s f a es ef t p =
-      replies-as (t ∙ ap figuresOnly (ap₂ (λ (s : SiteValues) (f : FrameValues). jobOf s f ws hs (length ws)) es ef)) p
+      replies-as (t ∙ ap figuresOnly (ap₂ (λ (s : GroundValues) (f : FrameValues). jobOf s f ws hs (length ws)) es ef)) p
 
   -- and the other way: what is proved of an answer of the core holds of the reply that says it
-  pub replied-answers : (b : Buffers) (n : ℕ) (r : List ℕ) (b′ : Buffers) → JobReplies l m ws hs b n r b′
-      → (a : JobAnswer) × Answers (siteValues l) (frameValues m) ws hs b a b′ × FiguresReply (answerOutcome a) n r
+  pub replied-answers : (b : Buffers) (n : ℕ) (r : List ℕ) (b′ : Buffers) → JobReplies g m ws hs b n r b′
+      → (a : JobAnswer) × Answers g (frameValues m) ws hs b a b′ × FiguresReply (answerOutcome a) n r
   replied-answers b n r b′ p =
-      let o = figuresOnly (jobOf (siteValues l) (frameValues m) ws hs (shortest b)) in
+      let o = figuresOnly (jobOf g (frameValues m) ws hs (shortest b)) in
       (answerOf o, (says-outcome o, p .1), replies-as (sym (says-outcome o)) (p .0))
 
-  pub replied-figured : (n : ℕ) (r : List ℕ) → FiguresReplies l m ws hs n r
-      → (a : JobAnswer) × Figured (siteValues l) (frameValues m) ws hs a × FiguresReply (answerOutcome a) n r
+  pub replied-figured : (n : ℕ) (r : List ℕ) → FiguresReplies g m ws hs n r
+      → (a : JobAnswer) × Figured g (frameValues m) ws hs a × FiguresReply (answerOutcome a) n r
   replied-figured n r p =
-      let o = figuresOnly (jobOf (siteValues l) (frameValues m) ws hs (length ws)) in
+      let o = figuresOnly (jobOf g (frameValues m) ws hs (length ws)) in
       (answerOf o, says-outcome o, replies-as (sym (says-outcome o)) p)
 
-  -- `rukeshomaji_job`, `rukeshomaji_figures`
-  pub one-reply : (b : Buffers) {n n′ : ℕ} {r r′ : List ℕ} {c c′ : Buffers} → JobReplies l m ws hs b n r c
-      → JobReplies l m ws hs b n′ r′ c′ → ((n ≡ n′) × (r ≡ r′)) × (c ≡ c′)
+  -- `rukeshomaji_job`, `rukeshomaji_figures`, and those of the Basin
+  pub one-reply : (b : Buffers) {n n′ : ℕ} {r r′ : List ℕ} {c c′ : Buffers} → JobReplies g m ws hs b n r c
+      → JobReplies g m ws hs b n′ r′ c′ → ((n ≡ n′) × (r ≡ r′)) × (c ≡ c′)
   one-reply b p q = (replies-unique (p .0) (q .0), determined (p .1) (q .1))
 
-  pub one-figures-reply : {n n′ : ℕ} {r r′ : List ℕ} → FiguresReplies l m ws hs n r → FiguresReplies l m ws hs n′ r′
+  pub one-figures-reply : {n n′ : ℕ} {r r′ : List ℕ} → FiguresReplies g m ws hs n r → FiguresReplies g m ws hs n′ r′
       → (n ≡ n′) × (r ≡ r′)
   one-figures-reply p q = replies-unique p q
 

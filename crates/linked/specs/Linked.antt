@@ -1,7 +1,8 @@
 -- What the entries reply to a program in C: the number is returned, 0 on success; what else there is goes into what the caller lends.
 --   Replies f k o n r             n is the number of the outcome o; r is its place, then the values f, k zeros where data is refused
 --   FiguresReply o, ClassReply o  of figures: V, V_M, V*, V_D and T; of a class: its number
---   JobReplies l m ws hs b n r b′   so for the job of a site line l and a frame line m; b′ is what the buffers hold that held b
+--   onSite l, inBasin z           the ground of a site line l, and of a zone z
+--   JobReplies g m ws hs b n r b′   so for the job of a ground g and a frame line m; b′ is what the buffers hold that held b
 --   FiguresReplies, LogReplies    so for the five figures alone, and for a soil log
 --   SheetReplies s old n held r   n is the number of the outcome of a sheet s; an array that held old holds its listing in the first bytes, the
 --                                 rest as it was; r is its place, and the length of the listing
@@ -12,6 +13,8 @@ use Prim.Native.Nat.{ℕ}
 use lib.ListN.{length}
 use Rattle.whole.specs.Cells.{laid}
 use Rattle.limits.specs.declared.class.Class.{Class}
+use Rattle.limits.specs.declared.ground.GroundValues.{GroundValues}
+use Rattle.limits.specs.declared.ground.GroundValues.the-variants.{Site, Basin}
 use Rattle.limits.specs.Outcome.{Outcome, number, place, values}
 use Rattle.base_shear.specs.declared.Figures.{Figures}
 use Rattle.soil.specs.Class.{table3, classNumber}
@@ -30,13 +33,19 @@ FiguresReply = Replies five 5
 abbrev pub ClassReply : Outcome Class → ℕ → List ℕ → Type 0
 ClassReply = Replies (λ (c : Class). classNumber c ∷ []) 1
 
-abbrev pub JobReplies : List ℕ → List ℕ → List ℕ → List ℕ → Buffers → ℕ → List ℕ → Buffers → Type 0
-JobReplies l m ws hs b n r b′ =
-    let o = jobOf (siteValues l) (frameValues m) ws hs (shortest b) in
+abbrev pub onSite : List ℕ → GroundValues
+onSite l = Site (siteValues l)
+
+abbrev pub inBasin : ℕ → GroundValues
+inBasin z = Basin z
+
+abbrev pub JobReplies : GroundValues → List ℕ → List ℕ → List ℕ → Buffers → ℕ → List ℕ → Buffers → Type 0
+JobReplies g m ws hs b n r b′ =
+    let o = jobOf g (frameValues m) ws hs (shortest b) in
     FiguresReply (figuresOnly o) n r × (b′ ≡ written o b)
 
-abbrev pub FiguresReplies : List ℕ → List ℕ → List ℕ → List ℕ → ℕ → List ℕ → Type 0
-FiguresReplies l m ws hs n r = FiguresReply (figuresOnly (jobOf (siteValues l) (frameValues m) ws hs (length ws))) n r
+abbrev pub FiguresReplies : GroundValues → List ℕ → List ℕ → List ℕ → ℕ → List ℕ → Type 0
+FiguresReplies g m ws hs n r = FiguresReply (figuresOnly (jobOf g (frameValues m) ws hs (length ws))) n r
 
 abbrev pub LogReplies : List ℕ → List ℕ → List ℕ → ℕ → List ℕ → Type 0
 LogReplies ds ks xs n r = ClassReply (siteClass table3 ds ks xs) n r
@@ -47,10 +56,10 @@ pub record SheetReplies (s old : List ℕ) (n : ℕ) (held r : List ℕ) : Type 
   pub listed : held ≡ laid (sheetListing s) old
 
 abbrev pub version : ℕ
-version = 1_000_000
+version = 1_001_000
 
 abbrev pub edition : ℕ
 edition = 2_005
 
 abbrev pub source : ℕ
-source = 1
+source = 2

@@ -4,6 +4,7 @@ use job::JobAnswer;
 use limits::class::Class;
 use limits::class::ClassAnswer;
 use limits::frame::FrameValues;
+use limits::ground::GroundValues;
 use limits::site::SiteValues;
 use sheet::listing::LONGEST;
 use sheet::put_in_array;
@@ -12,16 +13,17 @@ ghost use Rattle.limits.specs.Site.{classOutcome};
 ghost use Rattle.job.specs.Job.{answerOutcome};
 ghost use Rattle.soil.specs.Class.{classNumber};
 ghost use Rattle.sheet.specs.Sheet.{siteValues, frameValues};
-ghost use Rattle.linked.specs.Linked.{FiguresReply, ClassReply, JobReplies, FiguresReplies, LogReplies, SheetReplies, version, edition, source};
+ghost use Rattle.linked.specs.Linked.{FiguresReply, ClassReply, onSite, inBasin, JobReplies, FiguresReplies, LogReplies, SheetReplies, version, edition, source};
 
 // The version of the library: 1,000,000 times the major number, 1,000 times the minor one, and the last.
-pub const VERSION: u64 = 1_000_000;
+pub const VERSION: u64 = 1_001_000;
 
 // The edition of the code: Taiwan's of 2005.
 pub const EDITION: u64 = 2_005;
 
-// The state of the rules: 1 is document 01 by itself. A change of what any call answers takes the next number.
-pub const SOURCE: u64 = 1;
+// The state of the rules: 1 is document 01 by itself, 2 has the Taipei Basin with it. A change of what any call answers takes the next
+// number.
+pub const SOURCE: u64 = 2;
 
 // A sheet's site line: S_S and S_1 of the design level, S_S and S_1 of the MCE level, in 0.01 g; N_A and N_V in 0.01; class.
 fn site_values(l: &[u64; 7]) -> SiteValues
@@ -94,7 +96,7 @@ fn put_class(out: &mut [u64; 2], a: ClassAnswer) -> u64
     }
 }
 
-// The job: a force, a shear and an overturning moment of each level in the lent buffers, place and figures in `figures`.
+// The job on a site: a force, a shear and an overturning moment of each level in the lent buffers, place and figures in `figures`.
 #[no_mangle]
 pub extern "C" fn rukeshomaji_job(
     site: &[u64; 7],
@@ -106,15 +108,15 @@ pub extern "C" fn rukeshomaji_job(
     overturnings: &mut [u64],
     figures: &mut [u64; 6],
 ) -> u64
-    ensures { λ n. ⌜ JobReplies (now (site .entry)) (now (frame .entry)) (now (weights .entry)) (now (heights .entry)) (record { forces = now (forces .entry); shears = now (shears .entry); overturnings = now (overturnings .entry) }) n (now (figures .exit)) (record { forces = now (forces .exit); shears = now (shears .exit); overturnings = now (overturnings .exit) }) ⌝ }
+    ensures { λ n. ⌜ JobReplies (onSite (now (site .entry))) (now (frame .entry)) (now (weights .entry)) (now (heights .entry)) (record { forces = now (forces .entry); shears = now (shears .entry); overturnings = now (overturnings .entry) }) n (now (figures .exit)) (record { forces = now (forces .exit); shears = now (shears .exit); overturnings = now (overturnings .exit) }) ⌝ }
 {
-    let s = site_values(site);
+    let ground = GroundValues::Site(site_values(site));
     let f = frame_values(frame);
-    let a = job::job(s, f, weights, heights, forces, shears, overturnings);
+    let a = job::job(ground, f, weights, heights, forces, shears, overturnings);
     put_figures(figures, a)
 }
 
-// The five figures of a job, with no buffer to write to.
+// The five figures of a job on a site, with no buffer to write to.
 #[no_mangle]
 pub extern "C" fn rukeshomaji_figures(
     site: &[u64; 7],
@@ -123,11 +125,48 @@ pub extern "C" fn rukeshomaji_figures(
     heights: &[u64],
     figures: &mut [u64; 6],
 ) -> u64
-    ensures { λ n. ⌜ FiguresReplies (now (site .entry)) (now (frame .entry)) (now (weights .entry)) (now (heights .entry)) n (now (figures .exit)) ⌝ }
+    ensures { λ n. ⌜ FiguresReplies (onSite (now (site .entry))) (now (frame .entry)) (now (weights .entry)) (now (heights .entry)) n (now (figures .exit)) ⌝ }
 {
-    let s = site_values(site);
+    let ground = GroundValues::Site(site_values(site));
     let f = frame_values(frame);
-    let a = job::figures::figures(s, f, weights, heights);
+    let a = job::figures::figures(ground, f, weights, heights);
+    put_figures(figures, a)
+}
+
+// The same job in a zone of the Taipei Basin: no number of a zone means that there is none.
+#[no_mangle]
+pub extern "C" fn rukeshomaji_basin_job(
+    zone: u64,
+    frame: &[u64; 5],
+    weights: &[u64],
+    heights: &[u64],
+    forces: &mut [u64],
+    shears: &mut [u64],
+    overturnings: &mut [u64],
+    figures: &mut [u64; 6],
+) -> u64
+    ensures { λ n. ⌜ JobReplies (inBasin zone) (now (frame .entry)) (now (weights .entry)) (now (heights .entry)) (record { forces = now (forces .entry); shears = now (shears .entry); overturnings = now (overturnings .entry) }) n (now (figures .exit)) (record { forces = now (forces .exit); shears = now (shears .exit); overturnings = now (overturnings .exit) }) ⌝ }
+{
+    let ground = GroundValues::Basin(zone);
+    let f = frame_values(frame);
+    let a = job::job(ground, f, weights, heights, forces, shears, overturnings);
+    put_figures(figures, a)
+}
+
+// The five figures of a job in a zone of the Taipei Basin.
+#[no_mangle]
+pub extern "C" fn rukeshomaji_basin_figures(
+    zone: u64,
+    frame: &[u64; 5],
+    weights: &[u64],
+    heights: &[u64],
+    figures: &mut [u64; 6],
+) -> u64
+    ensures { λ n. ⌜ FiguresReplies (inBasin zone) (now (frame .entry)) (now (weights .entry)) (now (heights .entry)) n (now (figures .exit)) ⌝ }
+{
+    let ground = GroundValues::Basin(zone);
+    let f = frame_values(frame);
+    let a = job::figures::figures(ground, f, weights, heights);
     put_figures(figures, a)
 }
 

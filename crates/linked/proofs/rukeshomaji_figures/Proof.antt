@@ -1,5 +1,8 @@
 -- `linked::rukeshomaji_figures` meets its contract. Assumes nothing.
 use borrow.Author.Needs.{needs}
+use mathlib.Core.Path.{ap}
+use Rattle.limits.specs.declared.ground.GroundValues.the-variants.{Site}
+use Rattle.linked.specs.Linked.{onSite}
 use Rattle.linked.proofs.Replies.{figures-replies}
 use Rattle.linked.proofs.rukeshomaji_figures.Statement.{statement}
 use Rattle.linked.proofs.rukeshomaji_figures.Tie as tie
@@ -18,7 +21,7 @@ put-figures-requires c κs = search needs
 
 returns : tie.Need-returns
 returns c = let a = c .before .before .before .before .before .before .before .args in
-    figures-replies (a .site .now) (a .frame .now) (a .weights .now) (a .heights .now) _ _ (c .before .before .figures .result) (c .before .before .before .before .site-values .ensures) (c .before .before .before .frame-values .ensures) (c .before .before .figures .ensures) (c .put-figures .ensures)
+    figures-replies (onSite (a .site .now)) (a .frame .now) (a .weights .now) (a .heights .now) _ _ (c .before .before .figures .result) (ap Site (c .before .before .before .before .site-values .ensures)) (c .before .before .before .frame-values .ensures) (c .before .before .figures .ensures) (c .put-figures .ensures)
 
 pub rukeshomaji-figures-spec : {M : Type 1} → statement M
 rukeshomaji-figures-spec =

@@ -1,5 +1,8 @@
 -- `linked::rukeshomaji_job` meets its contract. Assumes nothing.
 use borrow.Author.Needs.{needs}
+use mathlib.Core.Path.{ap}
+use Rattle.limits.specs.declared.ground.GroundValues.the-variants.{Site}
+use Rattle.linked.specs.Linked.{onSite}
 use Rattle.linked.proofs.Replies.{job-replies}
 use Rattle.linked.proofs.rukeshomaji_job.Statement.{statement}
 use Rattle.linked.proofs.rukeshomaji_job.Tie as tie
@@ -27,7 +30,7 @@ same-length-3 c = search needs
 
 returns : tie.Need-returns
 returns c = let a = c .before .before .before .before .before .before .before .before .before .before .before .before .before .before .before .before .before .before .before .args in
-    job-replies (a .site .now) (a .frame .now) (a .weights .now) (a .heights .now) _ _ (record { forces = a .forces .now; shears = a .shears .now; overturnings = a .overturnings .now }) (c .before .before .before .before .before .before .before .before .job .result) _ (c .before .before .before .before .before .before .before .before .before .before .before .before .before .site-values .ensures) (c .before .before .before .before .before .before .before .before .before .before .before .before .frame-values .ensures) (c .before .before .before .before .before .before .before .before .job .ensures) (c .put-figures .ensures)
+    job-replies (onSite (a .site .now)) (a .frame .now) (a .weights .now) (a .heights .now) _ _ (record { forces = a .forces .now; shears = a .shears .now; overturnings = a .overturnings .now }) (c .before .before .before .before .before .before .before .before .job .result) _ (ap Site (c .before .before .before .before .before .before .before .before .before .before .before .before .before .site-values .ensures)) (c .before .before .before .before .before .before .before .before .before .before .before .before .frame-values .ensures) (c .before .before .before .before .before .before .before .before .job .ensures) (c .put-figures .ensures)
 
 pub rukeshomaji-job-spec : {M : Type 1} → statement M
 rukeshomaji-job-spec =
