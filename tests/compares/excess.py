@@ -20,6 +20,11 @@ SHARP = (
 )
 
 
+def words(ground):
+    """A ground with its numbers."""
+    return f"{'basin' if isinstance(ground, limits.Basin) else 'site'} {tuple(ground)}"
+
+
 class Excess(NamedTuple):
     """An excess, and the job that shows it."""
 
@@ -60,5 +65,5 @@ class Largest:
             beyond, most = self.seen[part, 'millionths'], self.seen[part, 'N']
             yield f'  {part}: {float(beyond.size):.4f} millionths beyond {newtons} N (granted: less than {MARGIN}), ' \
                   f'{float(most.size):.4f} N beyond {MARGIN} millionths (granted: less than {newtons})'
-            yield from (f'    {unit}: site {tuple(job.site)} frame {tuple(job.frame)} {len(job.weights)} levels, {job.W} kN, '
+            yield from (f'    {unit}: {words(job.ground)} frame {tuple(job.frame)} {len(job.weights)} levels, {job.W} kN, '
                         f'top {job.heights[-1]}' for unit, job in (('millionths', beyond.job), ('N', most.job)))

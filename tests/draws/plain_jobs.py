@@ -8,7 +8,7 @@ from tests.model import limits
 class Inputs(NamedTuple):
     """The four inputs of a job, lowest level first."""
 
-    site: limits.Site
+    ground: limits.Site | limits.Basin
     frame: limits.Frame
     weights: list
     heights: list

@@ -32,7 +32,7 @@ def site_and_frame_strata():
     mapped = (('SSD', 'NA', sites.S_S_COLUMNS), ('S1D', 'NV', sites.S_1_COLUMNS),
               ('SSM', 'NA', sites.S_S_COLUMNS), ('S1M', 'NV', sites.S_1_COLUMNS))
     yield from (in_table(*each, place) for each in mapped for place in ('on', 'between', 'beyond'))
-    yield from (with_number('site', 'cls', cls) for cls in limits.CLASS)
+    yield from (with_number('ground', 'cls', cls) for cls in limits.CLASS)
     yield from (with_number('frame', 'kind', kind) for kind in limits.KIND)
     yield from (with_number('frame', 'I', value) for value in limits.I_VALUES)
     yield from (with_number('frame', 'alphay', value) for value in (100, 200))

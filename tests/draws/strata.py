@@ -28,7 +28,7 @@ def at_corner(hazard, label, side):
     """T within 1 ms of a corner of a hazard, on the given side, by the calculated period."""
     def reach(inputs):
         """The calculated period put at the corner."""
-        mark = CORNERS[label] * response.corner(*getattr(sites, hazard)(inputs.site))
+        mark = CORNERS[label] * response.corner(*getattr(sites, hazard)(inputs.ground))
         T = {'below': ceil(mark) - 1, 'on': floor(mark), 'above': floor(mark) + 1}[side]
         return inputs._replace(frame=inputs.frame._replace(calculated_period=T))
 
@@ -65,7 +65,7 @@ def at_ratio(hazard, threshold, side):
 
     def holds(job):
         """The ratio lies there."""
-        ratio = ratio_of(hazard, job.site, job.T, job.frame.R)
+        ratio = ratio_of(hazard, job.ground, job.T, job.frame.R)
         return abs(ratio - threshold) <= NEAR_RATIO and side_of(ratio, threshold) == side
 
     return Stratum(f'{hazard}: ratio {side} {threshold}', reach, holds)
@@ -80,14 +80,14 @@ def in_table(field, factor, columns, place):
     """S = mapped value times near-fault factor, on, between or beyond the columns of Table 2."""
     def holds(job):
         """S lies there."""
-        S = getattr(job.site, field) * getattr(job.site, factor)
+        S = getattr(job.ground, field) * getattr(job.ground, factor)
         return place == ('on' if S in columns else 'beyond' if S > columns[-1] else 'between')
 
     return kept(f'{field}*{factor} {place} columns', holds)
 
 
 def with_number(part, field, value):
-    """One number of the site or of the frame at a given value."""
+    """One number of the ground or of the frame at a given value."""
     def reach(inputs):
         """The number put in its place."""
         return inputs._replace(**{part: getattr(inputs, part)._replace(**{field: value})})

@@ -110,7 +110,7 @@ def drawn_cases():
     for stratum in all_strata():
         drawn = draw_in(rng, stratum)
         count = len(drawn.weights)
-        yield Case(tuple(drawn.site), tuple(drawn.frame), drawn.weights, drawn.heights,
+        yield Case(tuple(drawn.ground), tuple(drawn.frame), drawn.weights, drawn.heights,
                    tuple(count + rng.choice((0, 0, 1, LISTED - count)) for _ in OLD))
 
 
