@@ -1,8 +1,9 @@
 """Strata that a plain draw almost never meets: ties between shears, ratios at a threshold to the millionth, and jobs with a large excess."""
 
 from tests.draws.plain_jobs import Inputs
-from tests.draws.strata import Stratum, ratio_of
+from tests.draws.strata import HAZARDS, Stratum, hazard_of, ratio_of
 from tests.model import limits, response, shears, site as sites
+from tests.model.job import made_by
 
 TIES = (('V', 'V_M'), ('V', 'V_star'), ('V_M', 'V_star'), ('V', 'V_M', 'V_star'))
 MARKS = (('design', 300_000), ('design', 800_000), ('mce', 300_000), ('mce', 800_000), ('star', 300_000))
@@ -20,16 +21,15 @@ def tied(names):
     """Shears that are equal and govern: jobs of a few kN, whose shears are a few hundred N."""
     def reach(inputs):
         """One light level; R where V* comes above the two others."""
-        site, frame, weights, heights = inputs
+        ground, frame, weights, heights = inputs
         T = response.period(response.approximate_period(frame.kind, heights[-1]), frame.calculated_period)
 
         def star_governs(R):
             """V* above V and V_M for this R."""
-            cases = ((sites.design, response.design_capacity), (sites.mce, response.mce_capacity))
-            both = [shears.respond(*hazard(site), capacity(R), T) for hazard, capacity in cases]
-            star = shears.respond(*sites.star(site), response.design_capacity(R), T)
+            *both, star = (shears.respond(*hazard_of(hazard, ground, R), T) for hazard in HAZARDS)
             m = max(response.modified_ratio(response.ratio(each.spectrum, each.lower_factor)) for each in both)
-            return response.p_of_star(star.spectrum, star.upper_factor) > 3 * m
+            p = response.p_of_star(star.spectrum, star.upper_factor)
+            return p / shears.divisor(divided_by=made_by(ground).V_STAR) > m / shears.divisor()
 
         R = frame.R if names == ('V', 'V_M') else crossing(limits.R_RANGE[0], limits.R_RANGE[-1], star_governs)
         return inputs._replace(frame=frame._replace(R=R), weights=[1 + weights[0] % 3], heights=heights[-1:])

@@ -4,8 +4,10 @@ from fractions import Fraction
 from math import ceil, floor
 from typing import Callable, NamedTuple
 
-from tests.model import limits, response, shears, site as sites
+from tests.model import limits, response, shears
+from tests.model.job import made_by
 
+HAZARDS = ('design', 'mce', 'star')
 CORNERS = {'0.2': Fraction(1, 5), '0.6': Fraction(3, 5), '1': Fraction(1), '2.5': Fraction(5, 2)}
 SIDES = ('below', 'on', 'above')
 NEAR_RATIO = 200
@@ -19,6 +21,11 @@ class Stratum(NamedTuple):
     holds: Callable
 
 
+def hazard_of(hazard, ground, R):
+    """A, B and capacity of one of the three."""
+    return made_by(ground).hazards(ground, R)[HAZARDS.index(hazard)]
+
+
 def side_of(value, mark):
     """Where a value lies against a mark."""
     return 'below' if value < mark else 'on' if value == mark else 'above'
@@ -28,7 +35,8 @@ def at_corner(hazard, label, side):
     """T within 1 ms of a corner of a hazard, on the given side, by the calculated period."""
     def reach(inputs):
         """The calculated period put at the corner."""
-        mark = CORNERS[label] * response.corner(*getattr(sites, hazard)(inputs.ground))
+        A, B, _ = hazard_of(hazard, inputs.ground, inputs.frame.R)
+        mark = CORNERS[label] * response.corner(A, B)
         T = {'below': ceil(mark) - 1, 'on': floor(mark), 'above': floor(mark) + 1}[side]
         return inputs._replace(frame=inputs.frame._replace(calculated_period=T))
 
@@ -40,10 +48,9 @@ def at_corner(hazard, label, side):
     return Stratum(f'{hazard}: T {side} {label} T0', reach, holds)
 
 
-def ratio_of(hazard, site, T, R):
+def ratio_of(hazard, ground, T, R):
     """q of V or V_M; for V* the spectrum over the upper factor, up, in millionths."""
-    capacity = response.mce_capacity(R) if hazard == 'mce' else response.design_capacity(R)
-    figures = shears.respond(*getattr(sites, hazard)(site), capacity, T)
+    figures = shears.respond(*hazard_of(hazard, ground, R), T)
     factor = figures.upper_factor if hazard == 'star' else figures.lower_factor
     return response.ratio(figures.spectrum, factor)
 
@@ -52,15 +59,15 @@ def at_ratio(hazard, threshold, side):
     """The ratio within 200 millionths of a threshold; R is sought, as the ratio falls with R."""
     def reach(inputs):
         """R put where the ratio passes the threshold."""
-        site, frame, _, heights = inputs
+        ground, frame, _, heights = inputs
         T = response.period(response.approximate_period(frame.kind, heights[-1]), frame.calculated_period)
         low, high = limits.R_RANGE[0], limits.R_RANGE[-1]
-        if not ratio_of(hazard, site, T, high) <= threshold <= ratio_of(hazard, site, T, low):
+        if not ratio_of(hazard, ground, T, high) <= threshold <= ratio_of(hazard, ground, T, low):
             return None
         while high - low > 1:
             R = (low + high) // 2
-            low, high = (R, high) if ratio_of(hazard, site, T, R) > threshold else (low, R)
-        R = low if side == 'above' or ratio_of(hazard, site, T, low) <= threshold else high
+            low, high = (R, high) if ratio_of(hazard, ground, T, R) > threshold else (low, R)
+        R = low if side == 'above' or ratio_of(hazard, ground, T, low) <= threshold else high
         return inputs._replace(frame=frame._replace(R=R))
 
     def holds(job):

@@ -34,19 +34,23 @@ class Job(NamedTuple):
     moments: list
 
 
+def made_by(ground):
+    """What makes the hazards of a ground, and says what divides V* there."""
+    return basins if isinstance(ground, limits.Basin) else sites
+
+
 def job(ground, frame, weights, heights, buffer_lengths=(), s=response.UNIT):
     """('refused', number, place), or the `Job` by "From map values to shear"."""
     refusal = limits.judge(ground, frame, weights, heights, buffer_lengths)
     if refusal is not None:
         return ('refused', *refusal)
     ground, frame = limits.ground_of(ground), limits.Frame(*frame)
-    made_by = basins if isinstance(ground, limits.Basin) else sites
     weights, heights = list(weights), list(heights)
     W = sum(weights)
     t = response.approximate_period(frame.kind, heights[-1])
     T = response.period(t, frame.calculated_period)
 
-    design, mce, star = (shears.respond(*hazard, T, s) for hazard in made_by.hazards(ground, frame.R))
+    design, mce, star = (shears.respond(*hazard, T, s) for hazard in made_by(ground).hazards(ground, frame.R))
 
     q = response.ratio(design.spectrum, design.lower_factor, s)
     m = response.modified_ratio(q, s)
@@ -56,7 +60,7 @@ def job(ground, frame, weights, heights, buffer_lengths=(), s=response.UNIT):
 
     V = shears.V(frame, m, W, s)
     V_M = shears.V(frame, m_M, W, s)
-    V_star = shears.V_star(frame, p, W, s, made_by.V_STAR)
+    V_star = shears.V_star(frame, p, W, s, made_by(ground).V_STAR)
     V_D = shears.V_D(V, V_M, V_star)
 
     F_t = storeys.F_t(T, V_D)

@@ -13,7 +13,7 @@ BASIN = re.compile(rb'basin' + NUMBER)
 
 
 def layouts(line_number):
-    """Layouts: "Line 1 is `site`", or "a line `basin` with the zone in place of `site`", "Line 2 is `frame`", "All later lines are `level`"."""
+    """Layouts: "Line 1 is `site`", "Line 2 is `frame`", "All later lines are `level`"; "`basin` with the zone in place of `site`"."""
     return {1: (SITE, BASIN), 2: (FRAME,)}.get(line_number, (LEVEL,))
 
 
