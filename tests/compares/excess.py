@@ -35,8 +35,8 @@ class Excess(NamedTuple):
 class Largest:
     """The largest excess by part and unit, over the jobs measured."""
 
-    def __init__(self):
-        self.seen, self.jobs = {}, 0
+    def __init__(self, where):
+        self.where, self.seen, self.jobs = where, {}, 0
 
     def keep(self, key, excess):
         """The larger of two."""
@@ -60,7 +60,7 @@ class Largest:
 
     def lines(self):
         """What was seen beside what demand 3 grants."""
-        yield f'largest excess over the exact figure, of {self.jobs} jobs'
+        yield f'largest excess over the exact figure, of {self.jobs} jobs {self.where}'
         for part, newtons in NEWTONS.items():
             beyond, most = self.seen[part, 'millionths'], self.seen[part, 'N']
             yield f'  {part}: {float(beyond.size):.4f} millionths beyond {newtons} N (granted: less than {MARGIN}), ' \
