@@ -7,11 +7,12 @@ which is 8 N or more; and the largest and the smallest of the three are more tha
 """
 
 import functools
+import random
 from bisect import bisect_left
 
 from tests.draws import rare
-from tests.draws.plain_jobs import Inputs
-from tests.draws.sample import frame_strata, level_strata
+from tests.draws.plain_jobs import Inputs, draw_basin
+from tests.draws.sample import draw_in, frame_strata, level_strata
 from tests.draws.strata import CORNERS, SIDES, Stratum, at_corner, at_ratio, governed_by, ratio_of, with_number
 from tests.model import basin, limits, response
 
@@ -117,9 +118,22 @@ def shared_strata():
     yield from (named(stratum) for stratum in (*frame_strata(), *level_strata()))
 
 
+def plain_strata():
+    """Every stratum that a plain draw meets, in a fixed order."""
+    return [*zone_strata(), *shared_strata()]
+
+
+def accepted_basin_jobs(seed, count):
+    """Yield (stratum name, ground, frame, weights, heights) `count` times, the plain strata in turn."""
+    rng, strata = random.Random(seed), plain_strata()
+    for number in range(count):
+        stratum = strata[number % len(strata)]
+        yield (stratum.name, *draw_in(rng, stratum, draw_basin))
+
+
 def basin_strata(each):
-    """Each with how many jobs the comparison draws for it; `each` for those that a plain draw meets."""
-    yield from ((stratum, each) for stratum in (*zone_strata(), *shared_strata()))
+    """Each with how many jobs the comparison draws for it; `each` for the plain ones."""
+    yield from ((stratum, each) for stratum in plain_strata())
     yield from ((named(rare.tied(names)), 100) for names in TIES)
     yield from ((named(at_mark(hazard, LOW + offset)), 50) for hazard in ('design', 'mce', 'star') for offset in (-1, 0, 1))
     yield named(at_high_mark()), 50
