@@ -27,11 +27,13 @@ def lines_otherwise():
     changes = {
         'no_number': b'basin\n', 'empty_number': b'basin\t\n', 'two_numbers': b'basin\t3\t1\n', 'tab_at_the_end': b'basin\t3\t\n',
         'two_tabs': b'basin\t\t3\n', 'blank_for_tab': b'basin 3\n', 'blank_first': b' basin\t3\n', 'blank_at_the_end': b'basin\t3 \n',
-        'tab_first': b'\tbasin\t3\n', 'no_tab': b'basin3\n', 'minus': b'basin\t-3\n', 'plus': b'basin\t+3\n', 'leading_zero': b'basin\t03\n',
+        'tab_first': b'\tbasin\t3\n', 'no_tab': b'basin3\n', 'minus': b'basin\t-3\n', 'plus': b'basin\t+3\n',
+        'leading_zero': b'basin\t03\n',
         'two_zeros': b'basin\t00\n', 'point': b'basin\t3.\n', 'letter': b'basin\tA\n', 'ten_digits': b'basin\t1000000000\n',
         'two_to_the_32_and_3': b'basin\t4294967299\n', 'two_to_the_64_and_3': b'basin\t18446744073709551619\n',
         'seven_numbers': b'basin' + SITE[4:], 'site_with_one_number': b'site\t3\n', 'site_and_zone': SITE[:-1] + b'\t3\n',
-        'capital': b'Basin\t3\n', 'upper_case': b'BASIN\t3\n', 'long_word': b'basins\t3\n', 'short_word': b'basi\t3\n', 'last_letter': b'basim\t3\n',
+        'capital': b'Basin\t3\n', 'upper_case': b'BASIN\t3\n', 'long_word': b'basins\t3\n', 'short_word': b'basi\t3\n',
+        'last_letter': b'basim\t3\n',
         'another_word': b'zone\t3\n', 'cr': b'basin\t3\r\n', 'nul_in_the_number': b'basin\t3\0\n', 'nul_in_the_word': b'bas\0n\t3\n',
         'byte_order_mark': b'\xef\xbb\xbf' + BASIN, 'empty_line_first': b'\n' + BASIN, 'lf_for_tab': b'basin\n3\n',
     }

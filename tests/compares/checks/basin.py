@@ -81,7 +81,8 @@ def factors():
         for T, wanted in at.items():
             def all_three(zone=zone, T=T):
                 """The factors at T."""
-                design, mce = (*basin.capacity(481), Fraction(CORNER[zone]), T), (*response.mce_capacity(481), Fraction(CORNER[zone]), T)
+                at_T = Fraction(CORNER[zone]), T
+                design, mce = (*basin.capacity(481), *at_T), (*response.mce_capacity(481), *at_T)
                 return response.lower_factor(*design), response.upper_factor(*design), response.lower_factor(*mce)
             yield f'factors at {T}, zone {zone}', all_three, wanted
 

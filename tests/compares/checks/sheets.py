@@ -15,7 +15,8 @@ BAD_BASINS = (
     b'\n', b'basin\n', b'basin\t\n', b'basin 3\n', b'basin\t\t3\n', b'basin\t3\t\n', b'basin\t3\t1\n', b'basin\t3 \n', b' basin\t3\n',
     b'\tbasin\t3\n', b'basin\t03\n', b'basin\t00\n', b'basin\t+3\n', b'basin\t-3\n', b'basin\t3.0\n', b'basin\t3\r\n', b'Basin\t3\n',
     b'BASIN\t3\n', b'basins\t3\n', b'basi\t3\n', b'basin3\n', b'basin\tthree\n', b'basin\t1000000000\n', b'basin\t4294967299\n',
-    b'basin\t18446744073709551619\n', b'basin\t3\x00\n', b'\xef\xbb\xbfbasin\t3\n', b'basin\t\xd9\xa3\n', b'basin\t80\t45\t100\t55\t100\t100\t1\n',
+    b'basin\t18446744073709551619\n', b'basin\t3\x00\n', b'\xef\xbb\xbfbasin\t3\n', b'basin\t\xd9\xa3\n',
+    b'basin\t80\t45\t100\t55\t100\t100\t1\n',
     b'site\t3\n', b'zone\t3\n', b'frame\t3\n', b'level\t3\n', b'basin\tsite\n', SITE[:-1] + b'\t3\n', b'basin\t3' + SITE[4:],
 )
 ZONES = {0: (18, 0), 5: (18, 0), 10: (18, 0), 999_999_999: (18, 0)}
