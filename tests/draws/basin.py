@@ -2,8 +2,8 @@
 
 Each of V, V_M and V* governs in every zone: V_M at a low R or a short period, V* at a high R near the corner and beyond, V between them.
 The ratio of V and that of V* are at most 0.6 and that of V_M at most 0.8, which R = 1 gives from 0.2 T0 to T0: the line above 0.8 is not
-reached. V_M and V* never govern together: over all T and R, where V_M is above V it is above V* by more than 0.0237 of I*W/(1.4*alpha-y),
-which is 8 N or more; and the largest and the smallest of the three are more than 0.0042 apart, which is 1 N or more.
+reached. V_M and V* never govern together, by trying every zone, T and R: where V_M is above V, it is above V* by more than 0.0237 of
+I*W/(1.4*alpha-y), which is 8 N or more; and the largest and the smallest of the three are more than 0.0042 apart, which is over 1 N.
 """
 
 import functools
@@ -48,7 +48,7 @@ def corner_strata(zone):
 
 @functools.cache
 def met(hazard, ratio):
-    """Every (zone, T, R) of a ratio above 0.24/1, which none exceeds beyond 2.5 T0; it falls with R."""
+    """(zone, T, R) for every zone and T that can meet a ratio, which falls with R; beyond 2.5 T0 it is what it is there."""
     found = []
     for zone, T0 in basin.TABLE_4.items():
         for T in range(1, 5 * T0 // 2 + 1):

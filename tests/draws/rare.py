@@ -1,9 +1,9 @@
 """Strata that a plain draw almost never meets: ties between shears, ratios at a threshold to the millionth, and jobs with a large excess."""
 
 from tests.draws.plain_jobs import Inputs
-from tests.draws.strata import HAZARDS, Stratum, hazard_of, ratio_of
+from tests.draws.strata import Stratum, ratio_of
 from tests.model import limits, response, shears, site as sites
-from tests.model.job import made_by
+from tests.model.job import HAZARDS, made_by
 
 TIES = (('V', 'V_M'), ('V', 'V_star'), ('V_M', 'V_star'), ('V', 'V_M', 'V_star'))
 MARKS = (('design', 300_000), ('design', 800_000), ('mce', 300_000), ('mce', 800_000), ('star', 300_000))
@@ -26,7 +26,7 @@ def tied(names):
 
         def star_governs(R):
             """V* above V and V_M for this R."""
-            *both, star = (shears.respond(*hazard_of(hazard, ground, R), T) for hazard in HAZARDS)
+            *both, star = (shears.respond(*made_by(ground).hazard(hazard, ground, R), T) for hazard in HAZARDS)
             m = max(response.modified_ratio(response.ratio(each.spectrum, each.lower_factor)) for each in both)
             p = response.p_of_star(star.spectrum, star.upper_factor)
             return p / shears.divisor(divided_by=made_by(ground).V_STAR) > m / shears.divisor()

@@ -7,7 +7,6 @@ from typing import Callable, NamedTuple
 from tests.model import limits, response, shears
 from tests.model.job import made_by
 
-HAZARDS = ('design', 'mce', 'star')
 CORNERS = {'0.2': Fraction(1, 5), '0.6': Fraction(3, 5), '1': Fraction(1), '2.5': Fraction(5, 2)}
 SIDES = ('below', 'on', 'above')
 NEAR_RATIO = 200
@@ -21,11 +20,6 @@ class Stratum(NamedTuple):
     holds: Callable
 
 
-def hazard_of(hazard, ground, R):
-    """A, B and capacity of one of the three."""
-    return made_by(ground).hazards(ground, R)[HAZARDS.index(hazard)]
-
-
 def side_of(value, mark):
     """Where a value lies against a mark."""
     return 'below' if value < mark else 'on' if value == mark else 'above'
@@ -35,7 +29,7 @@ def at_corner(hazard, label, side):
     """T within 1 ms of a corner of a hazard, on the given side, by the calculated period."""
     def reach(inputs):
         """The calculated period put at the corner."""
-        A, B, _ = hazard_of(hazard, inputs.ground, inputs.frame.R)
+        A, B, _ = made_by(inputs.ground).hazard(hazard, inputs.ground, inputs.frame.R)
         mark = CORNERS[label] * response.corner(A, B)
         T = {'below': ceil(mark) - 1, 'on': floor(mark), 'above': floor(mark) + 1}[side]
         return inputs._replace(frame=inputs.frame._replace(calculated_period=T))
@@ -50,7 +44,7 @@ def at_corner(hazard, label, side):
 
 def ratio_of(hazard, ground, T, R):
     """q of V or V_M; for V* the spectrum over the upper factor, up, in millionths."""
-    figures = shears.respond(*hazard_of(hazard, ground, R), T)
+    figures = shears.respond(*made_by(ground).hazard(hazard, ground, R), T)
     factor = figures.upper_factor if hazard == 'star' else figures.lower_factor
     return response.ratio(figures.spectrum, factor)
 

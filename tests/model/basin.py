@@ -32,7 +32,8 @@ def capacity(R):
     return R_a, 2 * R_a - 1
 
 
-def hazards(basin, R):
-    """A, B and capacity of V, V_M and V*: R itself is V_M's, (16)."""
-    of_design = (*design(basin), capacity(R))
-    return of_design, (*mce(basin), response.mce_capacity(R)), of_design
+def hazard(name, basin, R):
+    """A, B and capacity of V (design), V_M (mce), whose capacity is R itself (16), or V* (star), which has those of V."""
+    if name == 'mce':
+        return *mce(basin), response.mce_capacity(R)
+    return *design(basin), capacity(R)

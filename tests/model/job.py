@@ -5,6 +5,9 @@ from typing import NamedTuple
 from . import basin as basins, limits, response, shears, site as sites, storeys
 
 
+HAZARDS = ('design', 'mce', 'star')
+
+
 class Job(NamedTuple):
     """An accepted job on a site or in the Basin; lists run lowest level first; design, mce and star are `shears.Response`."""
 
@@ -35,7 +38,7 @@ class Job(NamedTuple):
 
 
 def made_by(ground):
-    """What makes the hazards of a ground, and says what divides V* there."""
+    """What makes each hazard of a ground, and says what divides V* there."""
     return basins if isinstance(ground, limits.Basin) else sites
 
 
@@ -50,7 +53,7 @@ def job(ground, frame, weights, heights, buffer_lengths=(), s=response.UNIT):
     t = response.approximate_period(frame.kind, heights[-1])
     T = response.period(t, frame.calculated_period)
 
-    design, mce, star = (shears.respond(*hazard, T, s) for hazard in made_by(ground).hazards(ground, frame.R))
+    design, mce, star = (shears.respond(*made_by(ground).hazard(name, ground, frame.R), T, s) for name in HAZARDS)
 
     q = response.ratio(design.spectrum, design.lower_factor, s)
     m = response.modified_ratio(q, s)

@@ -66,7 +66,8 @@ def star(site):
     return A_and_B(site.SSD, site.S1D, NO_NEAR_FAULT, NO_NEAR_FAULT, site.cls)
 
 
-def hazards(site, R):
-    """A, B and capacity of V, V_M and V*: V* has the design capacity too."""
-    return ((*design(site), response.design_capacity(R)), (*mce(site), response.mce_capacity(R)),
-            (*star(site), response.design_capacity(R)))
+def hazard(name, site, R):
+    """A, B and capacity of V (design), V_M (mce) or V* (star), which has the design capacity too."""
+    if name == 'mce':
+        return *mce(site), response.mce_capacity(R)
+    return *(design(site) if name == 'design' else star(site)), response.design_capacity(R)

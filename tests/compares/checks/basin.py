@@ -3,7 +3,7 @@
 from fractions import Fraction
 
 from tests.model import basin, exact, limits, response
-from tests.model.job import job
+from tests.model.job import HAZARDS, job
 
 FRAME = limits.Frame(2, 1000, 480, 100, 150)
 WEIGHTS, HEIGHTS = [5000, 5000, 5000], [100, 200, 300]
@@ -65,10 +65,10 @@ def figures():
     for zone, T0 in CORNER.items():
         ground = limits.Basin(zone)
         yield f'A and B, zone {zone}', lambda g=ground: (basin.design(g), basin.mce(g)), A_AND_B[zone]
-        yield f'T0, zone {zone}', lambda g=ground: [response.corner(A, B) for A, B, _ in basin.hazards(g, 480)], [T0] * 3
+        yield f'T0, zone {zone}', lambda g=ground: [response.corner(*basin.hazard(name, g, 480)[:2]) for name in HAZARDS], [T0] * 3
         for T, wanted in SPECTRUM[zone].items():
             yield (f'spectra at {T}, zone {zone}',
-                   lambda T=T, g=ground: tuple(response.spectrum(A, B, T) for A, B, _ in basin.hazards(g, 480)[:2]), wanted)
+                   lambda T=T, g=ground: (response.spectrum(*basin.design(g), T), response.spectrum(*basin.mce(g), T)), wanted)
     for R, (capacity, *roots) in CAPACITY.items():
         yield f'capacity, R {R}', lambda R=R: basin.capacity(R)[0], capacity
         yield (f'roots, R {R}',
