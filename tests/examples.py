@@ -93,6 +93,7 @@ def refusals(core):
     yield 15, 1, log([3000], [2], [1])
     yield 16, 1, (core.sheet, (b'',))
     yield 17, 0, (core.sheet, (b'\n' * 4097,))
+    yield 18, 0, (core.sheet, (b'basin\t5\nframe\t2\t1000\t480\t100\t150\nlevel\t5000\t100\n',))
 
 
 def run_module(core):
@@ -108,7 +109,7 @@ def run_module(core):
         error = raises(core.Refused, function, *arguments)
         seen.add(number)
         yield f'refusal {number} at {place}', error and (error.number, error.place) == (number, place) and error.text in str(error)
-    yield 'every refusal', seen == set(core.TEXTS) == set(range(1, 18))
+    yield 'every refusal', seen == set(core.TEXTS) == set(range(1, 19))
     for number in (2 ** 64, 2 ** 64 + 1000, -1):
         yield f'a calculated period of {number}', raises(OverflowError, core.job, SITE, (2, number, 480, 100, 150), WEIGHTS, HEIGHTS)
         yield f'a weight of {number}', raises(OverflowError, core.figures, SITE, FRAME, [5000, number, 5000], HEIGHTS)

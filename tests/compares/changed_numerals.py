@@ -14,15 +14,13 @@ import copy
 import inspect
 import io
 import pathlib
-import random
 import re
 import signal
 import sys
 
 from tests.compares import check_model
-from tests.compares.checks import errors, figures
-from tests.draws.sample import accepted_jobs
-from tests.model import exact, limits, response, shears, site, soil, storeys
+from tests.compares.checks import basin as basin_figures, errors, figures
+from tests.model import basin, exact, limits, response, shears, site, soil, storeys
 from tests.model.job import job
 from tests.writes import log_cases, refusal_cases, vectors
 
@@ -73,18 +71,13 @@ def vector_rows():
     with contextlib.redirect_stdout(written):
         vectors.main()
     assert written.getvalue() == (CRATES / 'vectors' / 'specs' / 'Rows.antt').read_text(), 'crates/vectors is of another model'
-    rng = random.Random(vectors.SEED)
-    for number, (stratum, line, frame, weights, heights) in enumerate(accepted_jobs(vectors.SEED, vectors.COUNT)):
-        s = response.UNIT * (10 if number % vectors.FINER == 0 else 1)
-        weights, heights = vectors.fewer(rng, stratum, weights, heights)
-        result = job(line, frame, weights, heights, s=s)
-        roots = [vectors.some_root(rng, each.lower_root, each.upper_root, s) for each in (result.design, result.mce, result.star)]
-        yield line, frame, weights, heights, s, roots
+    for result, roots in vectors.all_worked():
+        yield tuple(result.ground), tuple(result.frame), result.weights, result.heights, result.s, roots
 
 
 def vector(line, frame, weights, heights, s, roots):
-    """Every printed stage and every exact figure."""
-    result = job(line, frame, weights, heights, s=s)
+    """Every printed stage and every exact figure; a line of one number is a zone, of the changed model's own type."""
+    result = job(limits.Basin(*line) if len(line) == 1 else line, frame, weights, heights, s=s)
     return vectors.printed(result), exact.chain(result, roots)
 
 
@@ -126,7 +119,7 @@ def sees(probe, cases, known):
 def suites():
     """(modules, the function tried, its cases, what it is known to answer)."""
     rows = list(vector_rows())
-    yield (site, response, shears, storeys, exact), vector, rows, [vector(*row) for row in rows]
+    yield (site, basin, response, shears, storeys, exact), vector, rows, [vector(*row) for row in rows]
     logs = [*(log_cases.lists(*case) for case in log_cases.all_cases()), *log_cases.blow_counts()]
     yield (soil,), log_or_velocity, logs, answers(CRATES / 'run_logs' / 'stdout')
     jobs = [(changes,) for changes in refusal_cases.all_cases()]
@@ -135,7 +128,7 @@ def suites():
 
 def by_figures():
     """Do the figures that the model is checked against see it?"""
-    return any(got != wanted for module in (figures, errors) for _, got, wanted in check_model.answers(module))
+    return any(got != wanted for module in (figures, basin_figures, errors) for _, got, wanted in check_model.answers(module))
 
 
 def main():

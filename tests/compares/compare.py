@@ -1,9 +1,10 @@
-"""Compares the compiled core with the model: jobs, bad jobs, soil logs, sheets.
+"""Compares the compiled core with the model: jobs, bad jobs, soil logs, sheets; jobs and bad jobs of the Basin.
 
-usage: python3 -m tests.compares.compare [JOBS [BAD [LOGS [SHEETS [SEED]]]]]
+usage: python3 -m tests.compares.compare [JOBS [BAD [LOGS [SHEETS [SEED [BASIN [BASIN_BAD]]]]]]]
 
-It prints the count of each stratum, the largest excess over the exact figure of demand 3, and the number of differences; on standard
-error it says how far it is. It needs x86-64, or RUKESHOMAJI_LIBRARY, a shared library of the core for the machine at hand.
+JOBS and BAD are on sites; a third of the SHEETS is of the Basin. It prints the count of each stratum, the largest excess over the exact
+figure of demand 3 on sites and in the Basin, and the number of differences; on standard error it says how far it is. It needs x86-64, or
+RUKESHOMAJI_LIBRARY, a shared library of the core for the machine at hand.
 """
 
 import random
@@ -15,13 +16,14 @@ from concurrent import futures
 from tests.compares import core
 from tests.compares.excess import SHARP, Largest
 from tests.draws import damage, faults, soil_logs
-from tests.draws.plain_jobs import draw
+from tests.draws.basin import basin_strata
+from tests.draws.plain_jobs import draw, draw_basin, draw_site
 from tests.draws.rare import rare_strata
 from tests.draws.sample import all_strata, draw_in
-from tests.model import job as jobs, sheet, soil
+from tests.model import job as jobs, limits, sheet, soil
 from tests.writes import log_cases
 
-JOBS, BAD, LOGS, SHEETS, SEED = 1_000_000, 120_000, 100_000, 120_000, 1
+JOBS, BAD, LOGS, SHEETS, SEED, BASIN, BASIN_BAD = 1_000_000, 120_000, 100_000, 120_000, 1, 200_000, 20_000
 A_STRATUM, CHUNK, SHOWN = 500, 2_500, 5
 SAID_EACH = 10          # seconds
 WITHOUT = 'the same without buffers'
@@ -30,10 +32,11 @@ OLD = (7_000_000, 8_000_000, 9_000_000)       # what the buffers held: all cells
 
 
 class Tally:
-    """What was compared, by stratum, what differed, and the largest excess."""
+    """What was compared, by stratum, what differed, and the largest excess on sites and in the Basin."""
 
     def __init__(self):
-        self.counts, self.compared, self.differences, self.largest = Counter(), 0, [], Largest()
+        self.counts, self.compared, self.differences = Counter(), 0, []
+        self.largest = {'site': Largest('on sites'), 'basin': Largest('in the Basin')}
 
     def compare(self, stratum, call, got, expected):
         """Count one comparison."""
@@ -47,7 +50,8 @@ class Tally:
         self.counts.update(other.counts)
         self.compared += other.compared
         self.differences += other.differences
-        self.largest.add(other.largest)
+        for ground, largest in self.largest.items():
+            largest.add(other.largest[ground])
 
 
 def held(lengths):
@@ -65,14 +69,19 @@ def answer_of(result, lengths):
             [written + rest[len(written):] for written, rest in zip(cells, old)], True)
 
 
-def expected_job(site, frame, weights, heights, lengths):
+def expected_job(ground, frame, weights, heights, lengths):
     """The model's answer."""
-    return answer_of(jobs.job(site, frame, weights, heights, lengths), lengths)
+    return answer_of(jobs.job(ground, frame, weights, heights, lengths), lengths)
 
 
-def got_job(library, site, frame, weights, heights, lengths):
+def got_job(library, ground, frame, weights, heights, lengths):
     """The core's answer."""
-    return core.job(library, site, frame, weights, heights, held(lengths))
+    return core.job(library, ground, frame, weights, heights, held(lengths))
+
+
+def label(call, words):
+    """How a stratum of sites is called for a call in the Basin."""
+    return f'Basin: {words}' if isinstance(call[0], limits.Basin) else words
 
 
 def compare_job(tally, library, stratum, call, measured):
@@ -80,9 +89,9 @@ def compare_job(tally, library, stratum, call, measured):
     result = jobs.job(*call)
     expected = answer_of(result, call[4])
     tally.compare(stratum, call, got_job(library, *call), expected)
-    tally.compare(WITHOUT, call, core.figures(library, *call[:4]), expected[0])
+    tally.compare(label(call, WITHOUT), call, core.figures(library, *call[:4]), expected[0])
     if measured:
-        tally.largest.measure(result)
+        tally.largest['basin' if isinstance(result.ground, limits.Basin) else 'site'].measure(result)
 
 
 def lengths(rng, weights):
@@ -95,12 +104,12 @@ def with_buffers(rng, inputs):
     return (*inputs, lengths(rng, inputs[2]))
 
 
-def run_stratum(library, tally, seed, name, count):
+def run_stratum(library, tally, seed, name, count, draw_ground=draw_site):
     """Jobs drawn for a stratum."""
     rng = random.Random(seed)
-    stratum = next(each for each, _ in strata() if each.name == name)
+    stratum = next(each for each, _ in strata(draw_ground) if each.name == name)
     for _ in range(count):
-        compare_job(tally, library, name, with_buffers(rng, draw_in(rng, stratum)), True)
+        compare_job(tally, library, name, with_buffers(rng, draw_in(rng, stratum, draw_ground)), True)
 
 
 def run_sharp(library, tally, seed, count):
@@ -110,12 +119,17 @@ def run_sharp(library, tally, seed, count):
         compare_job(tally, library, 'the jobs of SharpMargin.antt', with_buffers(rng, inputs), True)
 
 
-def run_plain(library, tally, seed, count):
+def run_plain(library, tally, seed, count, draw_ground=draw_site):
     """Jobs drawn from all that is allowed."""
     rng = random.Random(seed)
     for number in range(count):
-        call = with_buffers(rng, draw(rng))
-        compare_job(tally, library, 'drawn from all that is allowed', call, number % MEASURED_EACH == 0)
+        call = with_buffers(rng, draw(rng, draw_ground))
+        compare_job(tally, library, label(call, 'drawn from all that is allowed'), call, number % MEASURED_EACH == 0)
+
+
+def run_basin(library, tally, seed, count):
+    """Jobs of the Basin drawn from all that is allowed."""
+    run_plain(library, tally, seed, count, draw_basin)
 
 
 def run_faults(library, tally, calls):
@@ -123,9 +137,9 @@ def run_faults(library, tally, calls):
     for call in calls:
         expected = expected_job(*call)
         stratum = f'refusal {expected[0][0]:2}' if expected[0][0] else 'changed, and accepted'
-        tally.compare(stratum, call, got_job(library, *call), expected)
+        tally.compare(label(call, stratum), call, got_job(library, *call), expected)
         plain = expected_job(*call[:4], (len(call[2]),) * 3)[0]
-        tally.compare(WITHOUT, call, core.figures(library, *call[:4]), plain)
+        tally.compare(label(call, WITHOUT), call, core.figures(library, *call[:4]), plain)
 
 
 def run_bad(library, tally, seed, count):
@@ -134,9 +148,21 @@ def run_bad(library, tally, seed, count):
     run_faults(library, tally, (faults.random_call(rng) for _ in range(count)))
 
 
+def run_basin_bad(library, tally, seed, count):
+    """Random bad calls of the Basin."""
+    rng = random.Random(seed)
+    run_faults(library, tally, (faults.random_call(rng, draw_basin) for _ in range(count)))
+
+
 def run_systematic(library, tally, seed, count):
     """Both sides of every limit at every place."""
     run_faults(library, tally, faults.systematic())
+
+
+def run_systematic_basin(library, tally, seed, count):
+    """The same in the Basin, and every zone that is judged with another number out of range."""
+    run_faults(library, tally, faults.systematic(faults.BASIN))
+    run_faults(library, tally, faults.zones_with_another())
 
 
 def compare_log(tally, library, name, lists):
@@ -164,11 +190,12 @@ def run_logs(library, tally, seed, count):
 
 
 def compare_sheet(tally, library, data):
-    """One sheet; counted by what the model prints first."""
+    """One sheet; counted by what the model prints first, and by the word that it begins with."""
     expected = sheet.shear(data)
     first = expected.split(b'\t')
     refused = (0, 0) if first[0] == b'base' else (int(first[1]), int(first[2]))
     stratum = f'sheet refused {refused[0]:2}' if refused[0] else 'sheet listed'
+    stratum = f'Basin: {stratum}' if data.startswith(b'basin') else stratum
     tally.compare(stratum, data, core.sheet(library, data), ((*refused, len(expected)), expected, True))
 
 
@@ -198,9 +225,19 @@ def chunks(function, seed, count):
     return [(function, f'{function.__name__} {seed} {start}', min(CHUNK, count - start)) for start in range(0, count, CHUNK)]
 
 
-def strata():
-    """Every stratum with the jobs drawn for it."""
+def strata(draw_ground=draw_site):
+    """Every stratum of sites or of the Basin, with the jobs drawn for it."""
+    if draw_ground is draw_basin:
+        return list(basin_strata(A_STRATUM))
     return [*((each, A_STRATUM) for each in all_strata()), *rare_strata()]
+
+
+def basin_tasks(seed, count, bad):
+    """What is compared of the Basin beside sheets."""
+    drawn = strata(draw_basin)
+    yield from ((run_stratum, f'stratum {seed} {each.name}', each.name, of_it, draw_basin) for each, of_it in drawn)
+    yield from chunks(run_basin, seed, count - sum(of_it for _, of_it in drawn))
+    yield from ((run_systematic_basin, seed, 0), *chunks(run_basin_bad, seed, bad))
 
 
 def told(tallies, parts):
@@ -216,7 +253,7 @@ def told(tallies, parts):
         yield tally
 
 
-def main(job_count=JOBS, bad=BAD, logs=LOGS, sheets=SHEETS, seed=SEED):
+def main(job_count=JOBS, bad=BAD, logs=LOGS, sheets=SHEETS, seed=SEED, basin=BASIN, basin_bad=BASIN_BAD):
     """Run all, print all; 1 where anything differs. No fewer jobs are drawn than the strata ask for."""
     core.build()
     tasks = [(run_stratum, f'stratum {seed} {each.name}', each.name, count) for each, count in strata()]
@@ -225,13 +262,15 @@ def main(job_count=JOBS, bad=BAD, logs=LOGS, sheets=SHEETS, seed=SEED):
     tasks += [(run_systematic, seed, 0), *chunks(run_bad, seed, bad)]
     tasks += [(run_systematic_logs, seed, 0), *chunks(run_logs, seed, logs)]
     tasks += [(run_stored_sheets, seed, 0), *chunks(run_sheets, seed, sheets)]
+    tasks += basin_tasks(seed, basin, basin_bad)
     total = Tally()
     with futures.ProcessPoolExecutor() as pool:     # a core that crashes ends this with an error
         for tally in told(pool.map(run, tasks), len(tasks)):
             total.add(tally)
     for name, count in sorted(total.counts.items()):
         print(f'{count:9}  {name}')
-    print(*total.largest.lines(), sep='\n')
+    for largest in total.largest.values():
+        print(*largest.lines(), sep='\n')
     for stratum, call, got, expected in total.differences[:SHOWN]:
         print('DIFFERS', stratum, call, got, expected)
     print(f'seed {seed}: {total.compared} comparisons, {len(total.differences)} differences')

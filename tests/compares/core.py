@@ -10,6 +10,8 @@ import platform
 import subprocess
 import sys
 
+from tests.model import limits
+
 ROOT = pathlib.Path(__file__).resolve().parents[2]
 ARCHIVE = ROOT / 'target' / 'staticlib' / 'liblinked.a'
 SHARED = ROOT / 'target' / 'staticlib' / 'liblinked.so'
@@ -73,12 +75,14 @@ def load():
     """The functions, with their types."""
     needs_x86_64()
     library = ctypes.CDLL(GIVEN or str(SHARED))
-    slices, job_lines = [ctypes.POINTER(U64), U64], [ctypes.POINTER(Site), ctypes.POINTER(Frame)]
-    library.rukeshomaji_job.argtypes = [*job_lines, *slices * 5, ctypes.POINTER(Figures)]
-    library.rukeshomaji_figures.argtypes = [*job_lines, *slices * 2, ctypes.POINTER(Figures)]
+    slices = [ctypes.POINTER(U64), U64]
+    for ground, kind in (('', ctypes.POINTER(Site)), ('basin_', U64)):
+        for name, lists in (('job', 5), ('figures', 2)):
+            entry = getattr(library, f'rukeshomaji_{ground}{name}')
+            entry.argtypes = [kind, ctypes.POINTER(Frame), *slices * lists, ctypes.POINTER(Figures)]
     library.rukeshomaji_site_class.argtypes = [*slices * 3, ctypes.POINTER(SiteClass)]
     library.rukeshomaji_sheet.argtypes = [ctypes.c_char_p, U64, ctypes.c_char_p, ctypes.POINTER(Listing)]
-    for name in ('job', 'figures', 'site_class', 'sheet', 'version', 'edition', 'source'):
+    for name in ('job', 'figures', 'basin_job', 'basin_figures', 'site_class', 'sheet', 'version', 'edition', 'source'):
         getattr(library, f'rukeshomaji_{name}').restype = U64
     return library
 
@@ -122,20 +126,27 @@ def answer(number, array):
     return None if cells is None else (number, *cells)
 
 
-def job(library, site, frame, weights, heights, buffers):
+def entry_of(library, name, ground):
+    """The entry for a ground, and the ground as it takes it: a zone by value, a site through a pointer."""
+    if isinstance(ground, limits.Basin):
+        return getattr(library, f'rukeshomaji_basin_{name}'), ground.zone
+    return getattr(library, f'rukeshomaji_{name}'), Site(*ground)
+
+
+def job(library, ground, frame, weights, heights, buffers):
     """(number, place, V, V_M, V*, V_D, T), what the three buffers hold after, and whether what is only read is as it was."""
-    out, read = [lent_out(each) for each in buffers], (Site(*site), Frame(*frame))
+    out, (entry, given), line = [lent_out(each) for each in buffers], entry_of(library, 'job', ground), Frame(*frame)
     lists, (array, reply) = [lent(weights), lent(heights)], painted(Figures)
-    number = library.rukeshomaji_job(*read, *lists[0], *lists[1],
-                                     *(part for _, pointer, length in out for part in (pointer, length)), reply)
-    same = [*map(numbers_of, read), *(list(each) for each, _ in lists)] == [tuple(site), tuple(frame), list(weights), list(heights)]
+    number = entry(given, line, *lists[0], *lists[1], *(part for _, pointer, length in out for part in (pointer, length)), reply)
+    read = [numbers_of(given) if isinstance(given, Site) else (given,), numbers_of(line), *(list(each) for each, _ in lists)]
+    same = read == [tuple(ground), tuple(frame), list(weights), list(heights)]
     return answer(number, array), [cells_of(each) for each, _, _ in out], same
 
 
-def figures(library, site, frame, weights, heights):
+def figures(library, ground, frame, weights, heights):
     """(number, place, V, V_M, V*, V_D, T), without buffers."""
-    array, reply = painted(Figures)
-    return answer(library.rukeshomaji_figures(Site(*site), Frame(*frame), *lent(weights), *lent(heights), reply), array)
+    (array, reply), (entry, given) = painted(Figures), entry_of(library, 'figures', ground)
+    return answer(entry(given, Frame(*frame), *lent(weights), *lent(heights), reply), array)
 
 
 def site_class(library, thicknesses, kinds, values):

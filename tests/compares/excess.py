@@ -20,6 +20,11 @@ SHARP = (
 )
 
 
+def words(ground):
+    """A ground with its numbers."""
+    return f"{'basin' if isinstance(ground, limits.Basin) else 'site'} {tuple(ground)}"
+
+
 class Excess(NamedTuple):
     """An excess, and the job that shows it."""
 
@@ -30,8 +35,8 @@ class Excess(NamedTuple):
 class Largest:
     """The largest excess by part and unit, over the jobs measured."""
 
-    def __init__(self):
-        self.seen, self.jobs = {}, 0
+    def __init__(self, where):
+        self.where, self.seen, self.jobs = where, {}, 0
 
     def keep(self, key, excess):
         """The larger of two."""
@@ -55,10 +60,10 @@ class Largest:
 
     def lines(self):
         """What was seen beside what demand 3 grants."""
-        yield f'largest excess over the exact figure, of {self.jobs} jobs'
+        yield f'largest excess over the exact figure, of {self.jobs} jobs {self.where}'
         for part, newtons in NEWTONS.items():
             beyond, most = self.seen[part, 'millionths'], self.seen[part, 'N']
             yield f'  {part}: {float(beyond.size):.4f} millionths beyond {newtons} N (granted: less than {MARGIN}), ' \
                   f'{float(most.size):.4f} N beyond {MARGIN} millionths (granted: less than {newtons})'
-            yield from (f'    {unit}: site {tuple(job.site)} frame {tuple(job.frame)} {len(job.weights)} levels, {job.W} kN, '
+            yield from (f'    {unit}: {words(job.ground)} frame {tuple(job.frame)} {len(job.weights)} levels, {job.W} kN, '
                         f'top {job.heights[-1]}' for unit, job in (('millionths', beyond.job), ('N', most.job)))

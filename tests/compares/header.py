@@ -47,7 +47,7 @@ RANGES = [
 # what the core takes, as C declares it; the array of a struct by the parameter's name
 TYPES = {
     '&[u64]': 'const uint64_t *, uint64_t', '&mut [u64]': 'uint64_t *, uint64_t', '&[u8]': 'const char *, uint64_t',
-    '&mut [u8; LONGEST]': 'char *',
+    '&mut [u8; LONGEST]': 'char *', 'u64': 'uint64_t',
 }
 STRUCTS = {
     'site': 'RukeshomajiSite', 'frame': 'RukeshomajiFrame', 'figures': 'RukeshomajiFigures',
@@ -117,7 +117,7 @@ def check_entries():
     entries = dict(re.findall(r'extern "C" fn (rukeshomaji_\w+)\(([^)]*)\) -> u64', text))
     for name in sorted(declared.keys() | entries.keys()):
         expected = []
-        for parameter, kind in re.findall(r'(\w+): (&(?:mut )?\[[^\]]*\])', entries.get(name, '')):
+        for parameter, kind in re.findall(r'(\w+): (&(?:mut )?\[[^\]]*\]|u64\b)', entries.get(name, '')):
             sized = re.fullmatch(r'&(mut )?\[u64; (\d+)\]', kind)
             if not sized:
                 expected.append(TYPES[kind])

@@ -22,22 +22,37 @@ static void figures(const char *name, unsigned set, uint64_t number, Rukeshomaji
            f.vm, f.star, f.vd, f.t);
 }
 
-int main(void) {
+/* of a site, or of the Basin's zone where it is not 0: the job call with each set of lists and buffers */
+static void jobs(const char *name, uint64_t zone) {
     for (unsigned set = 0; set < 32; set++) {
         uint64_t cells[3][LEVELS] = {{7, 7, 7}, {8, 8, 8}, {9, 9, 9}};
         RukeshomajiFigures f = {PAINT, PAINT, PAINT, PAINT, PAINT, PAINT};
-        uint64_t number = rukeshomaji_job(&site, &frame, LIST(weights, 0), LIST(heights, 1), LIST(cells[0], 2), LIST(cells[1], 3),
-                                          LIST(cells[2], 4), &f);
-        figures("job", set, number, f);
+        uint64_t number = zone ? rukeshomaji_basin_job(zone, &frame, LIST(weights, 0), LIST(heights, 1), LIST(cells[0], 2),
+                                                       LIST(cells[1], 3), LIST(cells[2], 4), &f)
+                               : rukeshomaji_job(&site, &frame, LIST(weights, 0), LIST(heights, 1), LIST(cells[0], 2), LIST(cells[1], 3),
+                                                 LIST(cells[2], 4), &f);
+        figures(name, set, number, f);
         for (int i = 0; i < 3 * LEVELS; i++) printf(" %" PRIu64, cells[i / LEVELS][i % LEVELS]);
         printf("\n");
     }
+}
+
+/* the call without buffers likewise */
+static void without_buffers(const char *name, uint64_t zone) {
     for (unsigned set = 0; set < 4; set++) {
         RukeshomajiFigures f = {PAINT, PAINT, PAINT, PAINT, PAINT, PAINT};
-        uint64_t number = rukeshomaji_figures(&site, &frame, LIST(weights, 0), LIST(heights, 1), &f);
-        figures("figures", set, number, f);
+        uint64_t number = zone ? rukeshomaji_basin_figures(zone, &frame, LIST(weights, 0), LIST(heights, 1), &f)
+                               : rukeshomaji_figures(&site, &frame, LIST(weights, 0), LIST(heights, 1), &f);
+        figures(name, set, number, f);
         printf("\n");
     }
+}
+
+int main(void) {
+    jobs("job", 0);
+    jobs("basin_job", 3);
+    without_buffers("figures", 0);
+    without_buffers("basin_figures", 3);
     for (unsigned set = 0; set < 8; set++) {
         RukeshomajiClass c = {PAINT, PAINT};
         uint64_t number = rukeshomaji_site_class(LIST(thicknesses, 0), LIST(kinds, 1), LIST(values, 2), &c);

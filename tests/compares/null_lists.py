@@ -18,9 +18,10 @@ from tests.model import job as jobs, limits, sheet, soil
 
 SITE, FRAME = limits.Site(80, 45, 100, 55, 100, 100, 1), limits.Frame(2, 1000, 480, 100, 150)
 LEVELS = 3
+BASIN = limits.Basin(3)
+JOB, FIGURES = ([5000] * LEVELS, [100, 200, 300], [7] * LEVELS, [8] * LEVELS, [9] * LEVELS), ([5000] * LEVELS, [100, 200, 300])
 LISTS = {
-    'job': ([5000] * LEVELS, [100, 200, 300], [7] * LEVELS, [8] * LEVELS, [9] * LEVELS),
-    'figures': ([5000] * LEVELS, [100, 200, 300]),
+    'job': JOB, 'basin_job': JOB, 'figures': FIGURES, 'basin_figures': FIGURES,
     'site_class': ([1000] * LEVELS, [1, 2, 3], [3000, 20, 40]),
     'sheet': (sheet.write(SITE, FRAME, [5000] * LEVELS, [100, 200, 300]),),
 }
@@ -36,15 +37,20 @@ def job_line(result):
     return [*result[1:], 0, 0, 0, 0, 0] if result[0] == 'refused' else [0, 0, result.V, result.V_M, result.V_star, result.V_D, result.T]
 
 
+def ground_of(entry):
+    """The ground that an entry is called with."""
+    return BASIN if entry.startswith('basin_') else SITE
+
+
 def by_model(entry, lists):
     """What the model answers: None is a list of nothing."""
     empty = [each if each is not None else type(old)() for each, old in zip(lists, LISTS[entry])]
-    if entry == 'job':
-        result = jobs.job(SITE, FRAME, *empty[:2], tuple(map(len, empty[2:])))
-        cells = LISTS['job'][2:] if result[0] == 'refused' else (result.forces, result.shears, result.moments)
+    if entry.endswith('job'):
+        result = jobs.job(ground_of(entry), FRAME, *empty[:2], tuple(map(len, empty[2:])))
+        cells = JOB[2:] if result[0] == 'refused' else (result.forces, result.shears, result.moments)
         return [*job_line(result), *(cell for buffer in cells for cell in buffer)]
-    if entry == 'figures':
-        return job_line(jobs.job(SITE, FRAME, *empty, (len(empty[0]),) * 3))
+    if entry.endswith('figures'):
+        return job_line(jobs.job(ground_of(entry), FRAME, *empty, (len(empty[0]),) * 3))
     if entry == 'site_class':
         answer = soil.log(*empty)
         return [0, 0, answer.cls] if isinstance(answer, soil.Log) else [*answer[1:], 0]
@@ -70,7 +76,8 @@ def by_ctypes(library, entry, lists):
         array, reply = core.painted(core.SiteClass)
         return list(core.answer(library.rukeshomaji_site_class(*arguments, reply), array))
     array, reply = core.painted(core.Figures)
-    number = getattr(library, f'rukeshomaji_{entry}')(core.Site(*SITE), core.Frame(*FRAME), *arguments, reply)
+    call, ground = core.entry_of(library, entry.removeprefix('basin_'), ground_of(entry))
+    number = call(ground, core.Frame(*FRAME), *arguments, reply)
     held = [cell for (lent_to, _), old in zip(pairs[2:], LISTS[entry][2:]) for cell in (old if lent_to is None else lent_to)]
     return [*core.answer(number, array), *held]
 

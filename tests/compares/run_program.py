@@ -121,9 +121,9 @@ def bad_lines(worked):
 
 
 def refused(worked):
-    """A sheet for each refusal of a job that a sheet can get, at each place."""
+    """A sheet for each refusal of a job that a sheet can get, at each place; of a site's sheet or the Basin's."""
     lines = [line.split(b'\t') for line in worked.splitlines()]
-    for line, place in [*((0, place) for place in range(1, 8)), *((1, place) for place in range(1, 6)), (3, 1), (3, 2)]:
+    for line, place in [*((0, place) for place in range(1, len(lines[0]))), *((1, place) for place in range(1, 6)), (3, 1), (3, 2)]:
         changed = [list(each) for each in lines]
         changed[line][place] = b'99999'
         yield f'line {line + 1}, number {place}', b''.join(b'\t'.join(each) + b'\n' for each in changed)
@@ -141,7 +141,11 @@ def cases():
     yield 'a sheet cut off, byte by byte', run, bytes_of(worked[:-1]), answer(sheet.shear(worked[:-1]), 'no LF ends it')
     for name, data, seen in bad_lines(worked):
         yield name, run, [data], answer(sheet.shear(data), seen)
-    for name, data in refused(worked):
+    basin = b'basin\t3\n' + worked.split(b'\n', 1)[1]
+    yield 'a sheet of the Basin', run, [basin], answer(sheet.shear(basin))
+    yield 'a sheet of the Basin byte by byte', run, bytes_of(basin), answer(sheet.shear(basin))
+    yield 'a basin line alone', run, [b'basin\t3\n'], answer(b'refused\t16\t2\n', 'the sheet ends before it')
+    for name, data in (*refused(worked), *((f'Basin, {name}', data) for name, data in refused(basin))):
         yield f'refused: {name}', run, [data], answer(sheet.shear(data))
     endless = itertools.chain([worked], itertools.repeat(b'level\t1\t1\n'))
     yield 'a sheet, then level lines without end', run, endless, answer(b'refused\t17\t0\n')

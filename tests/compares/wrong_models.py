@@ -1,4 +1,4 @@
-"""01's 'Errors that look right', each put into the model: how many of the comparisons with the compiled core show it.
+"""01's 'Errors that look right', and some of the Basin, each put into the model: how many of the comparisons with the compiled core show it.
 
 usage: python3 -m tests.compares.wrong_models [JOBS [SEED]]        after tests/compares/compare.py has built the archive
 """
@@ -12,8 +12,9 @@ from unittest import mock
 
 from tests.compares import core
 from tests.compares.compare import expected_job, got_job, lengths
-from tests.draws.plain_jobs import draw
-from tests.model import response, site as sites, storeys
+from tests.draws.faults import random_call
+from tests.draws.plain_jobs import draw, draw_basin
+from tests.model import basin as basins, limits, response, site as sites, storeys
 
 JOBS, SEED = 10_000, 1
 
@@ -57,12 +58,32 @@ def alone(V_D, top, weights, heights):
     return [sum(each[x:]) for x in range(len(each))]
 
 
+def mce_of_the_next_zone(basin):
+    """The corner of another zone for MCE."""
+    return basins.A_and_B(basins.S_MS, basin.zone % len(basins.TABLE_4) + 1)
+
+
+def zone_by_number(ground, frame, weights, heights, buffer_lengths):
+    """18 judged after 8 to 12, by its number."""
+    yield from limits.level_refusals(weights, heights, buffer_lengths)
+    yield from limits.frame_refusals(limits.Frame(*frame))
+    yield from limits.ground_refusals(ground)
+
+
 ERRORS = {
     'the lower factor used in V*': [(response, 'upper_factor', response.lower_factor)],
     'near-fault factors left in V*': [(sites, 'star', sites.design)],
     'T0 rounded to a millisecond': [(response, 'corner', rounded_corner), (response, 'spectrum_in_g', rounded_spectrum)],
     'thresholds 0.4 and 0.9': [(response, 'modified_ratio', draft_ratio), (response, 'p_of_star', draft_p)],
     'each storey force rounded alone': [(storeys, 'shears', alone)],
+}
+
+
+BASIN_ERRORS = {
+    '1.5 kept in R_a': [(basins, 'capacity', response.design_capacity)],
+    '4.2 kept in V*': [(basins, 'V_STAR', sites.V_STAR)],
+    'the corner of another zone for MCE': [(basins, 'mce', mce_of_the_next_zone)],
+    '18 judged after 8': [(limits, 'refusals', zone_by_number)],
 }
 
 
@@ -79,20 +100,40 @@ def made(patches):
             patch.stop()
 
 
-def main(jobs=JOBS, seed=SEED):
-    """Print how many jobs show each error; 1 where one is not seen at all."""
-    rng, library, unseen = random.Random(seed), core.load(), 0
-    calls = []
-    for _ in range(jobs):
-        site, frame, weights, heights = draw(rng)
-        calls.append((site, frame, weights, heights, lengths(rng, weights)))
-    answers = [got_job(library, *call) for call in calls]
-    for name, patches in {'nothing, the model as it is': [], **ERRORS}.items():
+def site_calls(rng, count):
+    """Accepted jobs on sites."""
+    for _ in range(count):
+        ground, frame, weights, heights = draw(rng)
+        yield ground, frame, weights, heights, lengths(rng, weights)
+
+
+def basin_calls(rng, count):
+    """Jobs of the Basin, every second one bad."""
+    for number in range(count):
+        if number % 2:
+            yield random_call(rng, draw_basin)
+            continue
+        ground, frame, weights, heights = draw(rng, draw_basin)
+        yield ground, frame, weights, heights, lengths(rng, weights)
+
+
+def unseen(library, calls, where, errors):
+    """Print how many calls show each error; how many errors are not seen at all."""
+    count, answers = 0, [got_job(library, *call) for call in calls]
+    for name, patches in {'nothing, the model as it is': [], **errors}.items():
         with made(patches):
             shown = sum(expected_job(*call) != answer for call, answer in zip(calls, answers))
-        unseen += (shown == 0) == bool(patches)
-        print(f'{shown:7} of {jobs} show: {name}')
-    return 1 if unseen else 0
+        count += (shown == 0) == bool(patches)
+        print(f'{shown:7} of {len(calls)} {where} show: {name}')
+    return count
+
+
+def main(jobs=JOBS, seed=SEED):
+    """Try the errors on sites and those of the Basin; 1 where one is not seen at all."""
+    rng, library = random.Random(seed), core.load()
+    count = unseen(library, list(site_calls(rng, jobs)), 'on sites', ERRORS)
+    count += unseen(library, list(basin_calls(rng, jobs)), 'in the Basin', BASIN_ERRORS)
+    return 1 if count else 0
 
 
 if __name__ == '__main__':

@@ -1,9 +1,9 @@
 """Sheets damaged byte by byte."""
 
-from tests.draws.plain_jobs import draw
+from tests.draws.plain_jobs import draw, draw_basin, draw_site
 from tests.model import sheet
 
-OWN = b'\t\n0123456789sitefrmlv'
+OWN = b'\t\n0123456789sitefrmlvban'
 
 
 def damaged(rng, data):
@@ -30,8 +30,9 @@ def long(rng, data):
 
 
 def drawn(rng):
-    """A sheet of a drawn job, sound or with one to three damages; one in fifty as long as a sheet may be, or a little longer."""
-    data = sheet.write(*draw(rng))
+    """A sheet of a drawn job, one in three of the Basin, sound or with one to three damages; one in fifty as long as a sheet may be, or a
+    little longer."""
+    data = sheet.write(*draw(rng, rng.choice((draw_site, draw_site, draw_basin))))
     if rng.random() < 0.02:
         data = long(rng, data)
     for _ in range(rng.choice((0, 1, 1, 1, 1, 2, 3))):

@@ -6,9 +6,9 @@ from tests.model import limits
 
 
 class Inputs(NamedTuple):
-    """The four inputs of a job, lowest level first."""
+    """The four inputs of a job on a site or in the Basin, lowest level first."""
 
-    site: limits.Site
+    ground: limits.Site | limits.Basin
     frame: limits.Frame
     weights: list
     heights: list
@@ -25,6 +25,11 @@ def draw_site(rng):
     )
 
 
+def draw_basin(rng):
+    """Any zone."""
+    return limits.Basin(rng.choice(limits.ZONE))
+
+
 def draw_frame(rng):
     """Any R, I, alpha-y and kind; a calculated period of none, short, middling or any length."""
     period = rng.choice((0, rng.randint(1, 1_000), rng.randint(1, 6_000), rng.randint(1, 60_000)))
@@ -38,9 +43,9 @@ def draw_heights(rng, count):
     return sorted(rng.sample(range(1, top), count - 1)) + [top]
 
 
-def draw(rng):
+def draw(rng, draw_ground=draw_site):
     """Inputs of 1 to 50 levels, light or heavy."""
     count = rng.choice((1, rng.randint(1, 6), rng.randint(1, 50), 50, rng.randint(1, 50)))
     heaviest = rng.choice((3, 1_000, 20_000))
     weights = [rng.randint(1, heaviest) for _ in range(count)]
-    return Inputs(draw_site(rng), draw_frame(rng), weights, draw_heights(rng, count))
+    return Inputs(draw_ground(rng), draw_frame(rng), weights, draw_heights(rng, count))

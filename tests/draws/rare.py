@@ -3,6 +3,7 @@
 from tests.draws.plain_jobs import Inputs
 from tests.draws.strata import Stratum, ratio_of
 from tests.model import limits, response, shears, site as sites
+from tests.model.job import HAZARDS, made_by
 
 TIES = (('V', 'V_M'), ('V', 'V_star'), ('V_M', 'V_star'), ('V', 'V_M', 'V_star'))
 MARKS = (('design', 300_000), ('design', 800_000), ('mce', 300_000), ('mce', 800_000), ('star', 300_000))
@@ -20,16 +21,15 @@ def tied(names):
     """Shears that are equal and govern: jobs of a few kN, whose shears are a few hundred N."""
     def reach(inputs):
         """One light level; R where V* comes above the two others."""
-        site, frame, weights, heights = inputs
+        ground, frame, weights, heights = inputs
         T = response.period(response.approximate_period(frame.kind, heights[-1]), frame.calculated_period)
 
         def star_governs(R):
             """V* above V and V_M for this R."""
-            cases = ((sites.design, response.design_capacity), (sites.mce, response.mce_capacity))
-            both = [shears.respond(*hazard(site), capacity(R), T) for hazard, capacity in cases]
-            star = shears.respond(*sites.star(site), response.design_capacity(R), T)
+            *both, star = (shears.respond(*made_by(ground).hazard(hazard, ground, R), T) for hazard in HAZARDS)
             m = max(response.modified_ratio(response.ratio(each.spectrum, each.lower_factor)) for each in both)
-            return response.p_of_star(star.spectrum, star.upper_factor) > 3 * m
+            p = response.p_of_star(star.spectrum, star.upper_factor)
+            return p / shears.divisor(divided_by=made_by(ground).V_STAR) > m / shears.divisor()
 
         R = frame.R if names == ('V', 'V_M') else crossing(limits.R_RANGE[0], limits.R_RANGE[-1], star_governs)
         return inputs._replace(frame=frame._replace(R=R), weights=[1 + weights[0] % 3], heights=heights[-1:])
@@ -58,14 +58,14 @@ def at_mark(hazard, threshold, offset):
         return None
 
     return Stratum(f'{hazard}: ratio {threshold + offset}', reach,
-                   lambda job: ratio_of(hazard, job.site, job.T, job.frame.R) == threshold + offset)
+                   lambda job: ratio_of(hazard, job.ground, job.T, job.frame.R) == threshold + offset)
 
 
 def heavy():
     """A million kN, I = 1.50, alpha-y = 1.00, R near 1, T just below 0.2 T0: a millionth is 1071 N, and every stage rounds."""
     def reach(inputs):
         """The largest weights; the period up to 30 ms below the corner of V or of V_M."""
-        site = inputs.site._replace(SSM=100, NA=130 + inputs.site.NA % 21)
+        site = inputs.ground._replace(SSM=100, NA=130 + inputs.ground.NA % 21)
         hazard = (sites.design, sites.mce)[inputs.frame.alphay % 2]
         period = max(1, int(response.corner(*hazard(site)) / 5) - inputs.frame.calculated_period % 31)
         return Inputs(site, limits.Frame(1, period, 100 + inputs.frame.R % 21, 150, 100), [20_000] * 50, list(range(8, 401, 8)))
@@ -78,7 +78,7 @@ def largest():
     """Every number at its largest and R = 1: the largest shears and products."""
     def reach(inputs):
         """The levels at the very top; class, kind and period as drawn."""
-        site = inputs.site._replace(SSD=80, S1D=45, SSM=100, S1M=55, NA=150, NV=200)
+        site = inputs.ground._replace(SSD=80, S1D=45, SSM=100, S1M=55, NA=150, NV=200)
         frame = inputs.frame._replace(R=100, I=150, alphay=100)
         return Inputs(site, frame, [20_000] * 50, list(range(1_951, 2_001)))
 
@@ -88,7 +88,7 @@ def largest():
 def star_at_800000():
     """V*'s ratio at its second threshold: Sa is at most 0.8 g and F at least 1, so it is never above, and p's third line is not reached."""
     return Stratum('star: ratio 800000', lambda inputs: inputs._replace(frame=inputs.frame._replace(R=100)),
-                   lambda job: ratio_of('star', job.site, job.T, job.frame.R) == 800_000)
+                   lambda job: ratio_of('star', job.ground, job.T, job.frame.R) == 800_000)
 
 
 def light():
@@ -97,7 +97,7 @@ def light():
         """At most eight levels of at most 12 kN, the last at the top."""
         weights, heights = [1 + weight % 12 for weight in inputs.weights[:8]], inputs.heights[:8]
         frame = inputs.frame._replace(kind=1, calculated_period=5_000 + inputs.frame.calculated_period % 1_329)
-        return Inputs(inputs.site, frame, weights, [*heights[:-1], 2_000])
+        return Inputs(inputs.ground, frame, weights, [*heights[:-1], 2_000])
 
     return Stratum('light, tall, a long period', reach, lambda job: job.W <= 96 and job.T >= 5_000)
 

@@ -7,7 +7,7 @@ import random
 import sys
 from collections import Counter
 
-from tests.draws.plain_jobs import draw
+from tests.draws.plain_jobs import draw, draw_site
 from tests.draws.strata import CORNERS, SIDES, Stratum, at_corner, at_ratio, governed_by, in_table, kept, with_number
 from tests.model import limits, site as sites
 from tests.model.job import job
@@ -27,12 +27,16 @@ def corner_and_ratio_strata():
     yield from (governed_by(name) for name in ('V', 'V_M', 'V_star'))
 
 
-def site_and_frame_strata():
-    """S against the columns of Table 2; every class, kind and I; the ends of alpha-y; the period's cases."""
+def site_strata():
+    """S against the columns of Table 2; every class."""
     mapped = (('SSD', 'NA', sites.S_S_COLUMNS), ('S1D', 'NV', sites.S_1_COLUMNS),
               ('SSM', 'NA', sites.S_S_COLUMNS), ('S1M', 'NV', sites.S_1_COLUMNS))
     yield from (in_table(*each, place) for each in mapped for place in ('on', 'between', 'beyond'))
-    yield from (with_number('site', 'cls', cls) for cls in limits.CLASS)
+    yield from (with_number('ground', 'cls', cls) for cls in limits.CLASS)
+
+
+def frame_strata():
+    """Every kind and I; the ends of alpha-y; the period's cases."""
     yield from (with_number('frame', 'kind', kind) for kind in limits.KIND)
     yield from (with_number('frame', 'I', value) for value in limits.I_VALUES)
     yield from (with_number('frame', 'alphay', value) for value in (100, 200))
@@ -57,13 +61,13 @@ def level_strata():
 
 def all_strata():
     """Every stratum, in a fixed order."""
-    return [*corner_and_ratio_strata(), *site_and_frame_strata(), *level_strata()]
+    return [*corner_and_ratio_strata(), *site_strata(), *frame_strata(), *level_strata()]
 
 
-def draw_in(rng, stratum):
+def draw_in(rng, stratum, draw_ground=draw_site):
     """Inputs that `job` accepts and that lie in the stratum."""
     for _ in range(MOST_TRIES):
-        inputs = stratum.reach(draw(rng))
+        inputs = stratum.reach(draw(rng, draw_ground))
         if inputs is None:
             continue
         result = job(*inputs)

@@ -4,7 +4,8 @@ from fractions import Fraction
 from math import ceil, floor
 from typing import Callable, NamedTuple
 
-from tests.model import limits, response, shears, site as sites
+from tests.model import limits, response, shears
+from tests.model.job import made_by
 
 CORNERS = {'0.2': Fraction(1, 5), '0.6': Fraction(3, 5), '1': Fraction(1), '2.5': Fraction(5, 2)}
 SIDES = ('below', 'on', 'above')
@@ -28,7 +29,8 @@ def at_corner(hazard, label, side):
     """T within 1 ms of a corner of a hazard, on the given side, by the calculated period."""
     def reach(inputs):
         """The calculated period put at the corner."""
-        mark = CORNERS[label] * response.corner(*getattr(sites, hazard)(inputs.site))
+        A, B, _ = made_by(inputs.ground).hazard(hazard, inputs.ground, inputs.frame.R)
+        mark = CORNERS[label] * response.corner(A, B)
         T = {'below': ceil(mark) - 1, 'on': floor(mark), 'above': floor(mark) + 1}[side]
         return inputs._replace(frame=inputs.frame._replace(calculated_period=T))
 
@@ -40,10 +42,9 @@ def at_corner(hazard, label, side):
     return Stratum(f'{hazard}: T {side} {label} T0', reach, holds)
 
 
-def ratio_of(hazard, site, T, R):
+def ratio_of(hazard, ground, T, R):
     """q of V or V_M; for V* the spectrum over the upper factor, up, in millionths."""
-    capacity = response.mce_capacity(R) if hazard == 'mce' else response.design_capacity(R)
-    figures = shears.respond(*getattr(sites, hazard)(site), capacity, T)
+    figures = shears.respond(*made_by(ground).hazard(hazard, ground, R), T)
     factor = figures.upper_factor if hazard == 'star' else figures.lower_factor
     return response.ratio(figures.spectrum, factor)
 
@@ -52,20 +53,20 @@ def at_ratio(hazard, threshold, side):
     """The ratio within 200 millionths of a threshold; R is sought, as the ratio falls with R."""
     def reach(inputs):
         """R put where the ratio passes the threshold."""
-        site, frame, _, heights = inputs
+        ground, frame, _, heights = inputs
         T = response.period(response.approximate_period(frame.kind, heights[-1]), frame.calculated_period)
         low, high = limits.R_RANGE[0], limits.R_RANGE[-1]
-        if not ratio_of(hazard, site, T, high) <= threshold <= ratio_of(hazard, site, T, low):
+        if not ratio_of(hazard, ground, T, high) <= threshold <= ratio_of(hazard, ground, T, low):
             return None
         while high - low > 1:
             R = (low + high) // 2
-            low, high = (R, high) if ratio_of(hazard, site, T, R) > threshold else (low, R)
-        R = low if side == 'above' or ratio_of(hazard, site, T, low) <= threshold else high
+            low, high = (R, high) if ratio_of(hazard, ground, T, R) > threshold else (low, R)
+        R = low if side == 'above' or ratio_of(hazard, ground, T, low) <= threshold else high
         return inputs._replace(frame=frame._replace(R=R))
 
     def holds(job):
         """The ratio lies there."""
-        ratio = ratio_of(hazard, job.site, job.T, job.frame.R)
+        ratio = ratio_of(hazard, job.ground, job.T, job.frame.R)
         return abs(ratio - threshold) <= NEAR_RATIO and side_of(ratio, threshold) == side
 
     return Stratum(f'{hazard}: ratio {side} {threshold}', reach, holds)
@@ -80,14 +81,14 @@ def in_table(field, factor, columns, place):
     """S = mapped value times near-fault factor, on, between or beyond the columns of Table 2."""
     def holds(job):
         """S lies there."""
-        S = getattr(job.site, field) * getattr(job.site, factor)
+        S = getattr(job.ground, field) * getattr(job.ground, factor)
         return place == ('on' if S in columns else 'beyond' if S > columns[-1] else 'between')
 
     return kept(f'{field}*{factor} {place} columns', holds)
 
 
 def with_number(part, field, value):
-    """One number of the site or of the frame at a given value."""
+    """One number of the ground or of the frame at a given value."""
     def reach(inputs):
         """The number put in its place."""
         return inputs._replace(**{part: getattr(inputs, part)._replace(**{field: value})})

@@ -4,7 +4,7 @@ from fractions import Fraction
 from math import ceil, floor, isqrt
 from typing import NamedTuple
 
-from . import site as sites
+from . import basin as basins, limits, site as sites
 
 DIGITS = 30
 
@@ -65,22 +65,38 @@ def shear_unit(job):
     return Fraction(job.frame.I * job.W * 1000 * 10, 14 * job.frame.alphay)
 
 
-def squares(R):
-    """root^2 of V, V_M and V*: "(R-25)/75" for design, "(R-50)/50" for MCE."""
-    return Fraction(R - 25, 75), Fraction(R - 50, 50), Fraction(R - 25, 75)
+def squares(ground, R):
+    """root^2 of V, V_M and V*: "(R-25)/75" for design, in the Basin 2*(1 + (R-1)/2.0) - 1 = R; "(R-50)/50" for MCE."""
+    design = Fraction(R, 100) if isinstance(ground, limits.Basin) else Fraction(R - 25, 75)
+    return design, Fraction(R - 50, 50), design
+
+
+def hazards(ground):
+    """A and B of V, V_M and V*."""
+    if isinstance(ground, limits.Basin):
+        design, mce = (basins.A_and_B(S, ground.zone) for S in (basins.S_DS, basins.S_MS))
+        return design, mce, design
+    return (sites.A_and_B(ground.SSD, ground.S1D, ground.NA, ground.NV, ground.cls),
+            sites.A_and_B(ground.SSM, ground.S1M, ground.NA, ground.NV, ground.cls),
+            sites.A_and_B(ground.SSD, ground.S1D, 100, 100, ground.cls))
+
+
+def capacity_and_star(ground, R):
+    """The design capacity, and 1.4 over what divides V*: 4.2, in the Basin 3.5."""
+    if isinstance(ground, limits.Basin):
+        return Fraction(R + 100, 200), Fraction(2, 5)
+    return Fraction(2 * R + 100, 300), Fraction(1, 3)
 
 
 def chain(job, roots):
     """The exact shears of an accepted job at its T, with a root fraction for each of V, V_M, V*."""
-    site, R, T, unit = job.site, job.frame.R, job.T, shear_unit(job)
-    design = sites.A_and_B(site.SSD, site.S1D, site.NA, site.NV, site.cls)
-    mce = sites.A_and_B(site.SSM, site.S1M, site.NA, site.NV, site.cls)
-    star = sites.A_and_B(site.SSD, site.S1D, 100, 100, site.cls)
-    design_capacity, mce_capacity = Fraction(2 * R + 100, 300), Fraction(R, 100)
+    R, T, unit = job.frame.R, job.T, shear_unit(job)
+    design, mce, star = hazards(job.ground)
+    (design_capacity, part), mce_capacity = capacity_and_star(job.ground, R), Fraction(R, 100)
     V = unit * modified(spectrum(*design, T) / factor(*design, T, design_capacity, roots[0]))
     V_M = unit * modified(spectrum(*mce, T) / factor(*mce, T, mce_capacity, roots[1]))
     F = factor(*star, T, design_capacity, roots[2])
-    V_star = unit * modified(spectrum(*star, T) / F) * F / 3
+    V_star = unit * modified(spectrum(*star, T) / F) * F * part
     V_D = max(V, V_M, V_star)
     F_t = V_D * 7 * T / 100_000
     products = [weight * height for weight, height in zip(job.weights, job.heights)]
@@ -90,7 +106,7 @@ def chain(job, roots):
 
 def bounds(job, digits=DIGITS):
     """Two chains: high, high and low fractions (none printed is below it); low, low and high ones."""
-    of_V, of_V_M, of_star = squares(job.frame.R)
+    of_V, of_V_M, of_star = squares(job.ground, job.frame.R)
     high, low = high_fraction, low_fraction
     below = chain(job, (high(of_V, digits), high(of_V_M, digits), low(of_star, digits)))
     above = chain(job, (low(of_V, digits), low(of_V_M, digits), high(of_star, digits)))

@@ -2,13 +2,16 @@
 
 from typing import NamedTuple
 
-from . import limits, response, shears, site as sites, storeys
+from . import basin as basins, limits, response, shears, site as sites, storeys
+
+
+HAZARDS = ('design', 'mce', 'star')
 
 
 class Job(NamedTuple):
-    """An accepted job; lists run lowest level first; design, mce and star are `shears.Response`."""
+    """An accepted job on a site or in the Basin; lists run lowest level first; design, mce and star are `shears.Response`."""
 
-    site: limits.Site
+    ground: limits.Site | limits.Basin
     frame: limits.Frame
     weights: list
     heights: list
@@ -34,20 +37,23 @@ class Job(NamedTuple):
     moments: list
 
 
-def job(site, frame, weights, heights, buffer_lengths=(), s=response.UNIT):
+def made_by(ground):
+    """What makes each hazard of a ground, and says what divides V* there."""
+    return basins if isinstance(ground, limits.Basin) else sites
+
+
+def job(ground, frame, weights, heights, buffer_lengths=(), s=response.UNIT):
     """('refused', number, place), or the `Job` by "From map values to shear"."""
-    refusal = limits.judge(site, frame, weights, heights, buffer_lengths)
+    refusal = limits.judge(ground, frame, weights, heights, buffer_lengths)
     if refusal is not None:
         return ('refused', *refusal)
-    site, frame = limits.Site(*site), limits.Frame(*frame)
+    ground, frame = limits.ground_of(ground), limits.Frame(*frame)
     weights, heights = list(weights), list(heights)
     W = sum(weights)
     t = response.approximate_period(frame.kind, heights[-1])
     T = response.period(t, frame.calculated_period)
 
-    design = shears.respond(*sites.design(site), response.design_capacity(frame.R), T, s)
-    mce = shears.respond(*sites.mce(site), response.mce_capacity(frame.R), T, s)
-    star = shears.respond(*sites.star(site), response.design_capacity(frame.R), T, s)
+    design, mce, star = (shears.respond(*made_by(ground).hazard(name, ground, frame.R), T, s) for name in HAZARDS)
 
     q = response.ratio(design.spectrum, design.lower_factor, s)
     m = response.modified_ratio(q, s)
@@ -57,12 +63,12 @@ def job(site, frame, weights, heights, buffer_lengths=(), s=response.UNIT):
 
     V = shears.V(frame, m, W, s)
     V_M = shears.V(frame, m_M, W, s)
-    V_star = shears.V_star(frame, p, W, s)
+    V_star = shears.V_star(frame, p, W, s, made_by(ground).V_STAR)
     V_D = shears.V_D(V, V_M, V_star)
 
     F_t = storeys.F_t(T, V_D)
     storey_shears = storeys.shears(V_D, F_t, weights, heights)
     forces = storeys.forces(storey_shears)
     moments = storeys.overturning(forces, heights)
-    return Job(site, frame, weights, heights, s, W, t, T, design, mce, star, q, m, q_M, m_M, p,
+    return Job(ground, frame, weights, heights, s, W, t, T, design, mce, star, q, m, q_M, m_M, p,
                V, V_M, V_star, V_D, F_t, forces, storey_shears, moments)

@@ -12,6 +12,7 @@ S_1_MCE = (40, 45, 50, 55)
 N_A = range(100, 150 + 1)
 N_V = range(100, 200 + 1)
 CLASS = (1, 2, 3)
+ZONE = (1, 2, 3, 4)
 R_RANGE = range(100, 600 + 1)
 I_VALUES = (100, 125, 150)
 ALPHA_Y = range(100, 200 + 1)
@@ -29,6 +30,12 @@ class Site(NamedTuple):
     NA: int
     NV: int
     cls: int
+
+
+class Basin(NamedTuple):
+    """The number of a `basin` line, which stands "in place of `site`": the micro-zone."""
+
+    zone: int
 
 
 class Frame(NamedTuple):
@@ -70,6 +77,22 @@ def site_refusals(site):
         yield 7, 0
 
 
+def basin_refusals(basin):
+    """Refusal 18: "zone not 1 to 4, standing where 5 to 7 stand", place 0."""
+    if basin.zone not in ZONE:
+        yield 18, 0
+
+
+def ground_of(numbers):
+    """A ground: a `Basin`, or a `Site`, which may be given by its seven numbers alone."""
+    return numbers if isinstance(numbers, Basin) else Site(*numbers)
+
+
+def ground_refusals(ground):
+    """Refusals of the ground: 5 to 7 of a site, 18 of the Basin."""
+    return basin_refusals(ground) if isinstance(ground, Basin) else site_refusals(ground)
+
+
 def frame_refusals(frame):
     """Refusals 8 to 12: "R, I, alpha-y, kind, calculated period", place 0."""
     judged = (
@@ -81,13 +104,13 @@ def frame_refusals(frame):
             yield number, 0
 
 
-def refusals(site, frame, weights, heights, buffer_lengths):
-    """Every refusal that applies to a job, by number and then by place."""
+def refusals(ground, frame, weights, heights, buffer_lengths):
+    """Every refusal that applies to a job, in order: by number and then by place, 18 where 5 to 7 stand."""
     yield from level_refusals(weights, heights, buffer_lengths)
-    yield from site_refusals(Site(*site))
+    yield from ground_refusals(ground_of(ground))
     yield from frame_refusals(Frame(*frame))
 
 
-def judge(site, frame, weights, heights, buffer_lengths=()):
+def judge(ground, frame, weights, heights, buffer_lengths=()):
     """None, or (number, place): "The lowest number that applies is given, at its lowest place"."""
-    return next(refusals(site, frame, weights, heights, buffer_lengths), None)
+    return next(refusals(ground, frame, weights, heights, buffer_lengths), None)

@@ -4,7 +4,7 @@ from fractions import Fraction
 from math import ceil
 from typing import NamedTuple
 
-from . import response
+from . import response, site
 
 
 class Response(NamedTuple):
@@ -32,9 +32,9 @@ def respond(A, B, capacity_and_square, T, s=response.UNIT):
     )
 
 
-def divisor(s=response.UNIT):
-    """The 1400 of "V = I*m*W/(1400*alpha-y)": 1.4 times the unit of m, over 1000 N in a kN."""
-    return Fraction(14, 10) * s / 1000
+def divisor(s=response.UNIT, divided_by=Fraction(14, 10)):
+    """The 1400 of "V = I*m*W/(1400*alpha-y)": 1.4 times the unit of m, over 1000 N in a kN; of V* likewise."""
+    return divided_by * s / 1000
 
 
 def V(frame, m, W, s=response.UNIT):
@@ -42,9 +42,9 @@ def V(frame, m, W, s=response.UNIT):
     return ceil(frame.I * m * W / (divisor(s) * frame.alphay))
 
 
-def V_star(frame, p, W, s=response.UNIT):
-    """In N, rounded up, W in kN: "V* = I*p*W/(4200*alpha-y)"."""
-    return ceil(frame.I * p * W / (3 * divisor(s) * frame.alphay))
+def V_star(frame, p, W, s=response.UNIT, divided_by=site.V_STAR):
+    """In N, rounded up, W in kN: "V* = I*p*W/(4200*alpha-y)"; in the Basin "3.5 in place of 4.2" (19)."""
+    return ceil(frame.I * p * W / (divisor(s, divided_by) * frame.alphay))
 
 
 def V_D(v, v_m, v_star):

@@ -2,18 +2,29 @@
 
 import re
 
-from . import job as jobs
+from . import job as jobs, limits
 
 MOST_BYTES = 4_096
 NUMBER = rb'\t(0|[1-9][0-9]{0,8})'
 SITE = re.compile(rb'site' + NUMBER * 7)
 FRAME = re.compile(rb'frame' + NUMBER * 5)
 LEVEL = re.compile(rb'level' + NUMBER * 2)
+BASIN = re.compile(rb'basin' + NUMBER)
 
 
-def layout(line_number):
-    """Layout: "Line 1 is `site`", "Line 2 is `frame`", "All later lines are `level`"."""
-    return {1: SITE, 2: FRAME}.get(line_number, LEVEL)
+def layouts(line_number):
+    """Layouts: "Line 1 is `site`", "Line 2 is `frame`", "All later lines are `level`"; "`basin` with the zone in place of `site`"."""
+    return {1: (SITE, BASIN), 2: (FRAME,)}.get(line_number, (LEVEL,))
+
+
+def numbers_of(line_number, line):
+    """The numbers of a line, those of a `basin` line as its ground; None where it is otherwise than laid out."""
+    for layout in layouts(line_number):
+        match = layout.fullmatch(line)
+        if match is not None:
+            numbers = tuple(int(field) for field in match.groups())
+            return limits.Basin(*numbers) if layout is BASIN else numbers
+    return None
 
 
 def refused(number, place):
@@ -28,10 +39,10 @@ def read(data):
     *lines, rest = data.split(b'\n')
     numbers = []
     for line_number, line in enumerate(lines, 1):
-        match = layout(line_number).fullmatch(line)
-        if match is None:
+        fields = numbers_of(line_number, line)
+        if fields is None:
             return (16, line_number), None
-        numbers.append(tuple(int(field) for field in match.groups()))
+        numbers.append(fields)
     if rest or len(lines) < 2:
         return (16, len(lines) + 1), None
     return None, numbers
@@ -46,9 +57,9 @@ def listing(job):
     return b''.join(lines)
 
 
-def write(site, frame, weights, heights):
+def write(ground, frame, weights, heights):
     """The bytes of a sheet that holds these numbers."""
-    lines = [('site', *site), ('frame', *frame)]
+    lines = [('basin' if isinstance(ground, limits.Basin) else 'site', *ground), ('frame', *frame)]
     lines += [('level', weight, height) for weight, height in zip(weights, heights)]
     return ''.join('\t'.join(map(str, line)) + '\n' for line in lines).encode('ascii')
 
@@ -58,10 +69,10 @@ def shear(data):
     refusal, numbers = read(data)
     if refusal is not None:
         return refused(*refusal)
-    site, frame, *levels = numbers
+    ground, frame, *levels = numbers
     weights = [weight for weight, _ in levels]
     heights = [height for _, height in levels]
-    result = jobs.job(site, frame, weights, heights)
+    result = jobs.job(ground, frame, weights, heights)
     if result[0] == 'refused':
         return refused(*result[1:])
     return listing(result)

@@ -2,6 +2,8 @@
 
 from fractions import Fraction
 
+from . import response
+
 S_S_COLUMNS = (5000, 6000, 7000, 8000, 9000)
 F_A = {
     1: (10000, 10000, 10000, 10000, 10000),
@@ -15,6 +17,7 @@ F_V = {
     3: (18000, 17000, 16000, 15000, 14000),
 }
 NO_NEAR_FAULT = 100
+V_STAR = Fraction(42, 10)
 
 
 def interpolate(columns, coefficients, S):
@@ -61,3 +64,10 @@ def mce(site):
 def star(site):
     """A and B of V*: design values with "both near-fault factors taken as 100"."""
     return A_and_B(site.SSD, site.S1D, NO_NEAR_FAULT, NO_NEAR_FAULT, site.cls)
+
+
+def hazard(name, site, R):
+    """A, B and capacity of V (design), V_M (mce) or V* (star), which has the design capacity too."""
+    if name == 'mce':
+        return *mce(site), response.mce_capacity(R)
+    return *(design(site) if name == 'design' else star(site)), response.design_capacity(R)

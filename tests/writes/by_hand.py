@@ -55,7 +55,7 @@ def read(data):
 
 def hazards(worked):
     """For V, V_M and V*: mapped S_S and S_1, near-fault factors, the model's response, and what R gives."""
-    site, R = worked.site, worked.frame.R
+    site, R = worked.ground, worked.frame.R
     none, design, mce = sites.NO_NEAR_FAULT, response.design_capacity(R), response.mce_capacity(R)
     return ((site.SSD, site.S1D, site.NA, site.NV, worked.design, design),
             (site.SSM, site.S1M, site.NA, site.NV, worked.mce, mce),
@@ -82,7 +82,7 @@ def site_table(worked):
                                      'F_v by Table 2, in 0.0001', 'A = F_a · S_S, in 10⁻⁸ g', 'B = F_v · S_1, in 10⁻⁸ g',
                                      'T0 = 1000 · B / A, in ms', '0.2 · T0, 0.6 · T0, 2.5 · T0')]
     for S_S, S_1, NA, NV, figures, _ in hazards(worked):
-        cls = worked.site.cls
+        cls = worked.ground.cls
         a_text, a = between(sites.S_S_COLUMNS, sites.F_A[cls], S_S * NA)
         v_text, v = between(sites.S_1_COLUMNS, sites.F_V[cls], S_1 * NV)
         T0 = Fraction(1000 * figures.B, figures.A)
@@ -270,7 +270,7 @@ def names(data):
         'forces_added': ' + '.join(map(comma, reversed(worked.forces))), 'V_D': comma(worked.V_D),
         'c': decimal(Fraction(response.PERIOD_C[worked.frame.kind], 1000)), 'h_m': decimal(Fraction(worked.heights[-1], 10)),
         'count': str(len(worked.heights)), 'heights_m': ', '.join(decimal(Fraction(height, 10)) for height in worked.heights),
-        'kind': str(worked.frame.kind), 'whole_c': str(response.PERIOD_C[worked.frame.kind]), 'site': CLASS_NAMES[worked.site.cls],
-        'NA': f'{worked.site.NA // 100}.{worked.site.NA % 100:02}', 'NV': f'{worked.site.NV // 100}.{worked.site.NV % 100:02}',
+        'kind': str(worked.frame.kind), 'whole_c': str(response.PERIOD_C[worked.frame.kind]), 'site': CLASS_NAMES[worked.ground.cls],
+        'NA': f'{worked.ground.NA // 100}.{worked.ground.NA % 100:02}', 'NV': f'{worked.ground.NV // 100}.{worked.ground.NV % 100:02}',
         'most_moment': comma(worked.moments[0]), 'most_kNm': decimal(Fraction(worked.moments[0], 10_000), 2),
     }

@@ -6,7 +6,7 @@ usage: python3 -m tests.writes.exhausted > crates/run_exhausted/stdout
 from fractions import Fraction
 from math import ceil, floor
 
-from tests.model import limits, response, site as sites
+from tests.model import basin, limits, response, site as sites
 
 UNIT = response.UNIT
 
@@ -23,6 +23,12 @@ def ductility(R):
     return ('R', R, *roots, *both(design), *both(mce))
 
 
+def basin_ductility(R):
+    """Both roots and both roundings of the Basin's capacity."""
+    capacity, square = basin.capacity(R)
+    return ('basin', R, response.lower_root(square), response.upper_root(square), *both(capacity))
+
+
 def lines():
     """Every line."""
     yield from (ductility(R) for R in limits.R_RANGE)
@@ -32,6 +38,7 @@ def lines():
     for name, design, mce, factors, coefficient in mapped:
         for value in sorted({*design, *mce}):
             yield from ((name, value * N, *(coefficient(cls, value * N) for cls in limits.CLASS)) for N in factors)
+    yield from (basin_ductility(R) for R in limits.R_RANGE)
 
 
 if __name__ == '__main__':

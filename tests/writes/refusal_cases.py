@@ -9,11 +9,12 @@ from tests.model import limits
 
 HERE = pathlib.Path(__file__).resolve().parents[2] / 'crates' / 'run_refusals'
 NAMES = ('S_S D', 'S_1 D', 'S_S M', 'S_1 M', 'N_A', 'N_V', 'class', 'kind', 'period', 'R', 'I', 'alpha-y',
-         'weights', 'heights', 'room')
+         'weights', 'heights', 'room', 'ground', 'zone')
 FIELD = {name: place for place, name in enumerate(NAMES)}
 WEIGHTS, HEIGHTS, LISTED, FIELDS, NONE = 20, 80, 51, 140, 999
 MOST = 2**64 - 1
-GOOD = {**dict(enumerate((80, 45, 100, 55, 100, 100, 1, 2, 1000, 480, 100, 150, 5, 5, 5))),
+SITE_GROUND, BASIN_GROUND = 0, 1
+GOOD = {**dict(enumerate((80, 45, 100, 55, 100, 100, 1, 2, 1000, 480, 100, 150, 5, 5, 5, SITE_GROUND, 1))),
         **{WEIGHTS + i: 5000 for i in range(LISTED)}, **{HEIGHTS + i: 38 * (i + 1) for i in range(LISTED)}}
 
 
@@ -26,12 +27,13 @@ def both_sides(allowed):
     return sorted(value for value in ends if value >= 0) + [MOST]
 
 
+SITE_RANGES = dict(zip(NAMES, (limits.S_S_DESIGN, limits.S_1_DESIGN, limits.S_S_MCE, limits.S_1_MCE, limits.N_A, limits.N_V, limits.CLASS)))
+FRAME_RANGES = dict(zip(NAMES[7:], (limits.KIND, limits.CALCULATED_PERIOD, limits.R_RANGE, limits.I_VALUES, limits.ALPHA_Y)))
+
+
 def number_cases():
     """Both sides of every limit of the site and frame lines."""
-    ranges = zip(NAMES, (limits.S_S_DESIGN, limits.S_1_DESIGN, limits.S_S_MCE, limits.S_1_MCE, limits.N_A,
-                         limits.N_V, limits.CLASS, limits.KIND, limits.CALCULATED_PERIOD, limits.R_RANGE,
-                         limits.I_VALUES, limits.ALPHA_Y))
-    for name, allowed in ranges:
+    for name, allowed in {**SITE_RANGES, **FRAME_RANGES}.items():
         yield from ([(FIELD[name], value)] for value in both_sides(allowed))
     yield from ([(FIELD['period'], value)] for value in (1, 2))
 
@@ -74,6 +76,26 @@ def pair_cases():
     yield [(FIELD['N_A'], 99), (FIELD['N_V'], 99)]
 
 
+BASIN = (FIELD['ground'], BASIN_GROUND)
+WRONG_ZONE = (FIELD['zone'], 5)
+
+
+def basin_cases():
+    """The job in the Basin: both sides of the zone and of every number of the frame, counts and room, every ordered pair of refusals. A site's
+    numbers play no part there, nor a zone on a site."""
+    yield from ([BASIN, (FIELD['zone'], value)] for value in (*both_sides(limits.ZONE), 2**16 + 1, 2**32 + 1, 2**63 + 1))
+    for name, allowed in FRAME_RANGES.items():
+        yield from ([BASIN, (FIELD[name], value)] for value in both_sides(allowed))
+    yield from ([BASIN, (FIELD[name], 0)] for name in SITE_RANGES)
+    yield from ([(FIELD['zone'], value)] for value in (0, 5, MOST))
+    yield from ([BASIN] + levels(count) for count in (0, 1, 50, 51))
+    yield from ([BASIN, (FIELD[name], value)] for name in ('weights', 'heights', 'room') for value in (0, 4, 6))
+    yield from ([BASIN, (base + level, value)] for base in (WEIGHTS, HEIGHTS) for level in (0, 4) for value in (0, 20_001))
+    wrong = {number: change for number, change in WRONG.items() if number not in (5, 6, 7)} | {18: WRONG_ZONE}
+    yield from ([BASIN, wrong[first], wrong[second]] for first in wrong for second in wrong if first != second)
+    yield from ([BASIN, WRONG_ZONE, WRONG[number]] for number in (5, 6, 7))
+
+
 def said(field, value):
     """A change as the program writes it."""
     if field < len(NAMES):
@@ -88,13 +110,14 @@ def outcome(changes):
     numbers = [job[place] for place in range(len(NAMES))]
     weights = [job[WEIGHTS + i] for i in range(min(numbers[12], LISTED))]
     heights = [job[HEIGHTS + i] for i in range(min(numbers[13], LISTED))]
-    refusal = limits.judge(tuple(numbers[:7]), tuple(numbers[7:12]), weights, heights, (numbers[14],))
+    ground = limits.Basin(job[FIELD['zone']]) if job[FIELD['ground']] == BASIN_GROUND else tuple(numbers[:7])
+    refusal = limits.judge(ground, tuple(numbers[7:12]), weights, heights, (numbers[14],))
     return 'taken' if refusal is None else 'refused {} at {}'.format(*refusal)
 
 
 def all_cases():
     """Every list of changes to the good job."""
-    return [*number_cases(), *level_cases(), *pair_cases()]
+    return [*number_cases(), *level_cases(), *pair_cases(), *basin_cases()]
 
 
 def main():

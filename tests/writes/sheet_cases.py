@@ -9,6 +9,7 @@ import shutil
 
 from tests.draws.sample import all_strata, draw_in
 from tests.model import sheet
+from tests.writes.basin_sheets import basin_sheets
 
 HERE = pathlib.Path(__file__).resolve().parents[2] / 'crates' / 'run_sheets'
 SEED = 1
@@ -133,7 +134,7 @@ def random_bytes():
 
 def main():
     """Write the sheets, their names and their listings."""
-    cases = [('worked', WORKED), *drawn(), *counted(), *laid_out_otherwise(), *long_sheets(), *damaged(), *random_bytes()]
+    cases = [('worked', WORKED), *drawn(), *counted(), *laid_out_otherwise(), *long_sheets(), *damaged(), *random_bytes(), *basin_sheets()]
     assert len({name for name, _ in cases}) == len(cases)
     shutil.rmtree(HERE / 'data', ignore_errors=True)
     (HERE / 'data').mkdir()

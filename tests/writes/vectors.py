@@ -1,31 +1,32 @@
 """Writes the jobs that the definitions are put through: crates/vectors/specs/Rows.antt, from a seed.
 
-usage: python3 -m tests.writes.vectors [SEED [COUNT]] > crates/vectors/specs/Rows.antt
+usage: python3 -m tests.writes.vectors [SEED [COUNT [BASIN]]] > crates/vectors/specs/Rows.antt        COUNT on sites, BASIN in the Basin
 """
 
 import random
 import sys
 from fractions import Fraction
 
+from tests.draws.basin import accepted_basin_jobs
 from tests.draws.sample import accepted_jobs
-from tests.model import exact
+from tests.model import exact, limits
 from tests.model.job import job
 from tests.model.response import UNIT
 
-SEED, COUNT = 2005, 520
+SEED, COUNT, BASIN = 2005, 520, 100
 FINER = 10  # every so many rows the unit is ten-millionths
 FEW_LEVELS = 4
 CLASSES = {1: 'Hard', 2: 'Normal', 3: 'Soft'}
 KINDS = {1: 'Steel', 2: 'Concrete', 3: 'Braced', 4: 'Other'}
 
-HEAD = """-- {count} jobs with what the model of tests/ makes of them: data.
--- `python3 -m tests.writes.vectors {seed} {count}` writes it. A line a row: the unit; the site; the frame; weights; heights; three
--- fractions for the roots; the printed stages; the exact figures.
+HEAD = """-- {count} jobs on sites and {basin} in the Basin with what the model of tests/ makes of them: data.
+-- `python3 -m tests.writes.vectors {seed} {count} {basin}` writes it. A line a row: the unit; the site or the zone; the frame; weights;
+-- heights; three fractions for the roots; the printed stages; the exact figures.
 use mathlib.Core.List.{{List, [], _∷_}}
 use Rattle.whole.specs.Fraction.{{over}}
 use Rattle.limits.specs.declared.class.Class.the-variants.{{Hard, Normal, Soft}}
 use Rattle.limits.specs.declared.kind.Kind.the-variants.{{Steel, Concrete, Braced, Other}}
-use Rattle.vectors.specs.Vector.{{Vector, vector, siteOf, frameOf, rootsOf}}
+use Rattle.vectors.specs.Vector.{{Vector, vector, basinVector, siteOf, frameOf, rootsOf}}
 
 unfoldable pub rows : List Vector
 rows ="""
@@ -33,7 +34,7 @@ rows ="""
 
 def fewer(rng, stratum, weights, heights):
     """The upper levels only, which keep the period; all of them where the stratum is about levels."""
-    if stratum.startswith(('levels', 'every weight', 'one level', 'top at')):
+    if stratum.removeprefix('Basin: ').startswith(('levels', 'every weight', 'one level', 'top at')):
         return weights, heights
     count = rng.randint(1, FEW_LEVELS)
     return weights[-count:], heights[-count:]
@@ -68,33 +69,49 @@ def printed(result):
     ]
 
 
-def row(rng, s, stratum, site, frame, weights, heights):
+def maker(s, ground):
+    """How a row begins: what makes the vector, its unit, and the site or the zone."""
+    if isinstance(ground, limits.Basin):
+        return f'basinVector {s} {ground.zone}'
+    *mapped, number = ground
+    return f'vector {s} (siteOf {" ".join(map(str, mapped))} {CLASSES[number]})'
+
+
+def worked(seed, jobs):
+    """Each job drawn, with its upper levels and in its unit, worked out; and three fractions for its roots."""
+    rng = random.Random(seed)
+    for number, (stratum, ground, frame, weights, heights) in enumerate(jobs):
+        s = 10 * UNIT if number % FINER == 0 else UNIT
+        weights, heights = fewer(rng, stratum, weights, heights)
+        result = job(ground, frame, weights, heights, s=s)
+        yield result, [some_root(rng, each.lower_root, each.upper_root, s) for each in (result.design, result.mce, result.star)]
+
+
+def all_worked(seed=SEED, count=COUNT, basin=BASIN):
+    """Those on sites, then those in the Basin."""
+    yield from worked(seed, accepted_jobs(seed, count))
+    yield from worked(seed, accepted_basin_jobs(seed, basin))
+
+
+def row(result, roots):
     """One row: the job, and what the model makes of it."""
-    weights, heights = fewer(rng, stratum, weights, heights)
-    result = job(site, frame, weights, heights, s=s)
-    roots = [some_root(rng, each.lower_root, each.upper_root, result.s)
-             for each in (result.design, result.mce, result.star)]
     chain = exact.chain(result, roots)
     values = [*chain[:4], *chain.storeys]
-    *mapped, number = site
-    kind, *frame_values = frame
+    kind, *frame_values = result.frame
     return ' '.join((
-        f'vector {s} (siteOf {" ".join(map(str, mapped))} {CLASSES[number]}) '
-        f'(frameOf {KINDS[kind]} {" ".join(map(str, frame_values))})',
-        f'{numbers(weights)} {numbers(heights)}',
+        f'{maker(result.s, result.ground)} (frameOf {KINDS[kind]} {" ".join(map(str, frame_values))})',
+        f'{numbers(result.weights)} {numbers(result.heights)}',
         '(rootsOf ' + ' '.join(f'{root.numerator} {root.denominator}' for root in roots) + ')',
         numbers(printed(result)),
         fractions(values),
     ))
 
 
-def main(seed=SEED, count=COUNT):
+def main(seed=SEED, count=COUNT, basin=BASIN):
     """Write the file."""
-    rng = random.Random(seed)
-    print(HEAD.format(seed=seed, count=count))
-    for number, each in enumerate(accepted_jobs(seed, count)):
-        s = 10 * UNIT if number % FINER == 0 else UNIT
-        print('    ' + row(rng, s, *each) + ' ∷')
+    print(HEAD.format(seed=seed, count=count, basin=basin))
+    for each in all_worked(seed, count, basin):
+        print('    ' + row(*each) + ' ∷')
     print('    []')
 
 

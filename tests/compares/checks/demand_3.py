@@ -1,10 +1,11 @@
-"""Demand 3 on random accepted jobs, in either unit, and what ties the storeys together."""
+"""Demand 3 on random accepted jobs of sites and of the Basin, in either unit, and what ties the storeys together."""
 
+from tests.draws.basin import accepted_basin_jobs
 from tests.draws.sample import accepted_jobs
 from tests.model import exact
 from tests.model.job import job
 
-SEED, COUNT = 20, 300
+SEED, COUNT, BASIN = 20, 300, 200
 FINER = 10**7
 FEW_DIGITS = 2
 
@@ -29,7 +30,7 @@ def tied(inputs):
 
 def checks():
     """Demand 3 on the sample."""
-    for number, (name, *inputs) in enumerate(accepted_jobs(SEED, COUNT)):
+    for number, (name, *inputs) in enumerate((*accepted_jobs(SEED, COUNT), *accepted_basin_jobs(SEED, BASIN))):
         yield f'demand 3, job {number}, {name}', lambda inputs=inputs: held(inputs, 10**6), True
         yield f'demand 3 in 10^-7, job {number}, {name}', lambda inputs=inputs: held(inputs, FINER), True
         yield f'storeys, job {number}, {name}', lambda inputs=inputs: tied(inputs), (True, True, True)

@@ -1,4 +1,4 @@
-"""The five of "Errors that look right", each on figures where it shows."""
+"""The five of "Errors that look right", and four that look right in the Basin, each on figures where it shows."""
 
 from fractions import Fraction
 
@@ -85,6 +85,21 @@ def divisors():
     yield 'V in 10^-7', lambda: shears.V(frame, 2_800_001, 7, 10**7), 1001
 
 
+def basin_errors():
+    """In the Basin: 1.5 kept in R_a, 4.2 kept in V*, the corner of another zone for MCE, 18 judged after 8."""
+    frame, levels = limits.Frame(2, 1000, 480, 100, 150), ([5000, 5000, 5000], [100, 200, 300])
+
+    def figures(zone, *names):
+        """Of the worked frame and levels in a zone."""
+        result = job(limits.Basin(zone), frame, *levels)
+        return tuple(getattr(result, name) for name in names)
+    yield '(R-1)/2.0, not 1.5, which gives 1031000', lambda: figures(4, 'V'), (1256165,)
+    yield '3.5, not 4.2, which gives 1214286', lambda: figures(4, 'V_star', 'V_D'), (1457143, 1457143)
+    yield 'T0^M of its own zone; that of zone 1 gives 1873979', lambda: figures(4, 'V_M'), (1011908,)
+    yield '18 before 8', lambda: limits.judge(limits.Basin(5), frame._replace(R=99), *levels), (18, 0)
+    yield '4 before 18', lambda: limits.judge(limits.Basin(5), frame, levels[0], [100, 200, 200]), (4, 3)
+
+
 def checks():
     """All errors that look right."""
     yield from lower_factor_in_star()
@@ -93,3 +108,4 @@ def checks():
     yield from thresholds()
     yield from forces_alone()
     yield from divisors()
+    yield from basin_errors()
