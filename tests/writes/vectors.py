@@ -17,6 +17,7 @@ SEED, COUNT, BASIN = 2005, 520, 100
 FINER = 10  # every so many rows the unit is ten-millionths
 FEW_LEVELS = 4
 CLASSES = {1: 'Hard', 2: 'Normal', 3: 'Soft'}
+ZONES = {1: 'One', 2: 'Two', 3: 'Three', 4: 'Four'}
 KINDS = {1: 'Steel', 2: 'Concrete', 3: 'Braced', 4: 'Other'}
 
 HEAD = """-- {count} jobs on sites and {basin} in the Basin with what the model of tests/ makes of them: data.
@@ -26,6 +27,7 @@ use mathlib.Core.List.{{List, [], _∷_}}
 use Rattle.whole.specs.Fraction.{{over}}
 use Rattle.limits.specs.declared.class.Class.the-variants.{{Hard, Normal, Soft}}
 use Rattle.limits.specs.declared.kind.Kind.the-variants.{{Steel, Concrete, Braced, Other}}
+use Rattle.limits.specs.declared.zone.Zone.the-variants.{{One, Two, Three, Four}}
 use Rattle.vectors.specs.Vector.{{Vector, vector, basinVector, siteOf, frameOf, rootsOf}}
 
 unfoldable pub rows : List Vector
@@ -72,7 +74,7 @@ def printed(result):
 def maker(s, ground):
     """How a row begins: what makes the vector, its unit, and the site or the zone."""
     if isinstance(ground, limits.Basin):
-        return f'basinVector {s} {ground.zone}'
+        return f'basinVector {s} {ZONES[ground.zone]}'
     *mapped, number = ground
     return f'vector {s} (siteOf {" ".join(map(str, mapped))} {CLASSES[number]})'
 

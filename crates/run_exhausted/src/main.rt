@@ -1,5 +1,5 @@
-// What is finite, exhausted: roots and capacities of every R, the period of every height and kind, both coefficients of every product
-// of a mapped value and a near-fault factor. (`run_logs` runs the velocity of every N.)
+// What is finite, exhausted: roots and capacities of every R, on a site and in the Taipei Basin, the period of every height and kind, both
+// coefficients of every product of a mapped value and a near-fault factor. (`run_logs` runs the velocity of every N.)
 use libc::STDOUT_FILENO;
 use limits::class::Class;
 use limits::frame::Frame;
@@ -8,6 +8,8 @@ use limits::level::Level;
 use limits::site::Site;
 use response::UNIT;
 use response::period::approximate;
+use site::capacity::basin_capacity;
+use site::capacity::basin_square;
 use site::capacity::design_capacity;
 use site::capacity::design_square;
 use site::capacity::mce_capacity;
@@ -58,6 +60,24 @@ fn ductilities() {
     let mut r = Frame::R_LEAST;
     while r <= Frame::R_MOST {
         ductility(r);
+        r += 1;
+    }
+}
+
+fn basin_ductility(r: u64)
+    requires { ⌜ (100 ≤ r) × (r ≤ 600) ⌝ }
+{
+    io::write_all(STDOUT_FILENO, b"basin");
+    number(r);
+    roots(basin_square(r));
+    capacity(basin_capacity(r));
+    io::write_all(STDOUT_FILENO, b"\n");
+}
+
+fn basin_ductilities() {
+    let mut r = Frame::R_LEAST;
+    while r <= Frame::R_MOST {
+        basin_ductility(r);
         r += 1;
     }
 }
@@ -131,4 +151,5 @@ fn main() {
     long_periods(45);
     long_periods(50);
     long_periods(55);
+    basin_ductilities();
 }

@@ -3,6 +3,7 @@ use job::JobAnswer;
 use libc::STDOUT_FILENO;
 use limits::class::Class;
 use limits::frame::FrameValues;
+use limits::ground::GroundValues;
 use limits::kind::Kind;
 use limits::layer::Layer;
 use limits::site::SiteValues;
@@ -168,7 +169,16 @@ fn sheet(
         i: 100,
         alpha: 150,
     };
-    let a = job::job(site, frame, weights, heights, forces, shears, overturnings);
+    let ground = GroundValues::Site(site);
+    let a = job::job(
+        ground,
+        frame,
+        weights,
+        heights,
+        forces,
+        shears,
+        overturnings,
+    );
     let JobAnswer::Taken(f) = a else {
         return;
     };

@@ -19,4 +19,7 @@ pub const HEIGHTS: usize = 80;
 // How many weights, and how many heights, a row has.
 pub const LISTED: usize = 60;
 
+// What the ground is: 0 a site, 1 a zone of the Taipei Basin, whose number stands where a site's first does. No case has so many heights.
+pub const GROUND: usize = 139;
+
 pub const ROW: usize = 140;

@@ -1,6 +1,7 @@
 // Runs the job call on the cases of standard input, and says what comes back: the answer, and every cell of the three buffers.
 use fields::BUFFERS;
 use fields::FRAME;
+use fields::GROUND;
 use fields::HEIGHT_COUNT;
 use fields::HEIGHTS;
 use fields::LISTED;
@@ -13,6 +14,7 @@ use job::JobAnswer;
 use libc::STDIN_FILENO;
 use libc::STDOUT_FILENO;
 use limits::frame::FrameValues;
+use limits::ground::GroundValues;
 use limits::site::SiteValues;
 use rows::number;
 use rows::row;
@@ -32,6 +34,13 @@ fn site(row: [u64; 140]) -> SiteValues {
         nv: row[SITE + 5],
         class: row[SITE + 6],
     }
+}
+
+fn ground(row: [u64; 140]) -> GroundValues {
+    if row[GROUND] == 1 {
+        return GroundValues::Basin(row[SITE]);
+    }
+    GroundValues::Site(site(row))
 }
 
 fn frame(row: [u64; 140]) -> FrameValues {
@@ -91,7 +100,7 @@ fn cells_said(name: &[u8], cells: &[u64]) {
 
 // The call, and what comes back of it.
 fn called(
-    site: SiteValues,
+    ground: GroundValues,
     frame: FrameValues,
     weights: &[u64],
     heights: &[u64],
@@ -99,18 +108,26 @@ fn called(
     shears: &mut [u64],
     overturnings: &mut [u64],
 ) {
-    let a = job::job(site, frame, weights, heights, forces, shears, overturnings);
+    let a = job::job(
+        ground,
+        frame,
+        weights,
+        heights,
+        forces,
+        shears,
+        overturnings,
+    );
     answer_said(a);
     cells_said(b"forces", forces);
     cells_said(b"shears", shears);
     cells_said(b"moments", overturnings);
     io::write_all(STDOUT_FILENO, b"without buffers ");
-    answer_said(job::figures::figures(site, frame, weights, heights));
+    answer_said(job::figures::figures(ground, frame, weights, heights));
 }
 
 // Weights and heights are parts of the row, and the buffers that are lent are parts too.
 fn parted(
-    site: SiteValues,
+    ground: GroundValues,
     frame: FrameValues,
     row: &[u64],
     forces: &mut [u64],
@@ -125,7 +142,7 @@ fn parted(
     let shear_cells = least(row[BUFFERS + 1]);
     let overturning_cells = least(row[BUFFERS + 2]);
     called(
-        site,
+        ground,
         frame,
         &row[WEIGHTS..weights],
         &row[HEIGHTS..heights],
@@ -140,7 +157,7 @@ fn case(row: [u64; 140]) {
     let mut shears = [row[OLD + 1]; 60];
     let mut overturnings = [row[OLD + 2]; 60];
     parted(
-        site(row),
+        ground(row),
         frame(row),
         &row,
         &mut forces,

@@ -9,6 +9,10 @@ pub const WEIGHT_COUNT: usize = 12;
 pub const HEIGHT_COUNT: usize = 13;
 
 pub const ROOM: usize = 14;
+// What the ground is: 0 a site, 1 a zone of the Taipei Basin.
+pub const GROUND: usize = 15;
+
+pub const ZONE: usize = 16;
 
 pub const WEIGHTS: usize = 20;
 

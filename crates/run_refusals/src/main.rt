@@ -1,6 +1,7 @@
 // Runs the judgments on changed copies of one good job, as standard input gives them, and says what comes back of each.
 use fields::FIELDS;
 use fields::FRAME;
+use fields::GROUND;
 use fields::HEIGHT_COUNT;
 use fields::HEIGHTS;
 use fields::LISTED;
@@ -8,9 +9,11 @@ use fields::ROOM;
 use fields::SITE;
 use fields::WEIGHT_COUNT;
 use fields::WEIGHTS;
+use fields::ZONE;
 use libc::STDIN_FILENO;
 use libc::STDOUT_FILENO;
 use limits::frame::FrameValues;
+use limits::ground::GroundValues;
 use limits::judging::GivenAnswer;
 use limits::site::SiteValues;
 use rows::number;
@@ -26,9 +29,9 @@ const CHANGES: usize = 8;
 
 // Writes a field's name, eight bytes wide, its level where it has one, and its value.
 fn say_field(at: usize, value: u64) {
-    if at <= ROOM {
+    if at <= ZONE {
         say_name(
-            b"S_S D   S_1 D   S_S M   S_1 M   N_A     N_V     class   kind    period  R       I       alpha-y weights heights room    ",
+            b"S_S D   S_1 D   S_S M   S_1 M   N_A     N_V     class   kind    period  R       I       alpha-y weights heights room    ground  zone    ",
             at,
         );
     } else if at < HEIGHTS {
@@ -43,7 +46,7 @@ fn say_field(at: usize, value: u64) {
 }
 
 fn say_name(names: &[u8], at: usize) {
-    if at <= ROOM {
+    if at <= ZONE {
         let from = 8 * at;
         let end = from + 8;
         if end <= names.len() {
@@ -72,8 +75,11 @@ fn changed(job: [u64; 140], field: u64, value: u64) -> [u64; 140] {
     next
 }
 
-fn answer(job: [u64; 140]) -> GivenAnswer {
-    let site = SiteValues {
+fn ground(job: [u64; 140]) -> GroundValues {
+    if job[GROUND] == 1 {
+        return GroundValues::Basin(job[ZONE]);
+    }
+    GroundValues::Site(SiteValues {
         ssd: job[SITE],
         s1d: job[SITE + 1],
         ssm: job[SITE + 2],
@@ -81,7 +87,10 @@ fn answer(job: [u64; 140]) -> GivenAnswer {
         na: job[SITE + 4],
         nv: job[SITE + 5],
         class: job[SITE + 6],
-    };
+    })
+}
+
+fn answer(job: [u64; 140]) -> GivenAnswer {
     let frame = FrameValues {
         kind: job[FRAME],
         calculated: job[FRAME + 1],
@@ -92,7 +101,7 @@ fn answer(job: [u64; 140]) -> GivenAnswer {
     let weights = least(job[WEIGHT_COUNT]);
     let heights = least(job[HEIGHT_COUNT]);
     let room = job[ROOM] as usize;
-    judged(site, frame, &job, weights, heights, room)
+    judged(ground(job), frame, &job, weights, heights, room)
 }
 
 // So many levels, or as many as the array has.
@@ -107,7 +116,7 @@ fn least(count: u64) -> usize
 }
 
 fn judged(
-    site: SiteValues,
+    ground: GroundValues,
     frame: FrameValues,
     job: &[u64],
     weights: usize,
@@ -119,7 +128,7 @@ fn judged(
     let weights_end = WEIGHTS + weights;
     let heights_end = HEIGHTS + heights;
     limits::judging::judged(
-        site,
+        ground,
         frame,
         &job[WEIGHTS..weights_end],
         &job[HEIGHTS..heights_end],

@@ -5,6 +5,7 @@ use job::figures::figures;
 use libc::STDOUT_FILENO;
 use limits::class::Class;
 use limits::frame::FrameValues;
+use limits::ground::GroundValues;
 use limits::kind::Kind;
 use limits::site::SiteValues;
 
@@ -27,7 +28,8 @@ fn run(class: u64) -> Figures {
     };
     let weights = [15_000];
     let heights = [300];
-    let a = figures(site, frame, &weights, &heights);
+    let ground = GroundValues::Site(site);
+    let a = figures(ground, frame, &weights, &heights);
     let JobAnswer::Taken(f) = a else {
         return Figures {
             v: 0,

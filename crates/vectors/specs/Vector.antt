@@ -1,5 +1,5 @@
 -- A job with what the model of tests/ makes of it, and what the definitions make of it.
---   Vector           the unit s; site, frame, weights and heights; fractions for the roots; the printed stages; the exact figures
+--   Vector           the unit s; ground, frame, weights and heights; fractions for the roots; the printed stages; the exact figures
 --   printed v        A and B of the three hazards, t, T, the three spectra, lower root, lower factor, q and m of V and of V_M,
 --                    upper root, upper factor and p of V*, V, V_M, V*, V_D; then shears, forces and overturning moments
 --   exact v          V, V_M, V* and V_D at the fractions, then the storey shears
@@ -16,12 +16,15 @@ use Rattle.whole.specs.Cells.{sum}
 use Rattle.whole.specs.Root.{lowerRoot, upperRoot}
 use Rattle.limits.specs.Levels.{topHeight}
 use Rattle.limits.specs.declared.class.Class.{Class}
+use Rattle.limits.specs.declared.ground.Ground.{Ground}
+use Rattle.limits.specs.declared.ground.Ground.the-variants.{Site as OnSite, Basin as InBasin}
 use Rattle.limits.specs.declared.site.Site.{Site}
+use Rattle.limits.specs.declared.zone.Zone.{Zone}
 use Rattle.limits.specs.declared.kind.Kind.{Kind}
 use Rattle.limits.specs.declared.frame.Frame.{Frame}
 use Rattle.site.specs.declared.hazard.Hazard.{Hazard}
 use Rattle.site.specs.declared.hazard.Hazards.{Hazards}
-use Rattle.site.specs.Hazards.{hazardsOf}
+use Rattle.site.specs.Ground.{groundHazards}
 use Rattle.response.specs.Period.{approximate, periodOf}
 use Rattle.response.specs.Spectrum.{spectrum}
 use Rattle.response.specs.Factor.{lowerFactor, upperFactor}
@@ -33,7 +36,7 @@ use Rattle.storeys.specs.Exact.{exactShearUnder}
 
 pub record Vector : Type 0 where
   pub unit : ℕ
-  pub site : Site
+  pub ground : Ground
   pub frame : Frame
   pub weights : List ℕ
   pub heights : List ℕ
@@ -51,9 +54,15 @@ frameOf k calculated r i alpha = record { kind = k; calculated = calculated; r =
 abbrev pub rootsOf : ℕ → ℕ → ℕ → ℕ → ℕ → ℕ → Roots
 rootsOf a b c d e f = record { v = over a b; vm = over c d; star = over e f }
 
+abbrev vectorOn : Ground → ℕ → Frame → List ℕ → List ℕ → Roots → List ℕ → List Fraction → Vector
+vectorOn g s frame ws hs r ns xs =
+    record { unit = s; ground = g; frame = frame; weights = ws; heights = hs; roots = r; printed = ns; exact = xs }
+
 abbrev pub vector : ℕ → Site → Frame → List ℕ → List ℕ → Roots → List ℕ → List Fraction → Vector
-vector s site frame ws hs r ns xs =
-    record { unit = s; site = site; frame = frame; weights = ws; heights = hs; roots = r; printed = ns; exact = xs }
+vector s site frame ws hs r ns xs = vectorOn (OnSite site) s frame ws hs r ns xs
+
+abbrev pub basinVector : ℕ → Zone → Frame → List ℕ → List ℕ → Roots → List ℕ → List Fraction → Vector
+basinVector s zone frame ws hs r ns xs = vectorOn (InBasin zone) s frame ws hs r ns xs
 
 -- of one hazard with its lower root: spectrum, root, factor, q, m
 unfoldable pub stages : ℕ → Hazards → Hazard → ℕ → List ℕ
@@ -77,7 +86,7 @@ period v = periodOf (v .frame .kind) (v .frame .calculated) (topHeight (v .heigh
 
 unfoldable pub printed : Vector → List ℕ
 printed v =
-    let k = hazardsOf (v .site) (v .frame .r) in
+    let k = groundHazards (v .ground) (v .frame .r) in
     let T = period v in
     let f = figuresAt (v .unit) k (v .frame) (sum (v .weights)) T in
     let us = shears T (f .vd) (v .weights) (v .heights) in
@@ -98,7 +107,7 @@ places f (suc n) = places f n ++ (f n ∷ [])
 
 unfoldable pub exact : Vector → List Fraction
 exact v =
-    let k = hazardsOf (v .site) (v .frame .r) in
+    let k = groundHazards (v .ground) (v .frame .r) in
     let T = period v in
     let W = sum (v .weights) in
     let base = exactBase k (v .frame) W T (v .roots) in
