@@ -147,9 +147,16 @@ pub extern "C" fn rukeshomaji_basin_job(
 ) -> u64
     ensures { λ n. ⌜ JobReplies (inBasin zone) (now (frame .entry)) (now (weights .entry)) (now (heights .entry)) (record { forces = now (forces .entry); shears = now (shears .entry); overturnings = now (overturnings .entry) }) n (now (figures .exit)) (record { forces = now (forces .exit); shears = now (shears .exit); overturnings = now (overturnings .exit) }) ⌝ }
 {
-    let ground = GroundValues::Basin(zone);
     let f = frame_values(frame);
-    let a = job::job(ground, f, weights, heights, forces, shears, overturnings);
+    let a = job::job(
+        GroundValues::Basin(zone),
+        f,
+        weights,
+        heights,
+        forces,
+        shears,
+        overturnings,
+    );
     put_figures(figures, a)
 }
 
@@ -164,9 +171,8 @@ pub extern "C" fn rukeshomaji_basin_figures(
 ) -> u64
     ensures { λ n. ⌜ FiguresReplies (inBasin zone) (now (frame .entry)) (now (weights .entry)) (now (heights .entry)) n (now (figures .exit)) ⌝ }
 {
-    let ground = GroundValues::Basin(zone);
     let f = frame_values(frame);
-    let a = job::figures::figures(ground, f, weights, heights);
+    let a = job::figures::figures(GroundValues::Basin(zone), f, weights, heights);
     put_figures(figures, a)
 }
 
