@@ -15,6 +15,7 @@ pub mod Storeys
 pub mod Demand3
 pub mod Results
 pub mod Worked
+pub mod WorkedBasin
 pub mod JobNumbers
 pub mod SharpMargin
 pub mod WrongCores

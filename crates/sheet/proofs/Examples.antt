@@ -1,9 +1,10 @@
--- The definitions, run on document 01's sheet, on some that are otherwise, and on the figures of its listing.
+-- The definitions, run on document 01's sheet and on the same in zone 1 of the Taipei Basin, on some that are otherwise, and on the figures
+-- of their listings.
 -- Assumes nothing.
 use mathlib.Core.Path.{_≡_, refl, ap, _∙_}
 use mathlib.Core.List.{List, [], _∷_, _++_}
 use Prim.Native.Nat.{ℕ}
-use Rattle.limits.specs.declared.ground.GroundValues.the-variants.{Site}
+use Rattle.limits.specs.declared.ground.GroundValues.the-variants.{Site, Basin}
 use Rattle.limits.specs.Outcome.{Outcome, accepted, refused, _>>=_}
 use Rattle.limits.specs.Ranges.{inRange}
 use Rattle.text.specs.Bytes.{bytes}
@@ -12,15 +13,22 @@ use Rattle.text.specs.Number.{digits, valueFrom, wellMade, number}
 use Rattle.text.specs.Reading.{starts, word}
 use Rattle.text.specs.Writing.{digitsOf, decimal, fieldOf, fieldsOf, laidOut}
 use Rattle.job.proofs.Worked.{worked}
+use Rattle.job.proofs.WorkedBasin.{worked-basin}
 use Rattle.sheet.specs.Listing.{roofFirst, resultsListing, refusal, listing, jobOfSheet, sheetListing}
 use Rattle.sheet.specs.Lines.{lineIn, linesFrom}
 use Rattle.sheet.specs.Reading.{sheetLines, readSheet}
 use Rattle.sheet.specs.Sheet.{Sheet}
 
+abbrev building : List ℕ
+building =
+    bytes "frame\t2\t1000\t480\t100\t150\n"
+    ++ (bytes "level\t5000\t100\n" ++ (bytes "level\t5000\t200\n" ++ bytes "level\t5000\t300\n"))
+
 abbrev office : List ℕ
-office =
-    bytes "site\t80\t45\t100\t55\t100\t100\t1\n" ++ (bytes "frame\t2\t1000\t480\t100\t150\n"
-    ++ (bytes "level\t5000\t100\n" ++ (bytes "level\t5000\t200\n" ++ bytes "level\t5000\t300\n")))
+office = bytes "site\t80\t45\t100\t55\t100\t100\t1\n" ++ building
+
+abbrev basin : List ℕ
+basin = bytes "basin\t1\n" ++ building
 
 pub office-read : readSheet office ≡ accepted (record {
   ground = Site (record { ssd = 80; s1d = 45; ssm = 100; s1m = 55; na = 100; nv = 100; class = 1 });
@@ -29,6 +37,20 @@ pub office-read : readSheet office ≡ accepted (record {
 })
 unfolding readSheet sheetLines lineIn linesFrom line fields field word starts number digits wellMade inRange valueFrom
 office-read = refl
+
+pub basin-read : readSheet basin ≡ accepted (record {
+  ground = Basin 1;
+  frame = record { kind = 2; calculated = 1_000; r = 480; i = 100; alpha = 150 };
+  levels = record { weights = 5_000 ∷ 5_000 ∷ 5_000 ∷ []; heights = 100 ∷ 200 ∷ 300 ∷ [] };
+})
+unfolding readSheet sheetLines lineIn linesFrom line fields field word starts number digits wellMade inRange valueFrom
+basin-read = refl
+
+-- no zone, two numbers, the numbers of a site
+pub basin-otherwise : (readSheet (bytes "basin\n" ++ building) ≡ refused 16 1) × (readSheet (bytes "basin\t1\t1\n" ++ building) ≡ refused 16 1)
+    × (readSheet (bytes "basin\t80\t45\t100\t55\t100\t100\t1\n" ++ building) ≡ refused 16 1)
+unfolding readSheet sheetLines lineIn linesFrom line fields field word starts number digits wellMade inRange valueFrom
+basin-otherwise = (refl, refl, refl)
 
 pub otherwise-read : (readSheet [] ≡ refused 16 1) × (readSheet (bytes "site\t80\t45\t100\t55\t100\t100\t1\n") ≡ refused 16 2)
     × (readSheet (office ++ bytes "\n") ≡ refused 16 6)
@@ -42,6 +64,13 @@ pub office-listed : resultsListing (record { v = 909_708; vm = 818_458; star = 1
 unfolding resultsListing roofFirst laidOut fieldsOf fieldOf decimal digitsOf
 office-listed = refl
 
+pub basin-listed : resultsListing (record { v = 1_917_372; vm = 1_873_979; star = 1_714_286; vd = 1_917_372; t = 1_000 })
+    (297_192 ∷ 594_385 ∷ 1_025_795 ∷ []) (1_917_372 ∷ 1_620_180 ∷ 1_025_795 ∷ []) (456_334_700 ∷ 264_597_500 ∷ 102_579_500 ∷ [])
+    ≡ bytes "base\t1917372\t1873979\t1714286\t1917372\t1000\n" ++ (bytes "level\t3\t1025795\t1025795\t102579500\n"
+    ++ (bytes "level\t2\t594385\t1620180\t264597500\n" ++ bytes "level\t1\t297192\t1917372\t456334700\n"))
+unfolding resultsListing roofFirst laidOut fieldsOf fieldOf decimal digitsOf
+basin-listed = refl
+
 pub refusal-listed : refusal 16 80 ≡ bytes "refused\t16\t80\n"
 unfolding refusal laidOut fieldsOf fieldOf decimal digitsOf
 refusal-listed = refl
@@ -53,3 +82,11 @@ pub office-answered : sheetListing office ≡ bytes "base\t909708\t818458\t10714
 unfolding sheetListing listing
 office-answered =
     ap (λ (o : Outcome Sheet). listing (o >>= jobOfSheet)) office-read ∙ ap listing worked ∙ office-listed
+
+-- and in zone 1 of the Basin this one
+pub basin-answered : sheetListing basin ≡ bytes "base\t1917372\t1873979\t1714286\t1917372\t1000\n"
+    ++ (bytes "level\t3\t1025795\t1025795\t102579500\n"
+    ++ (bytes "level\t2\t594385\t1620180\t264597500\n" ++ bytes "level\t1\t297192\t1917372\t456334700\n"))
+unfolding sheetListing listing
+basin-answered =
+    ap (λ (o : Outcome Sheet). listing (o >>= jobOfSheet)) basin-read ∙ ap listing (worked-basin .0) ∙ basin-listed
