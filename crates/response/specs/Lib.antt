@@ -2,6 +2,7 @@ pub mod Unit
 pub mod Corner
 pub mod Period
 pub mod Spectrum
+pub mod Basin
 pub mod Factor
 pub mod Ratio
 pub mod Figures
