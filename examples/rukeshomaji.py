@@ -2,9 +2,9 @@
 
     python3 examples/rukeshomaji.py
 
-job, figures, site_class and sheet take whole numbers in the units of include/rukeshomaji.h. A number that 64 bits do not hold is an
-OverflowError before anything is called, as ctypes would cut it (2**64 to 0, which of a calculated period means none). A refusal is raised as
-Refused, with its number, place and text. The library is target/lib/librukeshomaji.so, or what RUKESHOMAJI_LIBRARY names.
+job, figures, basin_job, basin_figures, site_class and sheet take whole numbers in the units of include/rukeshomaji.h. A number that 64 bits
+do not hold is an OverflowError before anything is called, as ctypes would cut it (2**64 to 0, which of a calculated period means none). A
+refusal is raised as Refused, with its number, place and text. The library is target/lib/librukeshomaji.so, or what RUKESHOMAJI_LIBRARY names.
 """
 
 import ctypes
@@ -37,6 +37,7 @@ TEXTS = {
     15: 'unknown kind of layer, or value out of its range',
     16: 'line not as laid out',
     17: 'sheet over 4,096 bytes',
+    18: 'zone not 1 to 4',
 }
 PLACES = {
     3: 'level', 4: 'level', 5: ('S_S design', 'S_1 design', 'S_S MCE', 'S_1 MCE'), 6: ('N_A', 'N_V'), 14: 'layer', 15: 'layer', 16: 'line',
@@ -57,12 +58,14 @@ class Refused(ValueError):
 
 
 _core = ctypes.CDLL(str(LIBRARY))
-_lines, _list, _numbers = [ctypes.POINTER(U64)] * 2, [ctypes.POINTER(U64), U64], ctypes.POINTER(U64)
-_core.rukeshomaji_job.argtypes = [*_lines, *_list * 5, _numbers]
-_core.rukeshomaji_figures.argtypes = [*_lines, *_list * 2, _numbers]
+_list, _numbers = [ctypes.POINTER(U64), U64], ctypes.POINTER(U64)
+_core.rukeshomaji_job.argtypes = [_numbers, _numbers, *_list * 5, _numbers]
+_core.rukeshomaji_figures.argtypes = [_numbers, _numbers, *_list * 2, _numbers]
+_core.rukeshomaji_basin_job.argtypes = [U64, _numbers, *_list * 5, _numbers]
+_core.rukeshomaji_basin_figures.argtypes = [U64, _numbers, *_list * 2, _numbers]
 _core.rukeshomaji_site_class.argtypes = [*_list * 3, _numbers]
 _core.rukeshomaji_sheet.argtypes = [ctypes.c_char_p, U64, ctypes.c_char_p, _numbers]
-for _name in ('job', 'figures', 'site_class', 'sheet', 'version', 'edition', 'source'):
+for _name in ('job', 'figures', 'basin_job', 'basin_figures', 'site_class', 'sheet', 'version', 'edition', 'source'):
     getattr(_core, f'rukeshomaji_{_name}').restype = U64
 
 
@@ -84,20 +87,39 @@ def _taken(number, reply):
     return list(reply)[1:]
 
 
-def job(site, frame, weights, heights):
-    """The five figures, and the force, shear and overturning moment of each level, lowest first."""
+def _job(entry, ground, frame, weights, heights):
+    """A job on a site or in a zone, whichever the entry takes."""
     weights, heights, reply = _array(weights), _array(heights), (U64 * 6)()
     cells = [(U64 * len(weights))() for _ in range(3)]
-    number = _core.rukeshomaji_job(_array(site, 7), _array(frame, 5), weights, len(weights), heights, len(heights),
-                                   *(part for each in cells for part in (each, len(each))), reply)
+    number = entry(ground, _array(frame, 5), weights, len(weights), heights, len(heights),
+                   *(part for each in cells for part in (each, len(each))), reply)
     return Job(Figures(*_taken(number, reply)), *map(list, cells))
+
+
+def _figures(entry, ground, frame, weights, heights):
+    """The figures of such a job."""
+    weights, heights, reply = _array(weights), _array(heights), (U64 * 6)()
+    return Figures(*_taken(entry(ground, _array(frame, 5), weights, len(weights), heights, len(heights), reply), reply))
+
+
+def job(site, frame, weights, heights):
+    """The five figures, and the force, shear and overturning moment of each level, lowest first."""
+    return _job(_core.rukeshomaji_job, _array(site, 7), frame, weights, heights)
 
 
 def figures(site, frame, weights, heights):
     """The five figures alone."""
-    weights, heights, reply = _array(weights), _array(heights), (U64 * 6)()
-    number = _core.rukeshomaji_figures(_array(site, 7), _array(frame, 5), weights, len(weights), heights, len(heights), reply)
-    return Figures(*_taken(number, reply))
+    return _figures(_core.rukeshomaji_figures, _array(site, 7), frame, weights, heights)
+
+
+def basin_job(zone, frame, weights, heights):
+    """What `job` gives, in a zone of the Taipei Basin, 1 to 4."""
+    return _job(_core.rukeshomaji_basin_job, _array([zone])[0], frame, weights, heights)
+
+
+def basin_figures(zone, frame, weights, heights):
+    """The five figures alone, in a zone of the Taipei Basin."""
+    return _figures(_core.rukeshomaji_basin_figures, _array([zone])[0], frame, weights, heights)
 
 
 def site_class(thicknesses, kinds, values):

@@ -28,9 +28,9 @@ extern "C" {
 /* Three numbers name what you link; the functions at the end of this page give those of the library. Version: 1,000,000 times the major
  * number, 1,000 times the minor one, and the last. Edition: the year of the code. Source: the state of the rules, which goes up by one
  * whenever any call answers differently. */
-#define RUKESHOMAJI_VERSION 1000000
+#define RUKESHOMAJI_VERSION 1001000
 #define RUKESHOMAJI_EDITION 2005
-#define RUKESHOMAJI_SOURCE 1
+#define RUKESHOMAJI_SOURCE 2
 
 /* the most levels of a job, layers of a soil log and bytes of a sheet, and the most bytes that a listing can have */
 #define RUKESHOMAJI_MOST_LEVELS 50
@@ -39,7 +39,8 @@ extern "C" {
 #define RUKESHOMAJI_LONGEST_LISTING 4610
 
 /* Refusals: what an entry returns where it does not return 0; beside each its place. Of 1 to 15 the lowest number that applies is returned,
- * at its lowest place, but 14 at a layer of thickness 0 where there is one; for a sheet 17, then 16, come before all others. */
+ * at its lowest place, but 14 at a layer of thickness 0 where there is one. A job in the Taipei Basin has no site: 18 stands where 5 to 7
+ * stand, after 1 to 4 and before 8 to 12. For a sheet 17, then 16, come before all others. */
 #define RUKESHOMAJI_REFUSED_LEVELS 1      /* no level, or over 50, judged on the weights: 0 */
 #define RUKESHOMAJI_REFUSED_LENGTHS 2     /* lists of unequal length, or a result buffer shorter than them: 0 */
 #define RUKESHOMAJI_REFUSED_WEIGHT 3      /* weight out of range: level, the lowest is 1 */
@@ -57,6 +58,7 @@ extern "C" {
 #define RUKESHOMAJI_REFUSED_LAYER 15      /* unknown kind of layer, or value out of range: layer */
 #define RUKESHOMAJI_REFUSED_LINE 16       /* line of a sheet not as laid out: line, the first is 1 */
 #define RUKESHOMAJI_REFUSED_SHEET 17      /* sheet over 4,096 bytes: 0 */
+#define RUKESHOMAJI_REFUSED_ZONE 18       /* zone not 1 to 4: 0 */
 
 /* site classes */
 #define RUKESHOMAJI_HARD 1
@@ -112,7 +114,7 @@ typedef struct {
     uint64_t length;          /* of the listing, bytes: 1 to 4,610 */
 } RukeshomajiListing;
 
-/* The job: the base shear of one building in one horizontal direction, and its storeys.
+/* The job: the base shear of one building in one horizontal direction, and its storeys, on a site outside the Taipei Basin.
  *
  * Given      site, frame     see above
  *            weights         of the levels, lowest first, kN: 1 to 20,000 each; 1 to 50 levels
@@ -140,6 +142,32 @@ uint64_t rukeshomaji_job(const RukeshomajiSite *site, const RukeshomajiFrame *fr
 uint64_t rukeshomaji_figures(const RukeshomajiSite *site, const RukeshomajiFrame *frame, const uint64_t *weights, uint64_t weight_count,
                              const uint64_t *heights, uint64_t height_count, RukeshomajiFigures *figures);
 
+/* The job in the Taipei Basin: rukeshomaji_job with a zone in place of the site.
+ *
+ * Given      zone            micro-zone of the Basin: 1 to 4
+ *            frame           see above
+ *            weights, heights, forces, shears, overturnings    as of rukeshomaji_job
+ * Returned   0, or the refusal
+ * Refused    1 to 4, 18, 8 to 12
+ * Written    as of rukeshomaji_job
+ * Reference  document 000 (6) to (8), (10), (11), (15) to (21), Table 4, (23) without its factor. docs/DIFFERENCES.md says where the rules
+ *            depart from it
+ */
+uint64_t rukeshomaji_basin_job(uint64_t zone, const RukeshomajiFrame *frame, const uint64_t *weights, uint64_t weight_count,
+                               const uint64_t *heights, uint64_t height_count, uint64_t *forces, uint64_t force_cells, uint64_t *shears,
+                               uint64_t shear_cells, uint64_t *overturnings, uint64_t overturning_cells, RukeshomajiFigures *figures);
+
+/* The five figures of a job in the Taipei Basin, without its storeys: those of rukeshomaji_basin_job.
+ *
+ * Given      zone, frame, weights, heights    as of rukeshomaji_basin_job
+ * Returned   0, or the refusal
+ * Refused    1 to 4, 18, 8 to 12, with 2 for lists of unequal length alone
+ * Written    figures: all fields
+ * Reference  document 000 (6) to (8), (10), (11), (15) to (20), Table 4
+ */
+uint64_t rukeshomaji_basin_figures(uint64_t zone, const RukeshomajiFrame *frame, const uint64_t *weights, uint64_t weight_count,
+                                   const uint64_t *heights, uint64_t height_count, RukeshomajiFigures *figures);
+
 /* The site class of a soil log: the layers of the upper 30 m.
  *
  * Given      thicknesses     of the layers, cm: above 0, together 3,000; 1 to 40 layers
@@ -157,10 +185,10 @@ uint64_t rukeshomaji_site_class(const uint64_t *thicknesses, uint64_t thickness_
  *
  * Given      sheet           bytes: at most 4,096
  * Returned   0, or the refusal
- * Refused    17, 16, 1, 3 to 12
+ * Refused    17, 16, 1, 3 to 12 with a line `site`; 17, 16, 1, 3, 4, 18, 8 to 12 with a line `basin`
  * Written    listing: its first bytes, as many as reply's length says, with no NUL after them; the others hold what they held.
  *            reply: all fields. A refusal's line (`refused`, number, place) is a listing too, and has its length
- * Reference  document 01, 'Sheet and listing'; else as of rukeshomaji_job
+ * Reference  document 01, 'Sheet and listing'; else as of rukeshomaji_job and rukeshomaji_basin_job
  */
 uint64_t rukeshomaji_sheet(const char *sheet, uint64_t byte_count, char listing[RUKESHOMAJI_LONGEST_LISTING], RukeshomajiListing *reply);
 

@@ -94,11 +94,24 @@ def refusals(core):
     yield 16, 1, (core.sheet, (b'',))
     yield 17, 0, (core.sheet, (b'\n' * 4097,))
     yield 18, 0, (core.sheet, (b'basin\t5\nframe\t2\t1000\t480\t100\t150\nlevel\t5000\t100\n',))
+    yield from ((18, 0, (function, (zone, FRAME, WEIGHTS, HEIGHTS))) for function in (core.basin_job, core.basin_figures)
+                for zone in (0, 5, 2 ** 64 - 1))
+
+
+def listed(done):
+    """A job as its listing."""
+    lines = [('base', *done.figures)]
+    levels = list(zip(done.forces, done.shears, done.overturnings))
+    lines += [('level', level, *levels[level - 1]) for level in range(len(levels), 0, -1)]
+    return ''.join('\t'.join(map(str, line)) + '\n' for line in lines).encode()
 
 
 def run_module(core):
     """What the Python module answers, refuses and does not call."""
     yield 'the same figures alone', core.figures(SITE, FRAME, WEIGHTS, HEIGHTS) == core.job(SITE, FRAME, WEIGHTS, HEIGHTS).figures
+    yield 'a job in the Basin', listed(core.basin_job(1, FRAME, WEIGHTS, HEIGHTS)) == (EXAMPLES / 'basin.listing').read_bytes()
+    yield from ((f'the figures of zone {zone} alone', core.basin_figures(zone, FRAME, WEIGHTS, HEIGHTS)
+                 == core.basin_job(zone, FRAME, WEIGHTS, HEIGHTS).figures) for zone in (1, 2, 3, 4))
     yield 'a soil log', core.site_class([1000, 1000, 1000], [1, 2, 3], [3000, 20, 40]) == 1
     yield 'a sheet', core.sheet((EXAMPLES / 'tower.sheet').read_bytes()) == (EXAMPLES / 'tower.listing').read_bytes()
     header = (ROOT / 'include' / 'rukeshomaji.h').read_text()
@@ -113,8 +126,10 @@ def run_module(core):
     for number in (2 ** 64, 2 ** 64 + 1000, -1):
         yield f'a calculated period of {number}', raises(OverflowError, core.job, SITE, (2, number, 480, 100, 150), WEIGHTS, HEIGHTS)
         yield f'a weight of {number}', raises(OverflowError, core.figures, SITE, FRAME, [5000, number, 5000], HEIGHTS)
+        yield f'a zone of {number}', raises(OverflowError, core.basin_job, number, FRAME, WEIGHTS, HEIGHTS)
         yield f'a value of {number}', raises(OverflowError, core.site_class, [3000], [2], [number])
     yield 'the largest number of 64 bits', raises(core.Refused, core.figures, SITE, (2, 2 ** 64 - 1, 480, 100, 150), WEIGHTS, HEIGHTS)
+    yield 'a zone of 1.0', raises(TypeError, core.basin_figures, 1.0, FRAME, WEIGHTS, HEIGHTS)
     yield 'an R of 4.8', raises(TypeError, core.job, SITE, (2, 1000, 4.8, 100, 150), WEIGHTS, HEIGHTS)
     yield 'a site of six numbers', raises(TypeError, core.job, SITE[:6], FRAME, WEIGHTS, HEIGHTS)
 

@@ -42,7 +42,7 @@ RANGES = [
     ('dm/s: ', 'limits/layer VELOCITY_LEAST VELOCITY_MOST'), ('cohesive: N: ', 'limits/layer COHESIVE_LEAST COHESIVE_MOST'),
     ('cohesionless: N: ', 'limits/layer COHESIONLESS_LEAST COHESIONLESS_MOST'), ('bytes: at most ', 'limits/sheet BYTES_MOST'),
     ('sheet over ', 'limits/sheet BYTES_MOST'), ('no level, or over ', 'limits/level MOST'), ('no layer, or over ', 'limits/layer MOST'),
-    ('bytes: 1 to ', 'sheet/listing LONGEST'),
+    ('bytes: 1 to ', 'sheet/listing LONGEST'), ('micro-zone of the Basin: ', 'limits/zone ONE FOUR'), ('zone not ', 'limits/zone ONE FOUR'),
 ]
 # what the core takes, as C declares it; the array of a struct by the parameter's name
 TYPES = {
