@@ -6,12 +6,13 @@ Each step is worked out here from the numbers that it shows, and must come to th
 from fractions import Fraction
 from math import ceil, floor
 
-from tests.model import response, sheet, site as sites, storeys
-from tests.model.job import job
+from tests.model import basin as basins, limits, response, sheet, site as sites, storeys
+from tests.model.job import HAZARDS, job, made_by
 
 UNIT = response.UNIT
 CLASS_NAMES = {1: 'hard', 2: 'normal', 3: 'soft'}
 COLUMNS = ('V (design)', 'V_M (MCE)', 'V* (design, N_A = N_V = 1.00)')
+BASIN_COLUMNS = ('V (design)', 'V_M (MCE)', 'V* (design)')
 
 
 def comma(number):
@@ -53,13 +54,30 @@ def read(data):
     return job(site, frame, [weight for weight, _ in levels], [height for _, height in levels])
 
 
+def in_basin(worked):
+    """The job is one of the Taipei Basin."""
+    return isinstance(worked.ground, limits.Basin)
+
+
 def hazards(worked):
-    """For V, V_M and V*: mapped S_S and S_1, near-fault factors, the model's response, and what R gives."""
-    site, R = worked.ground, worked.frame.R
-    none, design, mce = sites.NO_NEAR_FAULT, response.design_capacity(R), response.mce_capacity(R)
-    return ((site.SSD, site.S1D, site.NA, site.NV, worked.design, design),
-            (site.SSM, site.S1M, site.NA, site.NV, worked.mce, mce),
-            (site.SSD, site.S1D, none, none, worked.star, design))
+    """For V, V_M and V* on a site: mapped S_S and S_1, near-fault factors, the model's response."""
+    site, none = worked.ground, sites.NO_NEAR_FAULT
+    return ((site.SSD, site.S1D, site.NA, site.NV, worked.design),
+            (site.SSM, site.S1M, site.NA, site.NV, worked.mce),
+            (site.SSD, site.S1D, none, none, worked.star))
+
+
+def ductilities(worked):
+    """For V, V_M and V*: capacity and root², each as the text of its arithmetic and as a number, which must be the model's."""
+    R = worked.frame.R
+    if in_basin(worked):
+        design = (f'({R} + 100) / 200 = ', Fraction(R + 100, 200), f'{R} / 100 = ', Fraction(R, 100))
+    else:
+        design = (f'(2 · {R} + 100) / 300 = ', Fraction(2 * R + 100, 300), f'({R} − 25) / 75 = ', Fraction(R - 25, 75))
+    mce = (f'{R} / 100 = ', Fraction(R, 100), f'({R} − 50) / 50 = ', Fraction(R - 50, 50))
+    for name, (_, capacity, _, square) in zip(HAZARDS, (design, mce, design)):
+        assert made_by(worked.ground).hazard(name, worked.ground, R)[2] == (capacity, square), name
+    return design, mce, design
 
 
 def between(columns, coefficients, S):
@@ -81,7 +99,7 @@ def site_table(worked):
     rows = [[f'{name}'] for name in ('S_S = mapped · N_A, in 0.0001 g', 'S_1 = mapped · N_V, in 0.0001 g', 'F_a by Table 2, in 0.0001',
                                      'F_v by Table 2, in 0.0001', 'A = F_a · S_S, in 10⁻⁸ g', 'B = F_v · S_1, in 10⁻⁸ g',
                                      'T0 = 1000 · B / A, in ms', '0.2 · T0, 0.6 · T0, 2.5 · T0')]
-    for S_S, S_1, NA, NV, figures, _ in hazards(worked):
+    for S_S, S_1, NA, NV, figures in hazards(worked):
         cls = worked.ground.cls
         a_text, a = between(sites.S_S_COLUMNS, sites.F_A[cls], S_S * NA)
         v_text, v = between(sites.S_1_COLUMNS, sites.F_V[cls], S_1 * NV)
@@ -93,6 +111,24 @@ def site_table(worked):
         for row, cell in zip(rows, cells):
             row.append(cell)
     return table(('', *COLUMNS), rows)
+
+
+def corner_cells(A, zone, figures):
+    """T0 by Table 4, B, and where the branches end."""
+    T0 = basins.TABLE_4[zone]
+    assert figures.A == A and figures.T0 == T0
+    return (f'**{comma(T0)}**', f'{comma(A)} · {comma(T0)} / 1000 = **{same(Fraction(A * T0, 1000), figures.B)}**',
+            ', '.join(decimal(Fraction(T0 * part, 10), 2) for part in (2, 6, 25)))
+
+
+def basin_table(worked):
+    """A, T0 and B of the three shears in a zone of the Taipei Basin."""
+    rows = [['A, in 10⁻⁸ g'], ['T0 by Table 4, in ms'], ['B = A · T0 / 1000, in 10⁻⁸ g'], ['0.2 · T0, 0.6 · T0, 2.5 · T0']]
+    for name, A, figures in (('S_DS', basins.S_DS, worked.design), ('S_MS', basins.S_MS, worked.mce), ('S_DS', basins.S_DS, worked.star)):
+        cells = (f'{name} = {decimal(Fraction(A, 10**8))} g: **{comma(A)}**', *corner_cells(A, worked.ground.zone, figures))
+        for row, cell in zip(rows, cells):
+            row.append(cell)
+    return table(('', *BASIN_COLUMNS), rows)
 
 
 def period(worked):
@@ -198,25 +234,29 @@ def shear_cell(worked, number, divisor, wanted):
             f'{rounded(exact, "up", wanted)} N')
 
 
+def star_divisor(worked):
+    """What divides V*, for p in millionths and W in kN."""
+    return 3500 if in_basin(worked) else 4200
+
+
 def response_table(worked):
     """Spectrum, roots, factor, ratio and shear of each column."""
-    R, T = worked.frame.R, worked.T
-    rows = [['branch of the spectrum (4)'], ['Sa, millionths of g'], ['capacity'], ['root²'], ['root, millionths'],
+    T, equations = worked.T, '(10), (15)' if in_basin(worked) else '(4)'
+    rows = [[f'branch of the spectrum {equations}'], ['Sa, millionths of g'], ['capacity'], ['root²'], ['root, millionths'],
             ['branch of the factor (6), (16)'], ['factor, millionths'], ['q = Sa / factor, millionths'], ['m by (8), (18), millionths'],
             ['p by (19), millionths'], ['shear']]
-    capacities = (f'(2 · {R} + 100) / 300 = ', f'{R} / 100 = ', f'(2 · {R} + 100) / 300 = ')
-    squares = (f'({R} − 25) / 75 = ', f'({R} − 50) / 50 = ', f'({R} − 25) / 75 = ')
     ends = ((*ratio_cells(worked.design, worked.q, worked.m), '', shear_cell(worked, worked.m, 1400, worked.V)),
             (*ratio_cells(worked.mce, worked.q_M, worked.m_M), '', shear_cell(worked, worked.m_M, 1400, worked.V_M)),
-            ('', '', p_cell(worked.star, worked.p), shear_cell(worked, worked.p, 4200, worked.V_star)))
-    for column, (*_, figures, (capacity, square)) in enumerate(hazards(worked)):
+            ('', '', p_cell(worked.star, worked.p), shear_cell(worked, worked.p, star_divisor(worked), worked.V_star)))
+    responses = (worked.design, worked.mce, worked.star)
+    for column, (figures, (capacity_text, capacity, square_text, square)) in enumerate(zip(responses, ductilities(worked))):
         upper = column == 2
         root_square, root = root_cells(square, figures, upper)
-        cells = (*spectrum_cells(figures, T), capacities[column] + decimal(capacity, 6), squares[column] + root_square, root,
+        cells = (*spectrum_cells(figures, T), capacity_text + decimal(capacity, 6), square_text + root_square, root,
                  *factor_cells(capacity, figures, T, upper), *ends[column])
         for row, cell in zip(rows, cells):
             row.append(cell)
-    return table(('', *COLUMNS), rows)
+    return table(('', *(BASIN_COLUMNS if in_basin(worked) else COLUMNS)), rows)
 
 
 def roof_force(worked):
@@ -227,6 +267,70 @@ def roof_force(worked):
     return code([f'V_D = the largest of {comma(named[0])}, {comma(named[1])} and {comma(named[2])} = {same(max(named), V_D)} N',
                  f'F_t = 0.07 · {decimal(Fraction(T, 1000))} · {comma(V_D)} = {decimal(exact)}, up: {same(ceil(exact), F_t)} N',
                  f'V_D − F_t = {comma(V_D - F_t)} N'])
+
+
+def across(others, first, cells_of):
+    """A table with one column a job; cells_of gives the rows of a job as (name, cell)."""
+    columns = [cells_of(worked) for worked in others]
+    names = [name for name, _ in columns[0]]
+    assert all([name for name, _ in column] == names for column in columns)
+    rows = [(name, *(column[place][1] for column in columns)) for place, name in enumerate(names)]
+    return table((first, *(f'zone {worked.ground.zone}' for worked in others)), rows)
+
+
+def spectrum_rows(worked):
+    """T0, B, and the spectrum at both levels, of a zone."""
+    T0, B, ends = corner_cells(basins.S_DS, worked.ground.zone, worked.design)
+    _, B_M, _ = corner_cells(basins.S_MS, worked.ground.zone, worked.mce)
+    (branch, Sa), (same_branch, Sa_M) = (spectrum_cells(figures, worked.T) for figures in (worked.design, worked.mce))
+    assert branch == same_branch and worked.star[:4] == worked.design[:4]
+    return [('T0 by Table 4, ms', T0), ('0.2 · T0, 0.6 · T0, 2.5 · T0', ends), ('B of V and V*, 10⁻⁸ g', B), ('B of V_M, 10⁻⁸ g', B_M),
+            ('branch of the spectrum (10), (15)', branch), ('Sa of V and V*', Sa), ('Sa of V_M', Sa_M)]
+
+
+def shear_rows(worked):
+    """Factors, ratios and shears of a zone."""
+    rows, T = [], worked.T
+    (_, capacity, _, _), (_, R, _, _), _ = ductilities(worked)
+    branch, lower = factor_cells(capacity, worked.design, T, False)
+    branch_M, lower_M = factor_cells(R, worked.mce, T, False)
+    branch_star, upper = factor_cells(capacity, worked.star, T, True)
+    assert branch == branch_M == branch_star
+    rows += [('branch of the factor (6), (16)', branch)]
+    for name, factor, figures, q, m, shear in (('V', lower, worked.design, worked.q, worked.m, worked.V),
+                                               ('V_M', lower_M, worked.mce, worked.q_M, worked.m_M, worked.V_M)):
+        q_text, m_text = ratio_cells(figures, q, m)
+        rows += [(f'lower factor of {name}', factor), (f'q of {name}', q_text), (f'm of {name}', m_text),
+                 (name, shear_cell(worked, m, 1400, shear))]
+    return rows + [('upper factor of V*', upper), ('p of V*', p_cell(worked.star, worked.p)),
+                   ('V*', shear_cell(worked, worked.p, star_divisor(worked), worked.V_star))]
+
+
+def storey_rows(worked):
+    """V_D, F_t, shears, forces and moments of a zone, roof first."""
+    V_D, T, F_t, count = worked.V_D, worked.T, worked.F_t, len(worked.heights)
+    exact = Fraction(7 * T * V_D, 100_000)
+    named = {'V': worked.V, 'V_M': worked.V_M, 'V*': worked.V_star}
+    governs = max(named, key=named.get)
+    rows = [('V_D, the largest of the three, N', f'{governs}: **{same(named[governs], V_D)}**'),
+            ('F_t, N', f'0.07 · {decimal(Fraction(T, 1000))} · {comma(V_D)} = {rounded(exact, "up", F_t)}'),
+            ('V_D − F_t, N', comma(V_D - F_t))]
+    parts = storeys.products_above(worked.weights, worked.heights)
+    for place in reversed(range(count)):
+        share = Fraction((V_D - F_t) * parts[place], parts[0])
+        above = worked.shears[place + 1] if place + 1 < count else 0
+        rows += [(f'(V_D − F_t) · {comma(parts[place])} / {comma(parts[0])}, N', rounded(share, 'up', ceil(share))),
+                 (f'shear of storey {place + 1}, N',
+                  f'{comma(F_t)} + {comma(ceil(share))} = **{same(F_t + ceil(share), worked.shears[place])}**'),
+                 (f'force at level {place + 1}, N',
+                  f'{comma(worked.shears[place])} − {comma(above)} = **{same(worked.shears[place] - above, worked.forces[place])}**')]
+    for place in reversed(range(count)):
+        bottom = worked.heights[place - 1] if place else 0
+        levels = list(reversed(range(place, count)))
+        terms = ' + '.join(f'{comma(worked.forces[level])} · {worked.heights[level] - bottom}' for level in levels)
+        total = sum(worked.forces[level] * (worked.heights[level] - bottom) for level in levels)
+        rows.append((f'overturning of storey {place + 1}, N·dm', f'{terms} = **{same(total, worked.moments[place])}**'))
+    return rows
 
 
 def storeys_table(worked):
@@ -258,19 +362,37 @@ def moments(worked):
     return code(lines)
 
 
+def site_names(worked):
+    """What a page on a sheet of a site may name besides."""
+    site = worked.ground
+    return {'site_table': site_table(worked), 'site': CLASS_NAMES[site.cls], 'NA': f'{site.NA // 100}.{site.NA % 100:02}',
+            'NV': f'{site.NV // 100}.{site.NV % 100:02}'}
+
+
+def basin_names(worked):
+    """What the page on the Taipei Basin may name besides: the same sheet in the other zones, one column a zone."""
+    others = [job(limits.Basin(zone), worked.frame, worked.weights, worked.heights) for zone in limits.ZONE if zone != worked.ground.zone]
+    zones = [(str(zone), comma(T0), f'{T0 // 1000}.{T0 % 1000 // 10:02}', *(comma(basins.A_and_B(S, zone)[1]) for S in (basins.S_DS, basins.S_MS)))
+             for zone, T0 in basins.TABLE_4.items()]
+    listings = '\n\n'.join(f'`basin`, zone {other.ground.zone}:\n\n' + code(sheet.listing(other).decode().splitlines()) for other in others)
+    return {'basin_table': basin_table(worked), 'zone': str(worked.ground.zone), 'A_design': comma(basins.S_DS), 'A_mce': comma(basins.S_MS),
+            'zones': table(('zone', 'T0, ms', 'T0, s', 'B of V and V*, 10⁻⁸ g', 'B of V_M, 10⁻⁸ g'), zones),
+            'other_spectra': across(others, '', spectrum_rows), 'other_shears': across(others, 'millionths; shears in N', shear_rows),
+            'other_storeys': across(others, '', storey_rows), 'other_listings': listings}
+
+
 def names(data):
     """What a page on one sheet may name."""
     worked = read(data)
-    return {
+    return (basin_names if in_basin(worked) else site_names)(worked) | {
         'sheet': code(data.decode().splitlines()), 'listing': code(sheet.shear(data).decode().splitlines()),
         'levels_words': ' + '.join(map(comma, worked.weights)), 'W': comma(worked.W), 'h': comma(worked.heights[-1]),
         'P': comma(storeys.products_above(worked.weights, worked.heights)[0]),
-        'site_table': site_table(worked), 'period': period(worked), 'response_table': response_table(worked),
+        'period': period(worked), 'response_table': response_table(worked),
         'roof_force': roof_force(worked), 'storeys_table': storeys_table(worked), 'moments': moments(worked),
         'forces_added': ' + '.join(map(comma, reversed(worked.forces))), 'V_D': comma(worked.V_D),
         'c': decimal(Fraction(response.PERIOD_C[worked.frame.kind], 1000)), 'h_m': decimal(Fraction(worked.heights[-1], 10)),
         'count': str(len(worked.heights)), 'heights_m': ', '.join(decimal(Fraction(height, 10)) for height in worked.heights),
-        'kind': str(worked.frame.kind), 'whole_c': str(response.PERIOD_C[worked.frame.kind]), 'site': CLASS_NAMES[worked.ground.cls],
-        'NA': f'{worked.ground.NA // 100}.{worked.ground.NA % 100:02}', 'NV': f'{worked.ground.NV // 100}.{worked.ground.NV % 100:02}',
+        'kind': str(worked.frame.kind), 'whole_c': str(response.PERIOD_C[worked.frame.kind]),
         'most_moment': comma(worked.moments[0]), 'most_kNm': decimal(Fraction(worked.moments[0], 10_000), 2),
     }

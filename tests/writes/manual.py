@@ -149,7 +149,7 @@ def filled(page, names):
 def written():
     """Each page that is filled, by its name."""
     pages = {'worked.md': by_hand.names(example('office')), 'soft_ground.md': by_hand.names(example('soft_ground')),
-             'rounding.md': rounding_names(), 'soil.md': soil_names()}
+             'basin.md': by_hand.names(example('basin')), 'rounding.md': rounding_names(), 'soil.md': soil_names()}
     assert {path.name for path in PAGES.iterdir()} == pages.keys()
     return {page: filled(page, names) for page, names in pages.items()}
 

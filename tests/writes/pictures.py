@@ -9,7 +9,7 @@ import sys
 from fractions import Fraction
 from xml.sax.saxutils import escape
 
-from tests.model import response, site as sites
+from tests.model import basin as basins, response, site as sites
 from tests.model.job import job
 
 ROOT = pathlib.Path(__file__).resolve().parents[2]
@@ -17,6 +17,7 @@ PICTURES = ROOT / 'docs' / 'manual' / 'pictures'
 SHEET, LISTING = ROOT / 'examples' / 'office.sheet', ROOT / 'examples' / 'office.listing'
 BLUE, RED, GREEN, GREY, BLACK = '#0072b2', '#d55e00', '#00795a', '#707070', '#000000'
 CLASSES = ((1, 'hard', BLUE, ''), (2, 'normal', GREEN, '12 6'), (3, 'soft', RED, '3 5'))
+ZONES = ((1, BLUE, ''), (2, GREEN, '12 6'), (3, RED, '3 5'), (4, BLACK, '14 5 3 5'))
 UNIT = response.UNIT
 
 
@@ -272,7 +273,29 @@ def classes():
     return picture.svg()
 
 
-DRAWN = {'spectrum': spectrum, 'factor': factor, 'modified': modified, 'storeys': storeys, 'classes': classes}
+def basin():
+    """The design and the MCE spectrum of the four zones of the Taipei Basin, one field a level."""
+    picture = Picture(960, 980, 'The spectra of the four zones of the Taipei Basin')
+    picture.words(90, 36, 'Taipei Basin, (10) and (15): dots at 0.2·T0, T0 and 2.5·T0', size=19, weight='bold')
+    for top, name, letters, S in ((70, 'design', 'S_DS', basins.S_DS), (530, 'MCE', 'S_MS', basins.S_MS)):
+        axes = Axes(picture, (90, top, 930, top + 360), Fraction(45, 10), Fraction(9, 10))
+        axes.frame('period T (s)', 'spectrum Sa (g)', tenths(45, 5), tenths(9))
+        picture.words(660, top + 24, f'{name}: {letters} = {decimal(Fraction(S, 10**8), 1)} g', weight='bold')
+        for number, colour, dash in ZONES:
+            A, B = basins.A_and_B(S, number)
+            T0 = Fraction(basins.TABLE_4[number])
+            corners = [T0 / 5, T0, T0 * 5 / 2]
+            times = sorted({*map(Fraction, range(1, 4501, 10)), *corners, Fraction(4500)})
+            axes.curve([(T / 1000, response.spectrum_in_g(A, B, T)) for T in times], colour, dash)
+            for T in corners:
+                axes.dot(T / 1000, response.spectrum_in_g(A, B, T), colour)
+            y = top + 26 + 24 * number
+            picture.line([(660, y - 6), (730, y - 6)], colour, 3, dash)
+            picture.words(740, y, f'zone {number}: T0 = {decimal(T0 / 1000, 2)} s', size=16)
+    return picture.svg()
+
+
+DRAWN = {'spectrum': spectrum, 'factor': factor, 'modified': modified, 'storeys': storeys, 'classes': classes, 'basin': basin}
 
 
 def wrong():
