@@ -4,8 +4,9 @@ usage: python3 -m tests.manual
 
 - each page that tests/writes/manual.py fills is what it writes, byte for byte, and what such a page says in digits of its own is a constant
 - each field of a sheet has the range of the model, its line has that many fields, and classes and kinds have the model's coefficients
-- each refusal from 1 to 17 has a row, its ranges are the model's, and its example gets what the row says
-- each rule, worked out as the page writes it, gives the model's number, and is rounded to the side that the page names
+- each refusal from 1 to 18 has a row, its ranges are the model's, and its example gets what the row says
+- each rule, worked out as the page writes it, gives the model's number, and is rounded to the side that the page names; so do those of the
+  Taipei Basin
 - sheet and listing are those of examples/ wherever they are shown, README.md included; every page is in the list of pages
 
 It prints what is wrong and one line of counts, and exits with 1 where anything is.
@@ -17,7 +18,7 @@ import sys
 from fractions import Fraction
 from math import ceil, floor
 
-from tests.model import limits, response, sheet, shears, site as sites, soil, storeys
+from tests.model import basin as basins, limits, response, sheet, shears, site as sites, soil, storeys
 from tests.writes import manual
 from tests.writes.by_hand import comma, decimal, read
 from tests.writes.manual import ranged
@@ -25,11 +26,13 @@ from tests.writes.manual import ranged
 ROOT = pathlib.Path(__file__).resolve().parents[1]
 MANUAL = ROOT / 'docs' / 'manual'
 OFFICE = (ROOT / 'examples' / 'office.sheet').read_bytes()
+BASIN = (ROOT / 'examples' / 'basin.sheet').read_bytes()
 # what a filled page says in digits of its own: constants of the rules, powers of ten, equations, sections, tables and limits of 000,
 # numbers of kinds and refusals, and the exponent of a pocket calculator
 OWN = {
     'worked.md': '0.01 0.75 1 1.4 2 4.2 5 7 16 17 19 25 50 75 100 300 1400 4200 10,000',
     'soft_ground.md': '0.75 2',
+    'basin.md': '0.01 0.2 0.4 0.6 0.8 1 1.4 1.5 2 2.0 2.3 2.4 2.5 3 3.5 4 4.2 6 7 10 11 15 16 17 18 19 100 200 1000 1400 3500',
     'rounding.md': '1 3 1.4 10 15',
     'soil.md': '0.1 1 2 3 2.1 10 13 15 18 27 30 180 270 800 1000',
 }
@@ -56,13 +59,14 @@ FIELDS = {
         ('S_S D', '0.01 g', listed(limits.S_S_DESIGN)), ('S_1 D', '0.01 g', listed(limits.S_1_DESIGN)),
         ('S_S M', '0.01 g', listed(limits.S_S_MCE)), ('S_1 M', '0.01 g', listed(limits.S_1_MCE)), ('N_A', '0.01', ranged(limits.N_A)),
         ('N_V', '0.01', ranged(limits.N_V)), ('class', 'number', listed(limits.CLASS))),
+    'Line 1 in the Taipei Basin: `basin`': (('zone', 'number', listed(limits.ZONE)),),
     'Line 2: `frame`': (
         ('kind', 'number', listed(limits.KIND)), ('calculated period', 'ms', '0 for none, ' + ranged(limits.CALCULATED_PERIOD[1:])),
         ('R', '0.01', ranged(limits.R_RANGE)), ('I', '0.01', listed(limits.I_VALUES)), ('alpha-y', '0.01', ranged(limits.ALPHA_Y))),
     'Every later line: `level`': (
         ('weight', 'kN', ranged(limits.WEIGHT)), ('height', 'dm (0.1 m)', ranged(limits.HEIGHT) + ', each above the level below')),
 }
-LAYOUTS = (sheet.SITE, sheet.FRAME, sheet.LEVEL)
+LAYOUTS = (sheet.SITE, sheet.BASIN, sheet.FRAME, sheet.LEVEL)
 # what the row of each refusal must say
 SAID = {
     1: [f'more than {limits.LEVELS[-1]}', ranged(limits.LEVELS)], 3: [ranged(limits.WEIGHT) + ' kN'], 4: [ranged(limits.HEIGHT) + ' dm'],
@@ -72,7 +76,7 @@ SAID = {
     13: [f'more than {soil.LAYERS[-1]}'], 14: [],
     15: ['not ' + either(tuple(soil.VALUE)), f'velocity {ranged(soil.VALUE[1])} dm/s', f'cohesive N {ranged(soil.VALUE[2])}',
          f'cohesionless N {ranged(soil.VALUE[3])}'],
-    17: [f'more than {comma(sheet.MOST_BYTES)} bytes'],
+    17: [f'more than {comma(sheet.MOST_BYTES)} bytes'], 18: ['not ' + either(limits.ZONE)],
 }
 
 
@@ -165,7 +169,10 @@ def refusals():
     """The refusals: one row at least for each, and what it says."""
     text = page('refusals.md')
     found = rows(text, '')
-    yield sorted({int(row[0]) for row in found}) == list(range(1, 18)), 'docs/manual/refusals.md: not each of 1 to 17'
+    yield sorted({int(row[0]) for row in found}) == list(range(1, 19)), 'docs/manual/refusals.md: not each of 1 to 18'
+    wrong = limits.refusals(limits.Basin(5), (5, 60_001, 99, 99, 99), [0], [0, 0], ())
+    yield [number for number, _ in wrong] == [2, 3, 4, 4, 18, 8, 9, 10, 11, 12], 'docs/manual/refusals.md: 18 is not where the page says'
+    yield '18 stands in place of 5 to 7, after 1 to 4 and before 8 to 12' in text.replace('\n', ' '), 'docs/manual/refusals.md: the place of 18'
     for number, place, wrong, to_do, example in found:
         said = re.match(r'(.*): `(refused \d+ \d+)`$', example)
         got = answer(said[1]) if said else None
@@ -296,8 +303,49 @@ def rules():
     yield f'c = {listed(response.PERIOD_C.values())} for kinds 1 to 4' in text, 'docs/manual/rules.md: c'
 
 
+def basin_rules():
+    """The rules of the Taipei Basin: each formula as the page writes it, in every zone; what it says of a site is of the rules in order."""
+    text, name = page('basin.md'), 'docs/manual/basin.md'
+    table = rows(text, 'The rules')
+    rule, on_site = {row[0]: row[1] for row in table}, {row[0]: row[2] for row in table}
+    of_sites = {row[0]: row[1] for row in rows(page('rules.md'), '')}
+    said = re.fullmatch(r'S_DS = (\S+) g, (\S+), for V and V\*; S_MS = (\S+) g, (\S+), for V_M', rule['A']).groups()
+    wanted = [words for S in (basins.S_DS, basins.S_MS) for words in (decimal(Fraction(S, 10**8)), comma(S))]
+    yield list(said) == wanted, f'{name}: A: {said}, wanted {wanted}'
+    zones = rows(text, 'The zones')
+    yield [int(row[0]) for row in zones] == list(limits.ZONE), f'{name}: zones'
+    for zone, in_ms, in_s, *both in zones:
+        T0 = basins.TABLE_4[int(zone)]
+        yield (in_ms, Fraction(in_s) * 1000) == (comma(T0), T0), f'{name}: T0 of zone {zone}: {in_ms}, {in_s}'
+        for S, B_said in zip((basins.S_DS, basins.S_MS), both):
+            A, B = basins.A_and_B(S, int(zone))
+            yield value(rule['B'].split(',')[0], A=Fraction(A), T0=T0) == B and B_said == comma(B), f'{name}: B of zone {zone}: {B_said}'
+            pieces = [piece.split(': ') for piece in rule['Sa'].split('; ')]
+            for T in range(1, 5_000, 13):
+                names = {'A': Fraction(A), 'T': Fraction(T), 'T0': Fraction(T0)}
+                formula = next(formula for when, formula in pieces if when == 'beyond' or value(when, **names))
+                yield value(formula, **names) / 10**8 == response.spectrum_in_g(A, B, T), f'{name}: Sa of zone {zone} at {T}'
+    squares = re.findall(r'√\(([^)]*)\)', rule['root'])
+    for R in limits.R_RANGE:
+        in_ones = Fraction(R, 100)
+        R_a = value(rule['capacity'].removeprefix('R_a = ').split(' for ')[0], R=in_ones)
+        got = (R_a, value(squares[0], R_a=R_a)), value(squares[1], R=in_ones), value(squares[2], R=in_ones)
+        yield got == (basins.capacity(R), basins.capacity(R)[1], response.mce_capacity(R)[1]), f'{name}: capacity or root at R = {R}'
+    frame, W = limits.Frame(2, 0, 477, 125, 151), 9_001
+    names = {'I': Fraction(frame.I, 100), 'alpha_y': Fraction(frame.alphay, 100), 'W': W * 1000, 'p': Fraction(292_321, 10**6)}
+    yield ceil(value(rule['V*'], **names)) == shears.V_star(frame, 292_321, W, divided_by=basins.V_STAR), f'{name}: V*'
+    for step in ('V*', 'T0', 'capacity'):
+        yield of_sites[step].startswith(on_site[step]), f'{name}: {step} on a site: {on_site[step]}, the rules have {of_sites[step]}'
+
+
 def shown():
     """Sheets and listings wherever they are shown, and the list of pages."""
+    for zone in limits.ZONE:
+        changed = b'basin\t%d\n' % zone + BASIN.split(b'\n', 1)[1]
+        yield f'```\n{sheet.shear(changed).decode()}```\n' in page('basin.md'), f'docs/manual/basin.md: no listing of zone {zone}'
+    for paper in ('sheet.md', 'basin.md'):
+        yield f'```\n{BASIN.decode()}```\n' in page(paper), f'docs/manual/{paper}: not the sheet of examples/basin'
+    yield (ROOT / 'examples' / 'basin.listing').read_bytes() == sheet.shear(BASIN), 'examples/basin.listing: not the listing of its sheet'
     listing = (ROOT / 'examples' / 'office.listing').read_text()
     for paper in (ROOT / 'README.md', MANUAL / 'sheet.md', MANUAL / 'worked.md'):
         for name, text in (('sheet', OFFICE.decode()), ('listing', listing)):
@@ -313,7 +361,7 @@ def shown():
 def main():
     """Check all, say what is wrong."""
     count, wrong = 0, []
-    for check in (filled, fields, refusals, rules, shown):
+    for check in (filled, fields, refusals, rules, basin_rules, shown):
         for holds, words in check():
             count += 1
             wrong += [] if holds else [words]
