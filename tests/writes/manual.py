@@ -81,7 +81,7 @@ def soil_names():
 
 def rounding_names():
     """What the page on roundings names."""
-    worked, other = (by_hand.read(example(name)) for name in ('office', 'soft_ground'))
+    worked, other, basin = (by_hand.read(example(name)) for name in ('office', 'soft_ground', 'basin'))
     unit = exact.shear_unit(other) / other.s
     frame = other.frame
     _, above = exact.bounds(other)
@@ -95,7 +95,7 @@ def rounding_names():
     I, alphay = decimal(Fraction(frame.I, 100)), decimal(Fraction(frame.alphay, 100))
     millionth = code([f'{I} · {comma(other.W)} kN · 1000 / (1.4 · {alphay}) / 10⁶ = {decimal(unit)} N'])
     shears = []
-    for name, each in (('worked sheet', worked), ('second sheet', other)):
+    for name, each in (('worked sheet', worked), ('second sheet', other), ('Basin sheet', basin)):
         below, _ = exact.bounds(each)
         margin = 6 * exact.shear_unit(each) / each.s + 1
         shears.append((name, 'V_D', comma(each.V_D), decimal(below.V_D), decimal(each.V_D - below.V_D), decimal(margin)))
