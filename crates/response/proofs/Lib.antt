@@ -10,4 +10,4 @@ pub mod Most
 pub mod Bent
 pub mod Exact
 pub mod Least
-pub mod Basin
+pub mod ZoneSpectra

@@ -1,6 +1,6 @@
 -- The spectrum of the Taipei Basin as document 000 writes it, by T0 itself: (10) with S_DS, (15) with S_MS. S in 10⁻⁸ g, T0 and T in ms.
 --   basinSpectrum S T0 T    in g: S(0.4 + 3T/T0) for T ≤ 0.2·T0; S for T ≤ T0; S·T0/T for T ≤ 2.5·T0; else 0.4·S
--- That the spectra of a zone are these: `design-spectrum`, `mce-spectrum` (proofs/Basin.antt).
+-- That the spectra of a zone are these: `design-spectrum`, `mce-spectrum` (proofs/ZoneSpectra.antt).
 use Prim.Native.Nat.{ℕ, _*_}
 use Rattle.whole.specs.declared.Fraction.{Fraction}
 use Rattle.whole.specs.Choice.{pick}
