@@ -1,19 +1,17 @@
 // The entries as a program in C, or in any language that calls C, sees them: pointers and 64-bit numbers alone. Each returns the number
 // of its refusal, 0 on success, and answers through an array that the caller lends, whose every cell is written.
-use job::JobAnswer;
-use limits::class::Class;
-use limits::class::ClassAnswer;
-use limits::frame::FrameValues;
+use arrays::frame_values;
+use arrays::put_class;
+use arrays::put_figures;
+use arrays::site_values;
 use limits::ground::GroundValues;
-use limits::site::SiteValues;
 use sheet::listing::LONGEST;
 use sheet::put_in_array;
+
+pub mod arrays;
+
 ghost use mathlib.Core.Path.{_≡_};
-ghost use Rattle.limits.specs.Site.{classOutcome};
-ghost use Rattle.job.specs.Job.{answerOutcome};
-ghost use Rattle.soil.specs.Class.{classNumber};
-ghost use Rattle.sheet.specs.Sheet.{siteValues, frameValues};
-ghost use Rattle.linked.specs.Linked.{FiguresReply, ClassReply, onSite, inBasin, JobReplies, FiguresReplies, LogReplies, SheetReplies, version, edition, source};
+ghost use Rattle.linked.specs.Linked.{onSite, inBasin, JobReplies, FiguresReplies, LogReplies, SheetReplies, version, edition, source};
 
 // The version of the library: 1,000,000 times the major number, 1,000 times the minor one, and the last.
 pub const VERSION: u64 = 1_001_000;
@@ -24,77 +22,6 @@ pub const EDITION: u64 = 2_005;
 // The state of the rules: 1 is document 01 by itself, 2 has the Taipei Basin with it. A change of what any call answers takes the next
 // number.
 pub const SOURCE: u64 = 2;
-
-// A sheet's site line: S_S and S_1 of the design level, S_S and S_1 of the MCE level, in 0.01 g; N_A and N_V in 0.01; class.
-fn site_values(l: &[u64; 7]) -> SiteValues
-    ensures { λ r. ⌜ r ≡ siteValues (now (l .entry)) ⌝ }
-{
-    SiteValues {
-        ssd: l[0],
-        s1d: l[1],
-        ssm: l[2],
-        s1m: l[3],
-        na: l[4],
-        nv: l[5],
-        class: l[6],
-    }
-}
-
-// A sheet's frame line: kind; calculated period in ms; R, I and alpha-y in 0.01.
-fn frame_values(l: &[u64; 5]) -> FrameValues
-    ensures { λ r. ⌜ r ≡ frameValues (now (l .entry)) ⌝ }
-{
-    FrameValues {
-        kind: l[0],
-        calculated: l[1],
-        r: l[2],
-        i: l[3],
-        alpha: l[4],
-    }
-}
-
-// Place; V, V_M, V*, V_D in N and T in ms, zeros where data is refused.
-fn put_figures(out: &mut [u64; 6], a: JobAnswer) -> u64
-    ensures { λ n. ⌜ FiguresReply (answerOutcome a) n (now (out .exit)) ⌝ }
-{
-    match a {
-        JobAnswer::Taken(n) => {
-            *out = [0, n.v, n.vm, n.star, n.vd, n.t];
-            0
-        }
-        JobAnswer::Refused(r) => {
-            *out = [r.place, 0, 0, 0, 0, 0];
-            r.number
-        }
-    }
-}
-
-fn class_number(c: Class) -> u64
-    ensures { λ r. ⌜ r ≡ classNumber c ⌝ }
-{
-    match c {
-        Class::Hard => Class::HARD,
-        Class::Normal => Class::NORMAL,
-        Class::Soft => Class::SOFT,
-    }
-}
-
-// Place; the class by its number, 0 where data is refused.
-fn put_class(out: &mut [u64; 2], a: ClassAnswer) -> u64
-    ensures { λ n. ⌜ ClassReply (classOutcome a) n (now (out .exit)) ⌝ }
-{
-    match a {
-        ClassAnswer::Taken(c) => {
-            let class = class_number(c);
-            *out = [0, class];
-            0
-        }
-        ClassAnswer::Refused(r) => {
-            *out = [r.place, 0];
-            r.number
-        }
-    }
-}
 
 // The job on a site: a force, a shear and an overturning moment of each level in the lent buffers, place and figures in `figures`.
 #[no_mangle]

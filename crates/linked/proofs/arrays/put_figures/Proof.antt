@@ -1,10 +1,10 @@
--- `linked::put_figures` meets its contract. Assumes nothing.
+-- `linked::arrays::put_figures` meets its contract. Assumes nothing.
 use borrow.Author.Needs.{needs}
 use mathlib.Core.Path.{refl, sym, ap}
 use Rattle.job.specs.Job.{answerOutcome}
 use Rattle.linked.proofs.Replies.{replies-as}
-use Rattle.linked.proofs.put_figures.Statement.{statement}
-use Rattle.linked.proofs.put_figures.Tie as tie
+use Rattle.linked.proofs.arrays.put_figures.Statement.{statement}
+use Rattle.linked.proofs.arrays.put_figures.Tie as tie
 
 enum-known-a : tie.Need-enum-known-a
 enum-known-a c = search needs

@@ -1,12 +1,12 @@
--- `linked::put_class` meets its contract. Assumes nothing.
+-- `linked::arrays::put_class` meets its contract. Assumes nothing.
 use borrow.Author.Needs.{needs}
 use mathlib.Core.Path.{refl, sym, ap}
 use mathlib.Core.List.{[], _∷_}
 use Prim.Native.Nat.{ℕ}
 use Rattle.limits.specs.Site.{classOutcome}
 use Rattle.linked.proofs.Replies.{replies-as}
-use Rattle.linked.proofs.put_class.Statement.{statement}
-use Rattle.linked.proofs.put_class.Tie as tie
+use Rattle.linked.proofs.arrays.put_class.Statement.{statement}
+use Rattle.linked.proofs.arrays.put_class.Tie as tie
 
 enum-known-a : tie.Need-enum-known-a
 enum-known-a c = search needs

@@ -1,0 +1,83 @@
+// The arrays that a program in C lends, read as lines and written as replies.
+use job::JobAnswer;
+use limits::class::Class;
+use limits::class::ClassAnswer;
+use limits::frame::FrameValues;
+use limits::site::SiteValues;
+ghost use mathlib.Core.Path.{_≡_};
+ghost use Rattle.limits.specs.Site.{classOutcome};
+ghost use Rattle.job.specs.Job.{answerOutcome};
+ghost use Rattle.soil.specs.Class.{classNumber};
+ghost use Rattle.sheet.specs.Sheet.{siteValues, frameValues};
+ghost use Rattle.linked.specs.Linked.{FiguresReply, ClassReply};
+
+// A sheet's site line: S_S and S_1 of the design level, S_S and S_1 of the MCE level, in 0.01 g; N_A and N_V in 0.01; class.
+pub fn site_values(l: &[u64; 7]) -> SiteValues
+    ensures { λ r. ⌜ r ≡ siteValues (now (l .entry)) ⌝ }
+{
+    SiteValues {
+        ssd: l[0],
+        s1d: l[1],
+        ssm: l[2],
+        s1m: l[3],
+        na: l[4],
+        nv: l[5],
+        class: l[6],
+    }
+}
+
+// A sheet's frame line: kind; calculated period in ms; R, I and alpha-y in 0.01.
+pub fn frame_values(l: &[u64; 5]) -> FrameValues
+    ensures { λ r. ⌜ r ≡ frameValues (now (l .entry)) ⌝ }
+{
+    FrameValues {
+        kind: l[0],
+        calculated: l[1],
+        r: l[2],
+        i: l[3],
+        alpha: l[4],
+    }
+}
+
+// Place; V, V_M, V*, V_D in N and T in ms, zeros where data is refused.
+pub fn put_figures(out: &mut [u64; 6], a: JobAnswer) -> u64
+    ensures { λ n. ⌜ FiguresReply (answerOutcome a) n (now (out .exit)) ⌝ }
+{
+    match a {
+        JobAnswer::Taken(n) => {
+            *out = [0, n.v, n.vm, n.star, n.vd, n.t];
+            0
+        }
+        JobAnswer::Refused(r) => {
+            *out = [r.place, 0, 0, 0, 0, 0];
+            r.number
+        }
+    }
+}
+
+pub fn class_number(c: Class) -> u64
+    ensures { λ r. ⌜ r ≡ classNumber c ⌝ }
+{
+    match c {
+        Class::Hard => Class::HARD,
+        Class::Normal => Class::NORMAL,
+        Class::Soft => Class::SOFT,
+    }
+}
+
+// Place; the class by its number, 0 where data is refused.
+pub fn put_class(out: &mut [u64; 2], a: ClassAnswer) -> u64
+    ensures { λ n. ⌜ ClassReply (classOutcome a) n (now (out .exit)) ⌝ }
+{
+    match a {
+        ClassAnswer::Taken(c) => {
+            let class = class_number(c);
+            *out = [0, class];
+            0
+        }
+        ClassAnswer::Refused(r) => {
+            *out = [r.place, 0];
+            r.number
+        }
+    }
+}
