@@ -23,7 +23,7 @@ from tests.draws.sample import all_strata, draw_in
 from tests.model import job as jobs, limits, sheet, soil
 from tests.writes import log_cases
 
-JOBS, BAD, LOGS, SHEETS, SEED, BASIN, BASIN_BAD = 1_000_000, 120_000, 100_000, 120_000, 1, 200_000, 20_000
+JOBS, BAD, LOGS, SHEETS, SEED, BASIN, BASIN_BAD = 1_000_000, 120_000, 100_000, 120_000, 1, 200_000, 24_000
 A_STRATUM, CHUNK, SHOWN = 500, 2_500, 5
 SAID_EACH = 10          # seconds
 WITHOUT = 'the same without buffers'

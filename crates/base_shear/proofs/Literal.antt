@@ -23,3 +23,8 @@ shear-in-units f W m p = newtons-in-units 14 f W m (omega arith) ∙ ap₂ up re
 pub star-in-units : (f : Frame) (W p : ℕ) → 0 < f .alpha
     → newtons unit 42 f W p ≡ up (f .i * p * W) (4200 * f .alpha)
 star-in-units f W p q = newtons-in-units 42 f W p (omega arith) ∙ ap₂ up refl (omega arith)
+
+-- V* in the Taipei Basin
+pub basin-star-in-units : (f : Frame) (W p : ℕ) → 0 < f .alpha
+    → newtons unit 35 f W p ≡ up (f .i * p * W) (3500 * f .alpha)
+basin-star-in-units f W p q = newtons-in-units 35 f W p (omega arith) ∙ ap₂ up refl (omega arith)

@@ -2,10 +2,11 @@
 -- Assumes nothing.
 use mathlib.Core.Path.{_≡_, refl}
 use mathlib.Core.List.{List}
+use mathlib.Core.Logic.{_⊎_}
 use Prim.Native.Nat.{ℕ, _≤_}
 use Rattle.limits.specs.declared.frame.FrameValues.{FrameValues}
 use Rattle.limits.specs.declared.ground.GroundValues.{GroundValues}
-use Rattle.limits.specs.declared.ground.GroundValues.the-variants.{Site}
+use Rattle.limits.specs.declared.ground.GroundValues.the-variants.{Site, Basin}
 use Rattle.limits.specs.declared.refusal.Refusal.{Refusal}
 use Rattle.limits.specs.declared.site.SiteValues.{SiteValues}
 use Rattle.limits.specs.Applies.{Applies}
@@ -51,8 +52,14 @@ module _ (s : GroundValues) (f : FrameValues) (ws hs : List ℕ) (b : Buffers) w
     lowest-place q w =
         order.lowest-place s f ws hs (shortest b) (r .number) (r .place) q (refused-judged s f ws hs b r b′ a) w
 
--- on a site this is 'the lowest number that applies'; in the Basin 18 stands where 5 to 7 stand
+-- on a site this is 'the lowest number that applies'; in the Basin it is the lowest, or 18 before 8 to 12
 pub lowest-number : (s : SiteValues) (f : FrameValues) (ws hs : List ℕ) (b : Buffers) (r : Refusal) (b′ : Buffers)
     → Answers (Site s) f ws hs b (Refused r) b′ → (m q : ℕ) → Wrong (Site s) f ws hs b m q → r .number ≤ m
 lowest-number s f ws hs b r b′ a m q w =
     order.lowest-number s f ws hs (shortest b) (r .number) (r .place) m q (refused-judged (Site s) f ws hs b r b′ a) w
+
+pub lowest-in-basin : (z : ℕ) (f : FrameValues) (ws hs : List ℕ) (b : Buffers) (r : Refusal) (b′ : Buffers)
+    → Answers (Basin z) f ws hs b (Refused r) b′ → (m q : ℕ) → Wrong (Basin z) f ws hs b m q
+    → (r .number ≤ m) ⊎ ((r .number ≡ 18) × (8 ≤ m))
+lowest-in-basin z f ws hs b r b′ a m q w =
+    order.lowest-in-basin z f ws hs (shortest b) (r .number) (r .place) m q (refused-judged (Basin z) f ws hs b r b′ a) w

@@ -1,4 +1,4 @@
--- The job: one building, one horizontal direction. Weights ws in kN and heights hs in dm, lowest level first.
+-- The job: one building, one horizontal direction. The ground s, the frame f, weights ws in kN and heights hs in dm, lowest level first.
 --   Results                    V, V_M, V*, V_D and T; per level, lowest first, force, shear and overturning
 --   resultsAt n ws hs          those of five figures: the storeys at V_D and T
 --   givenHazards g             the hazards of a judged ground, with the R of the frame

@@ -24,9 +24,10 @@ lowest-first n m hn hm h =
 first : ℕ → Bool
 first n = ltb (rank 16) (rank n)
 
-pub sheet-first : Before 17 16 × ((n : ℕ) → (1 ≤ n) × (n ≤ 15) → Before 16 n)
+pub sheet-first : Before 17 16 × ((n : ℕ) → (1 ≤ n) × (n ≤ 15) → Before 16 n) × Before 16 18
 unfolding first allBelow
-sheet-first = (omega arith, λ n h. ltb→lt (rank 16) (rank n) (all-from first 1 15 tt n (h .0) (omega arith)))
+sheet-first =
+    (omega arith, λ n h. ltb→lt (rank 16) (rank n) (all-from first 1 15 tt n (h .0) (omega arith)), omega arith)
 
 before : ℕ → ℕ → Bool
 before n m = ltb (rank n) (rank m)

@@ -1,9 +1,9 @@
 -- The refusal that a job is given is the first that applies, in the order in which they are judged (`order`), and so 'the lowest number
 -- that applies .., at its lowest place'. An accepted job is one to which none applies.
 -- Assumes nothing.
-use mathlib.Core.Path.{_≡_, subst}
+use mathlib.Core.Path.{_≡_, ap, subst}
 use mathlib.Core.List.{List}
-use mathlib.Core.Logic.{⊎-elim}
+use mathlib.Core.Logic.{_⊎_, inl, inr, ⊎-elim}
 use Prim.Native.Nat.{ℕ, _+_, _≤_}
 use native.Mathlib.Omega.{arith}
 use Rattle.limits.specs.declared.frame.FrameValues.{FrameValues}
@@ -16,10 +16,10 @@ use Rattle.limits.specs.Frame.{judgedFrame}
 use Rattle.limits.specs.Ground.{judgedGround}
 use Rattle.limits.specs.Judging.{judgedJob}
 use Rattle.limits.specs.Levels.{judgedLevels}
-use Rattle.limits.specs.Order.{InOrder, NoLater}
+use Rattle.limits.specs.Order.{rank, InOrder, NoLater}
 use Rattle.limits.specs.Outcome.{accepted, refused}
 use Rattle.limits.proofs.Precedence.{Stops, up-to-yields, stopped-number, stopped-place, first-stops, later-stops, bound-stops, value-stops}
-use Rattle.limits.proofs.Ascending.{lowest-first}
+use Rattle.limits.proofs.Ascending.{lowest-first, zone-between}
 use Rattle.limits.proofs.InOrder.{in-order}
 use Rattle.limits.proofs.LevelsStage.{levels-up-to, levels-stop}
 use Rattle.limits.proofs.GroundStage.{ground-up-to, ground-stops, ground-later}
@@ -65,10 +65,32 @@ applies-in-order (Basin z) f ws hs room n p a =
     ⊎-elim (λ h. in-order n (omega arith)) (λ h. ⊎-elim (λ e. in-order n (omega arith)) (λ k. in-order n (omega arith)) h)
     (numbered-basin a)
 
--- on a site the first number is the lowest; in the Basin it is 1 to 4, 18, 8 to 12 in this order (`zone-between`)
+-- on a site the first number is the lowest
 pub lowest-number : (s : SiteValues) (f : FrameValues) (ws hs : List ℕ) (room n p m q : ℕ) → judgedJob (Site s) f ws hs room ≡ refused n p
     → Applies (Site s) f ws hs room m q → n ≤ m
 lowest-number s f ws hs room n p m q e a =
     let given = numbered (refused-applies (Site s) f ws hs room n p e) in
     let other = numbered a in
     lowest-first n m (omega arith) (omega arith) (first-number (Site s) f ws hs room n p m q e a)
+
+-- in the Basin it is the lowest, but for 18, which is given before 8 to 12
+module _ (z : ℕ) (f : FrameValues) (ws hs : List ℕ) (room n p m q : ℕ) where
+  pub lowest-in-basin : judgedJob (Basin z) f ws hs room ≡ refused n p → Applies (Basin z) f ws hs room m q
+      → (n ≤ m) ⊎ ((n ≡ 18) × (8 ≤ m))
+  lowest-in-basin e a =
+      let h = first-number (Basin z) f ws hs room n p m q e a in
+      of-both h (numbered-basin (refused-applies (Basin z) f ws hs room n p e)) (numbered-basin a)
+    where
+      Numbered : ℕ → Type 0
+      Numbered k = ((1 ≤ k) × (k ≤ 4)) ⊎ ((k ≡ 18) ⊎ ((8 ≤ k) × (k ≤ 12)))
+
+      of-both : NoLater n m → Numbered n → Numbered m → (n ≤ m) ⊎ ((n ≡ 18) × (8 ≤ m))
+      of-both h (inl low) (inl other) = inl (lowest-first n m (omega arith) (omega arith) h)
+      of-both h (inl low) (inr (inl e)) = inl (omega arith)
+      of-both h (inl low) (inr (inr other)) = inl (omega arith)
+      of-both h (inr (inl e)) (inl other) = absurd (let k = zone-between .0 m other in omega (arith, ap rank e))
+      of-both h (inr (inl e)) (inr (inl other)) = inl (omega arith)
+      of-both h (inr (inl e)) (inr (inr other)) = inr (e, other .0)
+      of-both h (inr (inr high)) (inl other) = inl (lowest-first n m (omega arith) (omega arith) h)
+      of-both h (inr (inr high)) (inr (inl e)) = inl (omega arith)
+      of-both h (inr (inr high)) (inr (inr other)) = inl (lowest-first n m (omega arith) (omega arith) h)

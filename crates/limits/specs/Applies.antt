@@ -9,7 +9,7 @@
 --   LevelsApply ws hs room n p   1 to 4: any of these
 --   SiteApplies s n p            5 to 7: of a site
 --   ZoneApplies z n p            18: of a zone of the Taipei Basin
---   GroundApplies g n p          5 to 7 of a site, 18 of a zone
+--   GroundApplies s n p          of a ground s: 5 to 7 of a site, 18 of a zone
 --   FrameApplies f n p           8 to 12: of a frame
 --   Applies s f ws hs room n p   of a job: of its levels, its ground or its frame
 use mathlib.Core.Path.{_≡_}

@@ -1,5 +1,5 @@
 -- All that is judged of a job, in document 01's order: levels (1 to 4), ground (5 to 7 of a site, 18 of a zone), frame (8 to 12).
---   judgedJob s f ws hs room    the judged ground and frame, or the first refusal; room is the length of the shortest result buffer
+--   judgedJob s f ws hs room    of a ground s and a frame f the judged ones, or the first refusal; room is the length of the shortest result buffer
 --   givenOutcome a              what the code's answer a says
 use mathlib.Core.List.{List}
 use Prim.Native.Nat.{ℕ}

@@ -52,18 +52,20 @@ impl Ground {
     fn on_site(values: SiteValues) -> GroundAnswer
         ensures { λ a. ⌜ groundOutcome a ≡ judgedOnSite values ⌝ }
     {
-        match Site::judged(values) {
-            SiteAnswer::Taken(site) => GroundAnswer::Taken(Ground::Site(site)),
-            SiteAnswer::Refused(r) => GroundAnswer::Refused(r),
-        }
+        let s = Site::judged(values);
+        let SiteAnswer::Taken(site) = s else {
+            return GroundAnswer::Refused(s.refusal());
+        };
+        GroundAnswer::Taken(Ground::Site(site))
     }
 
     fn in_basin(number: u64) -> GroundAnswer
         ensures { λ a. ⌜ groundOutcome a ≡ judgedInBasin number ⌝ }
     {
-        match Zone::judged(number) {
-            ZoneAnswer::Taken(zone) => GroundAnswer::Taken(Ground::Basin(zone)),
-            ZoneAnswer::Refused(r) => GroundAnswer::Refused(r),
-        }
+        let z = Zone::judged(number);
+        let ZoneAnswer::Taken(zone) = z else {
+            return GroundAnswer::Refused(z.refusal());
+        };
+        GroundAnswer::Taken(Ground::Basin(zone))
     }
 }

@@ -60,7 +60,7 @@ pub extern "C" fn rukeshomaji_figures(
     put_figures(figures, a)
 }
 
-// The same job in a zone of the Taipei Basin: no number of a zone means that there is none.
+// The same job in a zone of the Taipei Basin. There is no zone number for 'no zone'.
 #[no_mangle]
 pub extern "C" fn rukeshomaji_basin_job(
     zone: u64,

@@ -4,12 +4,14 @@
 --                      `level`'
 --   levelForm          the form of the lines after these two
 --   siteValues ns      S_S D, S_1 D, S_S M, S_1 M, N_A, N_V, class
+--   isWord w v         v is the word w
 --   groundOf l         what line 1 holds: the zone where its word is `basin`, else the site
 --   frameValues ns     kind, calculated period, R, I, alpha-y
 --   Levels             weights in kN and heights in dm, lowest level first
 --   levelsOf ls        those of level lines: weight, height
 --   Sheet, sheetOf ls  what a sheet holds; what its lines ls do
 -- A number that a line does not have is 0 here; `sheetForm` says how many there are.
+use mathlib.Core.Bool.{Bool, _&&_}
 use mathlib.Core.List.{List, [], _∷_, map}
 use Prim.Native.Nat.{ℕ}
 use lib.ListN.{getD, drop}
@@ -52,8 +54,11 @@ siteValues ns =
       class = getD ns 6 0;
     }
 
+abbrev pub isWord : List ℕ → List ℕ → Bool
+isWord w v = starts w v && starts v w
+
 abbrev pub groundOf : Line → GroundValues
-groundOf l = pick (starts (basinLayout .word) (l .word)) (Basin (getD (l .numbers) 0 0)) (Site (siteValues (l .numbers)))
+groundOf l = pick (isWord (basinLayout .word) (l .word)) (Basin (getD (l .numbers) 0 0)) (Site (siteValues (l .numbers)))
 
 abbrev pub frameValues : List ℕ → FrameValues
 frameValues ns =

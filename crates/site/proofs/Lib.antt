@@ -1,3 +1,4 @@
 pub mod Whole
 pub mod Bounds
 pub mod Corners
+pub mod Capacities

@@ -1,6 +1,7 @@
 -- The ductility capacity, and the square of its root (5), (6), (11), (16); R in 0.01.
 --   designCapacity R, designSquare R    R_a = 1 + (R − 1)/1.5, and 2·R_a − 1
---   basinCapacity R, basinSquare R      of the Taipei Basin: R_a = 1 + (R − 1)/2.0, and 2·R_a − 1, which is R
+--   basinCapacity R, basinSquare R      of the Taipei Basin: R_a = 1 + (R − 1)/2.0, and 2·R_a − 1, which is R:
+--                                       `basin-allowable`, `basin-rooted` (proofs/Capacities.antt)
 --   mceCapacity R, mceSquare R          R itself, and 2·R − 1
 -- ℕ's subtraction stops at 0; R is at least 100.
 use Prim.Native.Nat.{ℕ, _+_, _-_, _*_}
