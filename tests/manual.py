@@ -32,8 +32,8 @@ BASIN = (ROOT / 'examples' / 'basin.sheet').read_bytes()
 OWN = {
     'worked.md': '0.01 0.75 1 1.4 2 4.2 5 7 16 17 19 25 50 75 100 300 1400 4200 10,000',
     'soft_ground.md': '0.75 2',
-    'basin.md': '0.01 0.2 0.4 0.6 0.8 1 1.4 1.5 2 2.0 2.3 2.4 2.5 3 3.5 4 4.2 6 7 10 11 15 16 17 18 19 100 200 1000 1400 3500',
-    'rounding.md': '1 3 1.4 10 15',
+    'basin.md': '0.01 0.2 0.4 0.6 0.8 1 1.0 1.4 1.5 2 2.0 2.3 2.4 2.5 3 3.5 4 4.2 6 7 10 11 15 16 17 18 19 50 100 200 1000 1400 2005 3500',
+    'rounding.md': '1 3 1.4 1.5 4.2 10 15',
     'soil.md': '0.1 1 2 3 2.1 10 13 15 18 27 30 180 270 800 1000',
 }
 
@@ -309,7 +309,7 @@ def basin_rules():
     table = rows(text, 'The rules')
     rule, on_site = {row[0]: row[1] for row in table}, {row[0]: row[2] for row in table}
     of_sites = {row[0]: row[1] for row in rows(page('rules.md'), '')}
-    said = re.fullmatch(r'S_DS = (\S+) g, (\S+), for V and V\*; S_MS = (\S+) g, (\S+), for V_M', rule['A']).groups()
+    said = re.fullmatch(r'S_DS = (\S+) g \((\S+)\) for V and V\*; S_MS = (\S+) g \((\S+)\) for V_M', rule['A']).groups()
     wanted = [words for S in (basins.S_DS, basins.S_MS) for words in (decimal(Fraction(S, 10**8)), comma(S))]
     yield list(said) == wanted, f'{name}: A: {said}, wanted {wanted}'
     zones = rows(text, 'The zones')

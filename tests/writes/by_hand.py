@@ -369,16 +369,25 @@ def site_names(worked):
             'NV': f'{site.NV // 100}.{site.NV % 100:02}'}
 
 
+def x_fraction(worked):
+    """x of the factor's line from root to capacity as a fraction of whole numbers, where the job is on that line and x goes on past six digits."""
+    T, T0 = worked.T, worked.design.T0
+    top, bottom = T - T0 * 3 / 5, T0 * 2 / 5
+    on_line = T0 * 3 / 5 <= T < T0 and (top / bottom * UNIT).denominator != 1
+    return [f'{decimal(top, 2)}/{decimal(bottom, 2)}'] if on_line else []
+
+
 def basin_names(worked):
     """What the page on the Taipei Basin may name besides: the same sheet in the other zones, one column a zone."""
     others = [job(limits.Basin(zone), worked.frame, worked.weights, worked.heights) for zone in limits.ZONE if zone != worked.ground.zone]
     zones = [(str(zone), comma(T0), f'{T0 // 1000}.{T0 % 1000 // 10:02}', *(comma(basins.A_and_B(S, zone)[1]) for S in (basins.S_DS, basins.S_MS)))
              for zone, T0 in basins.TABLE_4.items()]
-    listings = '\n\n'.join(f'`basin`, zone {other.ground.zone}:\n\n' + code(sheet.listing(other).decode().splitlines()) for other in others)
+    listings = '\n\n'.join(f'With zone {other.ground.zone} in line 1:\n\n' + code(sheet.listing(other).decode().splitlines()) for other in others)
     return {'basin_table': basin_table(worked), 'zone': str(worked.ground.zone), 'A_design': comma(basins.S_DS), 'A_mce': comma(basins.S_MS),
             'zones': table(('zone', 'T0, ms', 'T0, s', 'B of V and V*, 10⁻⁸ g', 'B of V_M, 10⁻⁸ g'), zones),
             'other_spectra': across(others, '', spectrum_rows), 'other_shears': across(others, 'millionths; shears in N', shear_rows),
-            'other_storeys': across(others, '', storey_rows), 'other_listings': listings}
+            'other_storeys': across(others, '', storey_rows), 'other_listings': listings,
+            'other_x': ' and '.join(each for other in others for each in x_fraction(other))}
 
 
 def names(data):
