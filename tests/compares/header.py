@@ -128,8 +128,9 @@ def check_entries():
         given = ', '.join(re.sub(r'\s*\w+$', '', re.sub(r'(char) (\w+)\[\w+\]$', r'\1 *\2', each.strip()))
                           for each in declared.get(name, 'not declared').split(',') if each != 'void')
         yield given == ', '.join(expected), f"{name}: the header takes ({given}), the core ({', '.join(expected)})"
+    arrays = source('linked/arrays')
     for struct, function in (('RukeshomajiSite', 'site_values'), ('RukeshomajiFrame', 'frame_values')):
-        order = re.findall(r'(\w+): l\[\d\]', re.search(rf'fn {function}\b.*?^}}', text, re.S | re.M)[0])
+        order = re.findall(r'(\w+): l\[\d\]', re.search(rf'fn {function}\b.*?^}}', arrays, re.S | re.M)[0])
         names = [{'class': 'class_number', 'alpha': 'alpha_y'}.get(each, each) for each in order]
         yield fields(struct) == names, f'{struct} has {fields(struct)}, the core {names}'
 
