@@ -150,8 +150,8 @@ uint64_t rukeshomaji_figures(const RukeshomajiSite *site, const RukeshomajiFrame
  * Returned   0, or the refusal
  * Refused    1 to 4, 18, 8 to 12
  * Written    as of rukeshomaji_job
- * Reference  document 000 (6) to (8), (10), (11), (15) to (21), Table 4, (23) without its factor. docs/DIFFERENCES.md says where the rules
- *            depart from it
+ * Reference  document 000, 2.1 after (4) for the period, (6) to (8), (10), (11), (15) to (21), Table 4, (23) without its factor.
+ *            docs/DIFFERENCES.md says where the rules depart from it
  */
 uint64_t rukeshomaji_basin_job(uint64_t zone, const RukeshomajiFrame *frame, const uint64_t *weights, uint64_t weight_count,
                                const uint64_t *heights, uint64_t height_count, uint64_t *forces, uint64_t force_cells, uint64_t *shears,
@@ -163,7 +163,7 @@ uint64_t rukeshomaji_basin_job(uint64_t zone, const RukeshomajiFrame *frame, con
  * Returned   0, or the refusal
  * Refused    1 to 4, 18, 8 to 12, with 2 for lists of unequal length alone
  * Written    figures: all fields
- * Reference  document 000 (6) to (8), (10), (11), (15) to (20), Table 4
+ * Reference  document 000, 2.1 after (4) for the period, (6) to (8), (10), (11), (15) to (20), Table 4
  */
 uint64_t rukeshomaji_basin_figures(uint64_t zone, const RukeshomajiFrame *frame, const uint64_t *weights, uint64_t weight_count,
                                    const uint64_t *heights, uint64_t height_count, RukeshomajiFigures *figures);
@@ -188,7 +188,7 @@ uint64_t rukeshomaji_site_class(const uint64_t *thicknesses, uint64_t thickness_
  * Refused    17, 16, 1, 3 to 12 with a line `site`; 17, 16, 1, 3, 4, 18, 8 to 12 with a line `basin`
  * Written    listing: its first bytes, as many as reply's length says, with no NUL after them; the others hold what they held.
  *            reply: all fields. A refusal's line (`refused`, number, place) is a listing too, and has its length
- * Reference  document 01, 'Sheet and listing'; else as of rukeshomaji_job and rukeshomaji_basin_job
+ * Reference  docs/manual/sheet.md; else as of rukeshomaji_job and rukeshomaji_basin_job
  */
 uint64_t rukeshomaji_sheet(const char *sheet, uint64_t byte_count, char listing[RUKESHOMAJI_LONGEST_LISTING], RukeshomajiListing *reply);
 
