@@ -33,6 +33,22 @@ static void *one_figures(void *p)
     return p;
 }
 
+static void *one_basin_job(void *p)
+{
+    static JobReply reply;
+    HERE();
+    kept += rukeshomaji_basin_job(1, &job.frame, job.weights, 50, job.heights, 50, forces, 50, shears, 50, moments, 50, &reply);
+    return p;
+}
+
+static void *one_basin_figures(void *p)
+{
+    static JobReply reply;
+    HERE();
+    kept += rukeshomaji_basin_figures(1, &job.frame, job.weights, 50, job.heights, 50, &reply);
+    return p;
+}
+
 static void *one_log(void *p)
 {
     static ClassReply reply;
@@ -72,7 +88,7 @@ int main(void)
 {
     job = fixed_job(LEVELS);
     soil = fixed_log();
-    printf("stack touched below the call: job %ld, figures %ld, soil log %ld, sheet %ld bytes\n", depth(one_job), depth(one_figures),
-           depth(one_log), depth(one_sheet));
+    printf("stack touched below the call: job %ld, in the Basin %ld, figures %ld, in the Basin %ld, soil log %ld, sheet %ld bytes\n",
+           depth(one_job), depth(one_basin_job), depth(one_figures), depth(one_basin_figures), depth(one_log), depth(one_sheet));
     return 0;
 }
