@@ -47,7 +47,8 @@ pub worked-basin : (inZone 1 ≡ resulted 1_917_372 1_873_979 1_714_286 1_917_37
     (1_714_286 ∷ 1_448_572 ∷ 917_144 ∷ []) (408_000_200 ∷ 236_571_600 ∷ 91_714_400 ∷ []))
     × (inZone 4 ≡ resulted 1_256_165 1_011_908 1_457_143 1_457_143 (225_857 ∷ 451_714 ∷ 779_572 ∷ [])
     (1_457_143 ∷ 1_231_286 ∷ 779_572 ∷ []) (346_800_100 ∷ 201_085_800 ∷ 77_957_200 ∷ []))
-unfolding jobOf judgedJob judgedLevels weighed raised within inRange among listed judgedZone judgedFrame judgedKind judgedPeriod
-    cells sum lowerRoot upperRoot up down largest smallest bitsFrom factor lowerFactor upperFactor approximate inUse bent ratio modified blended exactSpectrum spectrum newtons shear star base figuresAt
-    weightHeight about floor ceiling
+unfolding jobOf judgedJob judgedLevels weighed raised within inRange among listed judgedZone judgedFrame judgedKind
+    judgedPeriod cells sum lowerRoot upperRoot up down largest smallest bitsFrom factor lowerFactor upperFactor approximate
+    inUse bent ratio modified blended exactSpectrum spectrum newtons shear star base figuresAt weightHeight about floor
+    ceiling
 worked-basin = (refl, refl, refl, refl)

@@ -7,8 +7,9 @@
 --   InOrder n     n stands there
 --   Before m n    m is judged before n
 --   NoLater m n   m is judged no later than n
--- That these sentences hold of it: `lowest-first`, `sheet-first`, `zone-between` (proofs/Ascending.antt). That jobs, logs and sheets are judged in it:
--- their `first-number`. That every number that applies stands there, and two at two places: `in-order`, `one-rank` (proofs/InOrder.antt).
+-- That these sentences hold of it: `lowest-first`, `sheet-first`, `zone-between` (proofs/Ascending.antt). That jobs, logs and sheets are
+-- judged in it: their `first-number`. That every number that applies stands there, and two at two places: `in-order`, `one-rank`
+-- (proofs/InOrder.antt).
 use mathlib.Core.List.{List, [], _∷_}
 use Prim.Native.Nat.{ℕ, suc, _≤_, _<_}
 use lib.Dec.{eqb}
