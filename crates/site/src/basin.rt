@@ -15,9 +15,9 @@ ghost use Prim.Native.Nat.{_≤_};
 ghost use Rattle.site.specs.Basin.{basinHazard, basinHazards};
 
 // S_DS = 0.6 g of (10) and S_MS = 0.8 g of (15), in 10⁻⁵ g.
-const DESIGN: u64 = 60_000;
+const S_DS: u64 = 60_000;
 
-const MCE: u64 = 80_000;
+const S_MS: u64 = 80_000;
 
 // From 10⁻⁵ g to the 10⁻⁸ g of A.
 const FINER: u64 = 1_000;
@@ -44,8 +44,8 @@ pub fn basin_hazards(zone: Zone, r: u64) -> Hazards
     ensures { λ k. ⌜ k ≡ basinHazards zone r ⌝ }
 {
     let corner = corner_period(zone);
-    let design = basin_hazard(DESIGN, corner, basin_capacity(r), basin_square(r));
-    let mce = basin_hazard(MCE, corner, mce_capacity(r), mce_square(r));
+    let design = basin_hazard(S_DS, corner, basin_capacity(r), basin_square(r));
+    let mce = basin_hazard(S_MS, corner, mce_capacity(r), mce_square(r));
     Hazards {
         design,
         mce,
