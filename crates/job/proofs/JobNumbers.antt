@@ -1,6 +1,6 @@
 -- A job by its numbers, and what it comes to in the unit in use.
 --   Job                  ground, frame line, weights, heights, and what is given where they are accepted
---   jobOn ..             a job of the lines of a sheet, as its numbers stand there, with its class and kind; inBasin .. of a zone
+--   jobOn ..             a job of the lines of a sheet, as its numbers stand there, with its class and kind
 --   IsAccepted j         they are accepted, with result buffers of as many cells as levels
 --   hazards j, period j  the three hazards; T
 --   printed j, printedUnder j x       V_D, and the shear under level x, from 0
@@ -21,13 +21,12 @@ use Rattle.limits.specs.Outcome.{accepted}
 use Rattle.limits.specs.Site.{siteOf}
 use Rattle.limits.specs.declared.frame.FrameValues.{FrameValues}
 use Rattle.limits.specs.declared.kind.Kind.{Kind}
-use Rattle.limits.specs.declared.ground.Ground.the-variants.{Site as OnSite, Basin as InBasin}
+use Rattle.limits.specs.declared.ground.Ground.the-variants.{Site as OnSite}
 use Rattle.limits.specs.declared.ground.GroundValues.{GroundValues}
-use Rattle.limits.specs.declared.ground.GroundValues.the-variants.{Site as SiteOf, Basin}
+use Rattle.limits.specs.declared.ground.GroundValues.the-variants.{Site as SiteOf}
 use Rattle.limits.specs.declared.judging.Given.{Given}
 use Rattle.limits.specs.declared.class.Class.{Class}
 use Rattle.limits.specs.declared.site.SiteValues.{SiteValues}
-use Rattle.limits.specs.declared.zone.Zone.{Zone}
 use Rattle.site.specs.declared.hazard.Hazards.{Hazards}
 use Rattle.response.specs.Period.{periodOf}
 use Rattle.response.specs.Unit.{unit}
@@ -59,16 +58,6 @@ jobOn s c f k ws hs =
       weights = ws;
       heights = hs;
       given = record { ground = OnSite (siteOf s c); frame = frameOf f k };
-    }
-
-abbrev pub inBasin : ℕ → Zone → FrameValues → Kind → List ℕ → List ℕ → Job
-inBasin n z f k ws hs =
-    record {
-      ground = Basin n;
-      frame = f;
-      weights = ws;
-      heights = hs;
-      given = record { ground = InBasin z; frame = frameOf f k };
     }
 
 abbrev pub IsAccepted : Job → Type 0
