@@ -9,7 +9,7 @@ use Rattle.limits.specs.declared.frame.FrameValues.{FrameValues}
 use Rattle.limits.specs.declared.ground.GroundValues.{GroundValues}
 use Rattle.limits.specs.declared.ground.GroundValues.the-variants.{Site, Basin}
 use Rattle.limits.specs.declared.site.SiteValues.{SiteValues}
-use Rattle.limits.specs.Applies.{count, lists, buffer, weight, height, rising, LevelsApply, of-count, of-lengths, of-weights, of-heights, SiteApplies, ss-design, s1-design, ss-mce, s1-mce, na, nv, class, ZoneApplies, zone, GroundApplies, FrameApplies, r, i, alpha, kind, period, Applies, of-levels, of-ground, of-frame}
+use Rattle.limits.specs.Applies.{count, lists, buffer, weight, height, rising, LevelsApply, of-count, of-lengths, of-weights, of-heights, SiteApplies, ss-design, s1-design, ss-mce, s1-mce, na, nv, na-mce, nv-mce, class, ZoneApplies, zone, GroundApplies, FrameApplies, r, i, alpha, kind, period, Applies, of-levels, of-ground, of-frame}
 
 abbrev pub Named : ℕ → ℕ → Type 0
 Named n p = ((3 ≤ n) × (n ≤ 6) × (1 ≤ p)) ⊎ (((n < 3) ⊎ (6 < n)) × (p ≡ 0))
@@ -29,6 +29,8 @@ named-site (ss-mce o) = inl (omega arith)
 named-site (s1-mce o) = inl (omega arith)
 named-site (na o) = inl (omega arith)
 named-site (nv o) = inl (omega arith)
+named-site (na-mce o) = inl (omega arith)
+named-site (nv-mce o) = inl (omega arith)
 named-site (class o) = inr (inr (omega arith), refl)
 
 named-ground : (s : GroundValues) {n p : ℕ} → GroundApplies s n p → Named n p
@@ -62,6 +64,8 @@ numbered-site (ss-mce o) = omega arith
 numbered-site (s1-mce o) = omega arith
 numbered-site (na o) = omega arith
 numbered-site (nv o) = omega arith
+numbered-site (na-mce o) = omega arith
+numbered-site (nv-mce o) = omega arith
 numbered-site (class o) = omega arith
 
 numbered-frame : {f : FrameValues} {n p : ℕ} → FrameApplies f n p → (8 ≤ n) × (n ≤ 12)

@@ -9,7 +9,7 @@ use lib.Dec.{eqb}
 use borrow.Author.Tests.{ne-eqb}
 use Rattle.whole.proofs.Choice.{by-test}
 use Rattle.limits.specs.declared.site.SiteValues.{SiteValues}
-use Rattle.limits.specs.Applies.{OutOf, NotListed, SiteApplies, ss-design, s1-design, ss-mce, s1-mce, na, nv, class}
+use Rattle.limits.specs.Applies.{OutOf, NotListed, SiteApplies, ss-design, s1-design, ss-mce, s1-mce, na, nv, na-mce, nv-mce, class}
 use Rattle.limits.specs.Order.{Before}
 use Rattle.limits.specs.Ranges.{within, listed}
 use Rattle.limits.specs.Site.{judgedClass, judgedMapped, judgedNearFault, judgedSite}
@@ -19,6 +19,9 @@ use Rattle.limits.proofs.NotAllowed.{range-stops, listed-yields, listed
 -- a mapped value comes after those before it in sheet order
 mapped-before : (vs : List ℕ) (x q p : ℕ) → 1 ≤ p → p ≤ q → Yields 5 q (listed vs x 5 p)
 mapped-before vs x q p h l = listed-yields 5 q vs x 5 p (inr (refl, inr (h, l)))
+
+factor-before : (least most x q p : ℕ) → 1 ≤ p → p ≤ q → Yields 6 q (within least most x 6 p)
+factor-before least most x q p h l = within-yields 6 q least most x 6 p (inr (refl, inr (h, l)))
 
 module _ (s : SiteValues) where
   mapped-up-to : UpTo 5 (judgedMapped s)
@@ -33,7 +36,9 @@ module _ (s : SiteValues) where
   unfolding judgedNearFault
   near-fault-up-to =
       both-up-to 6 (within 100 150 (s .na) 6 1) _ (within-up-to 6 100 150 (s .na) 6 1 (omega arith))
-      (within-up-to 6 100 200 (s .nv) 6 2 (omega arith))
+      (both-up-to 6 (within 100 200 (s .nv) 6 2) _ (within-up-to 6 100 200 (s .nv) 6 2 (omega arith))
+      (both-up-to 6 (within 100 150 (s .nam) 6 3) _ (within-up-to 6 100 150 (s .nam) 6 3 (omega arith))
+      (within-up-to 6 100 200 (s .nvm) 6 4 (omega arith))))
 
   pub site-up-to : UpTo 7 (judgedSite s)
   unfolding judgedSite judgedClass
@@ -101,8 +106,25 @@ module _ (s : SiteValues) where
   unfolding judgedNearFault
   nv-stops o =
       near-fault-stops 2
-      (later-stops 6 2 (within 100 150 (s .na) 6 1) _ (within-yields 6 2 100 150 (s .na) 6 1 (inr (refl, inr (omega arith))))
-      (λ _. range-stops 6 2 100 200 (s .nv) 6 2 o (inr (refl, inr (omega arith)))))
+      (later-stops 6 2 (within 100 150 (s .na) 6 1) _ (factor-before 100 150 (s .na) 2 1 (omega arith) (omega arith))
+      (λ _. first-stops 6 2 (within 100 200 (s .nv) 6 2) _ (range-stops 6 2 100 200 (s .nv) 6 2 o (inr (refl, inr (omega arith))))))
+
+  na-mce-stops : OutOf 100 150 (s .nam) → Stops 6 3 (judgedSite s)
+  unfolding judgedNearFault
+  na-mce-stops o =
+      near-fault-stops 3
+      (later-stops 6 3 (within 100 150 (s .na) 6 1) _ (factor-before 100 150 (s .na) 3 1 (omega arith) (omega arith))
+      (λ _. later-stops 6 3 (within 100 200 (s .nv) 6 2) _ (factor-before 100 200 (s .nv) 3 2 (omega arith) (omega arith))
+      (λ _. first-stops 6 3 (within 100 150 (s .nam) 6 3) _ (range-stops 6 3 100 150 (s .nam) 6 3 o (inr (refl, inr (omega arith)))))))
+
+  nv-mce-stops : OutOf 100 200 (s .nvm) → Stops 6 4 (judgedSite s)
+  unfolding judgedNearFault
+  nv-mce-stops o =
+      near-fault-stops 4
+      (later-stops 6 4 (within 100 150 (s .na) 6 1) _ (factor-before 100 150 (s .na) 4 1 (omega arith) (omega arith))
+      (λ _. later-stops 6 4 (within 100 200 (s .nv) 6 2) _ (factor-before 100 200 (s .nv) 4 2 (omega arith) (omega arith))
+      (λ _. later-stops 6 4 (within 100 150 (s .nam) 6 3) _ (factor-before 100 150 (s .nam) 4 3 (omega arith) (omega arith))
+      (λ _. range-stops 6 4 100 200 (s .nvm) 6 4 o (inr (refl, inr (omega arith)))))))
 
   -- ---- the class
   class-stops : NotListed (1 ∷ 2 ∷ 3 ∷ []) (s .class) → Stops 7 0 (judgedSite s)
@@ -121,6 +143,8 @@ module _ (s : SiteValues) where
   site-stops n q (s1-mce o) = s1-mce-stops o
   site-stops n q (na o) = na-stops o
   site-stops n q (nv o) = nv-stops o
+  site-stops n q (na-mce o) = na-mce-stops o
+  site-stops n q (nv-mce o) = nv-mce-stops o
   site-stops n q (class o) = class-stops o
 
   pub site-later : (n q : ℕ) → SiteApplies s n q → Before 4 n
@@ -130,4 +154,6 @@ module _ (s : SiteValues) where
   site-later n q (s1-mce o) = omega arith
   site-later n q (na o) = omega arith
   site-later n q (nv o) = omega arith
+  site-later n q (na-mce o) = omega arith
+  site-later n q (nv-mce o) = omega arith
   site-later n q (class o) = omega arith

@@ -23,6 +23,8 @@ pub record AllowedSite (s : Site) : Type 0 where
   pub s1m : (40 ≤ s .s1m) × (s .s1m ≤ 55)
   pub na : (100 ≤ s .na) × (s .na ≤ 150)
   pub nv : (100 ≤ s .nv) × (s .nv ≤ 200)
+  pub nam : (100 ≤ s .nam) × (s .nam ≤ 150)
+  pub nvm : (100 ≤ s .nvm) × (s .nvm ≤ 200)
 
 abbrev pub AllowedGround : Ground → Type 0
 AllowedGround (OnSite s) = AllowedSite s

@@ -1,7 +1,7 @@
 -- Numbers 5 to 7: the site.
 --   judgedClass n        7: class not 1 hard, 2 normal, 3 soft
 --   judgedMapped v       5: a mapped value that is not listed, places 1 to 4 in sheet order
---   judgedNearFault v    6: N_A not 1.00 to 1.50, place 1; N_V not 1.00 to 2.00, place 2
+--   judgedNearFault v    6: N_A not 1.00 to 1.50, place 1; N_V not 1.00 to 2.00, place 2; those of the MCE level, places 3 and 4
 --   siteOf v c           the judged site of values v and class c
 --   judgedSite v         5, 6, 7 in turn
 --   classOutcome a, siteOutcome a    what the code's answer a says
@@ -26,7 +26,17 @@ judgedClass n =
 
 abbrev pub siteOf : SiteValues → Class → Site
 siteOf v c =
-    record { ssd = v .ssd; s1d = v .s1d; ssm = v .ssm; s1m = v .s1m; na = v .na; nv = v .nv; class = c }
+    record {
+      ssd = v .ssd;
+      s1d = v .s1d;
+      ssm = v .ssm;
+      s1m = v .s1m;
+      na = v .na;
+      nv = v .nv;
+      nam = v .nam;
+      nvm = v .nvm;
+      class = c;
+    }
 
 unfoldable pub judgedMapped : SiteValues → Outcome Done
 judgedMapped v = do
@@ -39,6 +49,8 @@ unfoldable pub judgedNearFault : SiteValues → Outcome Done
 judgedNearFault v = do
   within 100 150 (v .na) 6 1
   within 100 200 (v .nv) 6 2
+  within 100 150 (v .nam) 6 3
+  within 100 200 (v .nvm) 6 4
 
 unfoldable pub judgedSite : SiteValues → Outcome Site
 judgedSite v = do

@@ -8,9 +8,10 @@ use crate::refusal::Verdict;
 ghost use mathlib.Core.Path.{_≡_};
 ghost use Rattle.limits.specs.Site.{judgedMapped, judgedNearFault, judgedSite, siteOutcome};
 ghost use Rattle.limits.specs.Outcome.{refusalOf, verdictOutcome};
-ghost use Rattle.limits.specs.Ranges.{listed};
+ghost use Rattle.limits.specs.Ranges.{within, listed};
 
-// The site line as it comes: S_S and S_1 of the design level, S_S and S_1 of the MCE level, in 0.01 g; N_A and N_V in 0.01; class.
+// The site line as it comes: S_S and S_1 of the design level, S_S and S_1 of the MCE level, in 0.01 g; N_A and N_V of the
+// design level, N_A and N_V of the MCE level, in 0.01; class.
 pub struct SiteValues {
     pub ssd: u64,
     pub s1d: u64,
@@ -18,6 +19,8 @@ pub struct SiteValues {
     pub s1m: u64,
     pub na: u64,
     pub nv: u64,
+    pub nam: u64,
+    pub nvm: u64,
     pub class: u64,
 }
 
@@ -29,6 +32,8 @@ pub struct Site {
     pub s1m: u64,
     pub na: u64,
     pub nv: u64,
+    pub nam: u64,
+    pub nvm: u64,
     pub class: Class,
 }
 
@@ -66,7 +71,7 @@ impl Site {
 
     pub const NV_MOST: u64 = 200;
 
-    // The places of a mapped value, in sheet order, and of a near-fault factor.
+    // The places of a mapped value and of a near-fault factor, each in sheet order.
     pub const AT_SS_DESIGN: u64 = 1;
 
     pub const AT_S1_DESIGN: u64 = 2;
@@ -78,6 +83,10 @@ impl Site {
     pub const AT_NA: u64 = 1;
 
     pub const AT_NV: u64 = 2;
+
+    pub const AT_NA_MCE: u64 = 3;
+
+    pub const AT_NV_MCE: u64 = 4;
 
     // 5: the mapped values.
     pub fn judged_mapped(v: SiteValues) -> Verdict
@@ -104,26 +113,46 @@ impl Site {
         listed(values, x, Refusal::MAPPED, place)
     }
 
-    // 6: the near-fault factors.
+    // 6: the near-fault factors, of the design level, then of the MCE level.
     pub fn judged_near_fault(v: SiteValues) -> Verdict
         ensures { λ r. ⌜ verdictOutcome r ≡ judgedNearFault v ⌝ }
     {
-        let a = within(
-            Self::NA_LEAST,
-            Self::NA_MOST,
-            v.na,
-            Refusal::NEAR_FAULT,
-            Self::AT_NA,
-        );
+        let a = Self::judged_na(v.na, Self::AT_NA);
         let Verdict::Passed = a else {
             return a;
         };
+        let b = Self::judged_nv(v.nv, Self::AT_NV);
+        let Verdict::Passed = b else {
+            return b;
+        };
+        let c = Self::judged_na(v.nam, Self::AT_NA_MCE);
+        let Verdict::Passed = c else {
+            return c;
+        };
+        Self::judged_nv(v.nvm, Self::AT_NV_MCE)
+    }
+
+    fn judged_na(x: u64, place: u64) -> Verdict
+        ensures { λ r. ⌜ verdictOutcome r ≡ within 100 150 x 6 place ⌝ }
+    {
+        within(
+            Self::NA_LEAST,
+            Self::NA_MOST,
+            x,
+            Refusal::NEAR_FAULT,
+            place,
+        )
+    }
+
+    fn judged_nv(x: u64, place: u64) -> Verdict
+        ensures { λ r. ⌜ verdictOutcome r ≡ within 100 200 x 6 place ⌝ }
+    {
         within(
             Self::NV_LEAST,
             Self::NV_MOST,
-            v.nv,
+            x,
             Refusal::NEAR_FAULT,
-            Self::AT_NV,
+            place,
         )
     }
 
@@ -150,6 +179,8 @@ impl Site {
             s1m: v.s1m,
             na: v.na,
             nv: v.nv,
+            nam: v.nam,
+            nvm: v.nvm,
             class,
         })
     }
