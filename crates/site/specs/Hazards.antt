@@ -5,8 +5,8 @@
 --   designHazard c ss s1 na nv R    with the design capacity of R
 --   mceHazard c ss s1 na nv R       with R itself
 --   lines               (8), (18): 0.3, 0.8; 0.52, 0.144; 0.7
---   hazardsOf site R    V's, V_M's, and V*'s with both near-fault factors taken as 100; the divisors 1.4 of (7), (17) and 4.2 of
---                       (19), in tenths
+--   hazardsOf site R    V's with the near-fault factors of the design level, V_M's with those of the MCE level, and V*'s with both taken
+--                       as 100; the divisors 1.4 of (7), (17) and 4.2 of (19), in tenths
 use Prim.Native.Nat.{ℕ, _≤_}
 use Rattle.whole.specs.declared.Fraction.{Fraction}
 use Rattle.limits.specs.declared.class.Class.{Class}
@@ -49,7 +49,7 @@ abbrev pub hazardsOf : Site → ℕ → Hazards
 hazardsOf site R =
     record {
       design = designHazard (site .class) (site .ssd) (site .s1d) (site .na) (site .nv) R;
-      mce = mceHazard (site .class) (site .ssm) (site .s1m) (site .na) (site .nv) R;
+      mce = mceHazard (site .class) (site .ssm) (site .s1m) (site .nam) (site .nvm) R;
       star = designHazard (site .class) (site .ssd) (site .s1d) 100 100 R;
       lines = lines;
       divisor = 14;

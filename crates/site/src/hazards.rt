@@ -48,14 +48,14 @@ pub fn accelerations(class: Class, ss: u64, s1: u64, na: u64, nv: u64) -> SiteAc
     SiteAccelerations { a, b }
 }
 
-// V's, V_M's, and V*'s with both near-fault factors taken as 100.
+// V's by the pair of the design level, V_M's by that of the MCE level, and V*'s with both near-fault factors taken as 100.
 pub fn hazards_of(site: Site, r: u64) -> Hazards
     requires { ⌜ AllowedSite site × (100 ≤ r) × (r ≤ 600) ⌝ }
     ensures { λ k. ⌜ k ≡ hazardsOf site r ⌝ }
 {
     let class = site.class;
     let design = accelerations(class, site.ssd, site.s1d, site.na, site.nv);
-    let mce = accelerations(class, site.ssm, site.s1m, site.na, site.nv);
+    let mce = accelerations(class, site.ssm, site.s1m, site.nam, site.nvm);
     let plain = accelerations(class, site.ssd, site.s1d, NO_FACTOR, NO_FACTOR);
     let allowable = design_capacity(r);
     let square = design_square(r);
