@@ -1,5 +1,6 @@
 -- A job by its numbers, and what it comes to in the unit in use.
 --   Job                  ground, frame line, weights, heights, and what is given where they are accepted
+--   siteLine ..          a site line of seven numbers: one pair for both levels
 --   jobOn ..             a job of the lines of a sheet, as its numbers stand there, with its class and kind
 --   IsAccepted j         they are accepted, with result buffers of as many cells as levels
 --   hazards j, period j  the three hazards; T
@@ -45,7 +46,8 @@ pub record Job : Type 0 where
   pub given : Given
 
 abbrev pub siteLine : ℕ → ℕ → ℕ → ℕ → ℕ → ℕ → ℕ → SiteValues
-siteLine ssd s1d ssm s1m na nv class = record { ssd = ssd; s1d = s1d; ssm = ssm; s1m = s1m; na = na; nv = nv; class = class }
+siteLine ssd s1d ssm s1m na nv class =
+    record { ssd = ssd; s1d = s1d; ssm = ssm; s1m = s1m; na = na; nv = nv; nam = na; nvm = nv; class = class }
 
 abbrev pub frameLine : ℕ → ℕ → ℕ → ℕ → ℕ → FrameValues
 frameLine kind calculated r i alpha = record { kind = kind; calculated = calculated; r = r; i = i; alpha = alpha }

@@ -14,8 +14,10 @@ pub mod Calls
 pub mod Storeys
 pub mod Demand3
 pub mod Results
+pub mod NearFault
 pub mod Worked
 pub mod WorkedBasin
+pub mod WorkedNearFault
 pub mod JobNumbers
 pub mod SharpMargin
 pub mod WrongCores

@@ -36,7 +36,7 @@ module _ (site : Site) (R : ℕ) (a : AllowedSite site) (lo : 100 ≤ R) (hi : R
   mce : Sized (hazardsOf site R .mce)
   mce =
       mce-sized R lo hi (site .class) _ _ _ _
-      (record { s-s = omega (arith, a .ssm); s-1 = omega (arith, a .s1m); n-a = a .na; n-v = a .nv })
+      (record { s-s = omega (arith, a .ssm); s-1 = omega (arith, a .s1m); n-a = a .nam; n-v = a .nvm })
 
   star : Sized (hazardsOf site R .star)
   star =
