@@ -15,7 +15,6 @@ use Rattle.limits.specs.declared.kind.Kind.{Kind}
 use Rattle.limits.specs.declared.ground.Ground.{Ground}
 use Rattle.limits.specs.declared.ground.Ground.the-variants.{Site as OnSite, Basin as InBasin}
 use Rattle.limits.specs.declared.ground.GroundValues.{GroundValues}
-use Rattle.limits.specs.declared.ground.GroundValues.the-variants.{Site as SiteOf, Basin}
 use Rattle.limits.specs.declared.judging.Given.{Given}
 use Rattle.limits.specs.declared.class.Class.{Class}
 use Rattle.limits.specs.declared.site.Site.{Site}
@@ -35,8 +34,8 @@ use Rattle.limits.proofs.Passed.{never, one-value, then-passed, bind-passed}
 use Rattle.text.specs.Bytes.{bytes}
 use Rattle.text.specs.Writing.{AllShort}
 use Rattle.text.proofs.Trip.{line-short}
-use Rattle.sheet.specs.Laid.{siteNumbers, frameNumbers, groundLine, levelLinesOf, sheetLaid, Laid}
-use Rattle.sheet.specs.Layouts.{lineLaid, linesLaid}
+use Rattle.sheet.specs.Laid.{siteNumbers, onePairNumbers, frameNumbers, GroundLine, two-pairs, one-pair, zone, levelLinesOf, sheetLaid, Laid}
+use Rattle.sheet.specs.Layouts.{Line, lineLaid, linesLaid}
 use Rattle.sheet.specs.Sheet.{Sheet}
 
 -- a number that is chosen from a list of numbers up to m
@@ -78,22 +77,40 @@ site-short v s e =
       omega (arith, a .ssd),
       (
         omega (arith, a .s1d),
-        (omega (arith, a .ssm), (omega (arith, a .s1m), (omega (arith, a .na), (omega (arith, a .nv), (omega arith, tt))))),
+        (
+          omega (arith, a .ssm),
+          (
+            omega (arith, a .s1m),
+            (
+              omega (arith, a .na),
+              (omega (arith, a .nv), (omega (arith, a .nam), (omega (arith, a .nvm), (omega arith, tt)))),
+            ),
+          ),
+        ),
       ),
     )
 
-ground-short : (v : GroundValues) (g : Ground) → judgedGround v ≡ accepted g → AllShort (groundLine v .numbers)
-ground-short (SiteOf v) g e =
+one-pair-short : (v : SiteValues) → AllShort (siteNumbers v) → AllShort (onePairNumbers v)
+one-pair-short v s =
+    let near = s .1 .1 .1 .1 in
+    (s .0, (s .1 .0, (s .1 .1 .0, (s .1 .1 .1 .0, (near .0, (near .1 .0, (near .1 .1 .1 .1 .0, tt)))))))
+
+ground-short : (v : GroundValues) (l : Line) (g : Ground) → GroundLine v l → judgedGround v ≡ accepted g → AllShort (l .numbers)
+ground-short g′ l g (two-pairs v) e =
     let site = bind-passed (judgedSite v) (λ s. accepted (OnSite s)) e in
     site-short v (site .0) (site .1)
-ground-short (Basin n) g e =
+ground-short g′ l g (one-pair v a b) e =
+    let site = bind-passed (judgedSite v) (λ s. accepted (OnSite s)) e in
+    one-pair-short v (site-short v (site .0) (site .1))
+ground-short g′ l g (zone n) e =
     let zone = bind-passed (judgedZone n) (λ z. accepted (InBasin z)) e in
     let small = zone-small n (zone .0) (zone .1) in
     (omega arith, tt)
 
-ground-length : (v : GroundValues) → AllShort (groundLine v .numbers) → length (lineLaid (groundLine v)) ≤ 75
-ground-length (SiteOf v) s = omega (arith, line-short (bytes "site") (siteNumbers v) s)
-ground-length (Basin n) s = omega (arith, line-short (bytes "basin") (n ∷ []) s)
+ground-length : (v : GroundValues) (l : Line) → GroundLine v l → AllShort (l .numbers) → length (lineLaid l) ≤ 95
+ground-length g l (two-pairs v) s = omega (arith, line-short (bytes "site") (siteNumbers v) s)
+ground-length g l (one-pair v a b) s = omega (arith, line-short (bytes "site") (onePairNumbers v) s)
+ground-length g l (zone n) s = omega (arith, line-short (bytes "basin") (n ∷ []) s)
 
 frame-short : (v : FrameValues) (f : Frame) → judgedFrame v ≡ accepted f → AllShort (frameNumbers v)
 unfolding judgedFrame
@@ -118,19 +135,20 @@ levels-length (w ∷ ws) (h ∷ hs) s t =
     simp length-append
     (omega (arith, levels-length ws hs (s .1) (t .1), line-short (bytes "level") (w ∷ h ∷ []) (s .0, (t .0, tt))))
 
-pub allowed-laid : (r : Sheet) (room : ℕ) (g : Given)
-    → judgedJob (r .ground) (r .frame) (r .levels .weights) (r .levels .heights) room ≡ accepted g → Laid r
+pub allowed-laid : (l : Line) (r : Sheet) (room : ℕ) (g : Given) → GroundLine (r .ground) l
+    → judgedJob (r .ground) (r .frame) (r .levels .weights) (r .levels .heights) room ≡ accepted g → Laid l r
 unfolding judgedJob sheetLaid
-allowed-laid r room g e =
+allowed-laid first r room g holds e =
     let levels = then-passed (judgedLevels (r .levels .weights) (r .levels .heights) room) _ e in
     let ground = bind-passed (judgedGround (r .ground)) _ (levels .1) in
     let frame = bind-passed (judgedFrame (r .frame)) (λ y. accepted (record { ground = ground .0; frame = y })) (ground .2) in
     let l = levels-allowed (r .levels .weights) (r .levels .heights) room (levels .0) .0 in
     let ws = all-short (r .levels .weights) (λ x h. omega (arith, l .weights x h)) in
     let hs = all-short (r .levels .heights) (λ x h. omega (arith, l .heights x h)) in
-    let gs = ground-short (r .ground) (ground .0) (ground .1) in
+    let gs = ground-short (r .ground) first (ground .0) holds (ground .1) in
     let fs = frame-short (r .frame) (frame .0) (frame .1) in
     record {
+      first = holds;
       ground = gs;
       frame = fs;
       weights = ws;
@@ -142,7 +160,7 @@ allowed-laid r room g e =
             arith,
             l .few,
             levels-length (r .levels .weights) (r .levels .heights) ws hs,
-            ground-length (r .ground) gs,
+            ground-length (r .ground) first holds gs,
             line-short (bytes "frame") (frameNumbers (r .frame)) fs,
           ));
     }

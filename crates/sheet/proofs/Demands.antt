@@ -13,7 +13,8 @@ use Rattle.job.proofs.Results.{Promised, promised}
 use Rattle.job.proofs.Stages.{job-refused, job-accepted}
 use Rattle.sheet.proofs.Listable.{read-listed, unread-listed}
 use Rattle.sheet.proofs.ReadLaid.{read-laid}
-use Rattle.sheet.specs.Laid.{sheetLaid}
+use Rattle.sheet.specs.Laid.{GroundLine, sheetLaid}
+use Rattle.sheet.specs.Layouts.{Line}
 use Rattle.sheet.specs.Listing.{refusal, listing, sheetListing}
 use Rattle.sheet.specs.Reading.{readSheet}
 use Rattle.sheet.specs.Sheet.{Sheet}
@@ -23,7 +24,9 @@ judgedSheet r = judgedJob (r .ground) (r .frame) (r .levels .weights) (r .levels
 
 pub record SheetKept (s : List ℕ) : Type 0 where
   pub sheet : Sheet
-  pub laid : s ≡ sheetLaid sheet
+  pub first : Line
+  pub holds : GroundLine (sheet .ground) first
+  pub laid : s ≡ sheetLaid first sheet
   pub given : Given
   pub judged : judgedSheet sheet ≡ accepted given
   pub printed : sheetListing s ≡ listing (accepted (resultsOf given (sheet .levels .weights) (sheet .levels .heights)))
@@ -41,7 +44,9 @@ sheet-kept s none = read (readSheet s) refl
     job r e (accepted g) j =
         record {
           sheet = r;
-          laid = read-laid s r e .0;
+          first = read-laid s r e .0;
+          holds = read-laid s r e .1 .1 .first;
+          laid = read-laid s r e .1 .0;
           given = g;
           judged = j;
           printed =

@@ -31,7 +31,7 @@ abbrev basin : List ℕ
 basin = bytes "basin\t1\n" ++ building
 
 pub office-read : readSheet office ≡ accepted (record {
-  ground = Site (record { ssd = 80; s1d = 45; ssm = 100; s1m = 55; na = 100; nv = 100; class = 1 });
+  ground = Site (record { ssd = 80; s1d = 45; ssm = 100; s1m = 55; na = 100; nv = 100; nam = 100; nvm = 100; class = 1 });
   frame = record { kind = 2; calculated = 1_000; r = 480; i = 100; alpha = 150 };
   levels = record { weights = 5_000 ∷ 5_000 ∷ 5_000 ∷ []; heights = 100 ∷ 200 ∷ 300 ∷ [] };
 })

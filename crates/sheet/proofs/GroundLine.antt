@@ -1,83 +1,91 @@
--- Line 1 of a sheet, as the code takes it: as a site line, and where it is none as a basin line.
---   FirstLine s g second    line 1 of the bytes s holds the ground g, and line 2 begins at `second`
+-- Line 1 of a sheet, as the code takes it: by the first of the layouts that it fits. What a layout more costs is one of the two laws.
 -- Assumes nothing.
-use mathlib.Core.Path.{_≡_, refl, sym, ap, ap₂, _∙_}
+use mathlib.Core.Path.{_≡_, refl, sym, ap, _∙_}
 use mathlib.Core.List.{List, [], _∷_}
 use Prim.Native.Nat.{ℕ}
-use native.Mathlib.Omega.{arith}
-use lib.ListN.{getD, drop}
+use lib.ListN.{length, getD}
 use Rattle.whole.specs.Cells.{laid}
 use Rattle.limits.specs.declared.ground.GroundValues.{GroundValues}
 use Rattle.limits.specs.declared.ground.GroundValues.the-variants.{Site, Basin}
 use Rattle.limits.specs.declared.site.SiteValues.{SiteValues}
-use Rattle.limits.specs.Outcome.{accepted}
 use Rattle.text.specs.declared.reading.Cursor.{Cursor}
 use Rattle.text.specs.Line.{line, blank}
-use Rattle.text.specs.Reading.{Reading, found, otherwise, starts}
-use Rattle.text.proofs.Readings.{Went, LineWent}
+use Rattle.text.specs.Reading.{otherwise, starts}
+use Rattle.text.proofs.Back.{line-back}
+use Rattle.text.proofs.Readings.{LineWent}
 use Rattle.text.proofs.Stored.{in-cells}
+use Rattle.sheet.specs.declared.reader.GroundLineAnswer.{GroundLineAnswer}
 use Rattle.sheet.specs.declared.reader.GroundLineAnswer.the-variants.{Found, Otherwise}
-use Rattle.sheet.specs.Layouts.{Line, firstOf}
-use Rattle.sheet.specs.Lines.{lineIn}
-use Rattle.sheet.specs.Reading.{start, groundLineAnswer}
-use Rattle.sheet.specs.Sheet.{siteLayout, basinLayout, sheetForm, siteValues, groundOf}
-use Rattle.sheet.proofs.Fitting.{line-fits, line-not}
+use Rattle.sheet.specs.Layouts.{Layout}
+use Rattle.sheet.specs.Reading.{GroundAnswers}
+use Rattle.sheet.specs.Sheet.{onePairLayout, twoPairsLayout, basinLayout, siteValues, pairTwice, groundOf}
+use Rattle.sheet.proofs.Fitting.{front, line-fits, line-not, no-more}
 
--- ---- what the code answers
-site-held : (ns : List ℕ) → siteValues (laid ns blank) ≡ siteValues ns
-site-held ns =
-    rw (in-cells ns 0, in-cells ns 1, in-cells ns 2, in-cells ns 3, in-cells ns 4, in-cells ns 5, in-cells ns 6)
+-- the front of a sheet
+abbrev pub start : Cursor
+start = record { at = 0 }
 
-module _ {second : Cursor} {o : Reading (List ℕ)} {held : List ℕ} (went : LineWent start second o held) where
-  pub site-found : {v : SiteValues} (q : Reading (List ℕ)) → v ≡ siteValues held → Found (Site v) second ≡ groundLineAnswer o q
-  unfolding groundLineAnswer
-  site-found q e =
-      rw (went .went .is)
-      (ap₂ (λ (v : SiteValues) (c : Cursor). Found (Site v) c) (e ∙ ap siteValues (went .held-is) ∙ site-held (went .numbers))
-      (sym (went .went .to)))
+module _ (k : Layout) (ks : List Layout) (s : List ℕ) where
+  -- the first layout fits
+  first-fits : {second : Cursor} {held : List ℕ} {g : GroundValues} (went : LineWent start second (line (k .word) (k .numbers) s) held)
+      → groundOf (front k (went .numbers) s .line) ≡ g → GroundAnswers (k ∷ ks) s (Found g second)
+  first-fits {second} went holds =
+      record {
+        line = front k (went .numbers) s .line;
+        at = line-fits 1 k ks s {c = start} {c′ = second} {ns = went .numbers} (went .went);
+        holds = holds;
+      }
 
-  pub basin-found : Found (Basin (getD held 0 0)) second ≡ groundLineAnswer otherwise o
-  unfolding groundLineAnswer
-  basin-found =
-      rw (went .went .is)
-      (ap₂ (λ (z : ℕ) (c : Cursor). Found (Basin z) c)
-      (ap (λ (ns : List ℕ). getD ns 0 0) (went .held-is) ∙ in-cells (went .numbers) 0) (sym (went .went .to)))
+  -- it does not, and the others are left
+  pub others-left : (a : GroundLineAnswer) → line (k .word) (k .numbers) s ≡ otherwise → GroundAnswers ks s a → GroundAnswers (k ∷ ks) s a
+  others-left (Found g second) o t = record { line = t .line; at = line-not 1 k ks s o ∙ t .at; holds = t .holds }
+  others-left Otherwise o t = line-not 1 k ks s o ∙ t
 
-pub none-found : (o : Reading (List ℕ)) → o ≡ otherwise → Otherwise ≡ groundLineAnswer otherwise o
-unfolding groundLineAnswer
-none-found o e = rw e refl
+pub none-left : (s : List ℕ) → GroundAnswers [] s Otherwise
+none-left s = no-more 1 s
 
--- ---- what its answer says
-pub ground-missed : (o q : Reading (List ℕ)) → groundLineAnswer o q ≡ Otherwise → (o ≡ otherwise) × (q ≡ otherwise)
-unfolding groundLineAnswer
-ground-missed (found ns n) q e = absurd (let z : _≡_ {A = ℕ} 0 1 = cc in let b : ⊥ = omega arith in b)
-ground-missed otherwise (found ns n) e = absurd (let z : _≡_ {A = ℕ} 0 1 = cc in let b : ⊥ = omega arith in b)
-ground-missed otherwise otherwise e = (refl, refl)
+-- ---- what a line of each layout holds, by the cells that the code reads it into
+module _ (s : List ℕ) {second : Cursor} {held : List ℕ} where
+  count-is : (k : Layout) (went : LineWent start second (line (k .word) (k .numbers) s) held) → length (went .numbers) ≡ k .numbers
+  count-is k went = line-back (k .word) (k .numbers) s (went .numbers) (went .went .used) (went .went .is) .2 .count
 
-pub record FirstLine (s : List ℕ) (g : GroundValues) (second : Cursor) : Type 0 where
-  pub line : Line
-  pub at : lineIn 1 (firstOf sheetForm) s ≡ accepted (record { line = line; rest = drop (second .at) s })
-  pub holds : groundOf line ≡ g
-
-module _ (s : List ℕ) (g : GroundValues) (second : Cursor) where
-  pub ground-found : groundLineAnswer (line (siteLayout .word) 7 s) (line (basinLayout .word) 1 s) ≡ Found g second → FirstLine s g second
-  unfolding groundLineAnswer starts
-  ground-found e = go (line (siteLayout .word) 7 s) (line (basinLayout .word) 1 s) refl refl e
+  pub one-pair-found : (ks : List Layout) (went : LineWent start second (line (onePairLayout .word) 7 s) held) {v : SiteValues}
+      → v ≡ siteValues (pairTwice held) → GroundAnswers (onePairLayout ∷ ks) s (Found (Site v) second)
+  unfolding starts
+  one-pair-found ks went {v} e =
+      let ns = went .numbers in
+      first-fits onePairLayout ks s went
+      (rw (count-is onePairLayout went) (ap Site (sym (e ∙ ap (λ (l : List ℕ). siteValues (pairTwice l)) (went .held-is) ∙ one-held ns))))
     where
-      go : (o q : Reading (List ℕ)) → line (siteLayout .word) 7 s ≡ o → line (basinLayout .word) 1 s ≡ q
-          → groundLineAnswer o q ≡ Found g second → FirstLine s g second
-      go (found ns n) q eo eq t =
-          record {
-            line = record { word = siteLayout .word; numbers = ns };
-            at = line-fits 1 siteLayout (basinLayout ∷ []) s {c = start} {c′ = second} {ns = ns} (record { used = n; is = eo; to = cc });
-            holds = cc;
-          }
-      go otherwise (found ns n) eo eq t =
-          record {
-            line = record { word = basinLayout .word; numbers = ns };
-            at =
-                line-not 1 siteLayout (basinLayout ∷ []) s eo
-                ∙ line-fits 1 basinLayout [] s {c = start} {c′ = second} {ns = ns} (record { used = n; is = eq; to = cc });
-            holds = cc;
-          }
-      go otherwise otherwise eo eq t = absurd (let z : _≡_ {A = ℕ} 0 1 = cc in let b : ⊥ = omega arith in b)
+      one-held : (ns : List ℕ) → siteValues (pairTwice (laid ns blank)) ≡ siteValues (pairTwice ns)
+      one-held ns =
+          rw (in-cells ns 0, in-cells ns 1, in-cells ns 2, in-cells ns 3, in-cells ns 4, in-cells ns 5, in-cells ns 6)
+
+  pub two-pairs-found : (ks : List Layout) (went : LineWent start second (line (twoPairsLayout .word) 9 s) held) {v : SiteValues}
+      → v ≡ siteValues held → GroundAnswers (twoPairsLayout ∷ ks) s (Found (Site v) second)
+  unfolding starts
+  two-pairs-found ks went {v} e =
+      let ns = went .numbers in
+      first-fits twoPairsLayout ks s went
+      (rw (count-is twoPairsLayout went) (ap Site (sym (e ∙ ap siteValues (went .held-is) ∙ two-held ns))))
+    where
+      two-held : (ns : List ℕ) → siteValues (laid ns blank) ≡ siteValues ns
+      two-held ns =
+          rw (
+            in-cells ns 0,
+            in-cells ns 1,
+            in-cells ns 2,
+            in-cells ns 3,
+            in-cells ns 4,
+            in-cells ns 5,
+            in-cells ns 6,
+            in-cells ns 7,
+            in-cells ns 8,
+          )
+
+  pub basin-found : (ks : List Layout) (went : LineWent start second (line (basinLayout .word) 1 s) held)
+      → GroundAnswers (basinLayout ∷ ks) s (Found (Basin (getD held 0 0)) second)
+  unfolding starts
+  basin-found ks went =
+      first-fits basinLayout ks s went
+      (ap Basin (sym (ap (λ (l : List ℕ). getD l 0 0) (went .held-is) ∙ in-cells (went .numbers) 0)))

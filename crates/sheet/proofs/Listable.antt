@@ -14,7 +14,8 @@ use Rattle.job.proofs.Stages.{job-accepted}
 use Rattle.sheet.proofs.Allowed.{allowed-laid}
 use Rattle.sheet.proofs.LaidRead.{laid-read}
 use Rattle.sheet.specs.Applies.{JobApplies}
-use Rattle.sheet.specs.Laid.{sheetLaid, Laid}
+use Rattle.sheet.specs.Laid.{GroundLine, sheetLaid, Laid}
+use Rattle.sheet.specs.Layouts.{Line}
 use Rattle.sheet.specs.Listing.{refusal, listing, jobOfSheet, sheetListing}
 use Rattle.sheet.specs.Reading.{readSheet}
 use Rattle.sheet.specs.Sheet.{Sheet}
@@ -27,17 +28,17 @@ pub unread-listed : (s : List ℕ) (n p : ℕ) → readSheet s ≡ refused n p �
 unfolding sheetListing listing
 unread-listed s n p e = ap (λ (o : Outcome Sheet). listing (o >>= jobOfSheet)) e
 
-module _ (r : Sheet) where
-  laid-job : Laid r → sheetListing (sheetLaid r) ≡ listing (jobOfSheet r)
-  laid-job l = read-listed (sheetLaid r) r (laid-read r l)
+module _ (l : Line) (r : Sheet) (holds : GroundLine (r .ground) l) where
+  laid-job : Laid l r → sheetListing (sheetLaid l r) ≡ listing (jobOfSheet r)
+  laid-job t = read-listed (sheetLaid l r) r (laid-read l r t)
 
   pub laid-listed : ((n p : ℕ) → JobApplies r n p → ⊥)
       → (g : Given) × (judgedJob (r .ground) (r .frame) (r .levels .weights) (r .levels .heights) (length (r .levels .weights)) ≡ accepted g)
-      × (sheetListing (sheetLaid r) ≡ listing (accepted (resultsOf g (r .levels .weights) (r .levels .heights))))
+      × (sheetListing (sheetLaid l r) ≡ listing (accepted (resultsOf g (r .levels .weights) (r .levels .heights))))
   laid-listed none =
       let j = accepted-unless-refused (r .ground) (r .frame) (r .levels .weights) (r .levels .heights) (length (r .levels .weights)) none in (
         j .0,
         j .1,
-        laid-job (allowed-laid r (length (r .levels .weights)) (j .0) (j .1))
+        laid-job (allowed-laid l r (length (r .levels .weights)) (j .0) holds (j .1))
             ∙ ap listing (job-accepted (r .ground) (r .frame) (r .levels .weights) (r .levels .heights) (length (r .levels .weights)) (j .1)),
       )

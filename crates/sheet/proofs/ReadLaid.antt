@@ -18,12 +18,12 @@ use Rattle.limits.proofs.Passed.{differ, one-value, bind-passed, then-passed, r
 use Rattle.text.specs.Reading.{starts}
 use Rattle.text.specs.Writing.{AllShort}
 use Rattle.sheet.proofs.Lines.{read-lines-laid}
-use Rattle.sheet.specs.Laid.{groundLine, levelLinesOf, linesOf, sheetLaid, Laid}
-use Rattle.sheet.specs.Layouts.{Layout, Line, layoutOf, linesLaid, LaidLine, LaidLines}
+use Rattle.sheet.specs.Laid.{GroundLine, two-pairs, one-pair, zone, levelLinesOf, linesOf, sheetLaid, Laid}
+use Rattle.sheet.specs.Layouts.{Layout, Line, layoutOf, firstOf, linesLaid, LaidLine, LaidLines}
 use Rattle.sheet.specs.Lines.{readFrom}
 use Rattle.sheet.specs.Reading.{sheetLines, readSheet}
-use Rattle.sheet.specs.Sheet.{siteLayout, basinLayout, frameLayout, levelLayout, sheetForm, levelForm, siteValues, groundOf}
-use Rattle.sheet.specs.Sheet.{levelsOf, Sheet, sheetOf}
+use Rattle.sheet.specs.Sheet.{onePairLayout, twoPairsLayout, basinLayout, frameLayout, levelLayout, sheetForm, levelForm, siteValues, pairTwice, groundOf}
+use Rattle.sheet.specs.Sheet.{levelsOf, lineAt, Sheet, sheetOf}
 
 -- ---- the lines of a sheet that is read
 pub record SheetLines (s : List ℕ) (r : Sheet) : Type 0 where
@@ -72,28 +72,35 @@ module _ (k : Layout) (l : Line) (e : layoutOf l ≡ k) where
 only-layout : {k : Layout} {l : Line} → LaidLine (k ∷ []) l → layoutOf l ≡ k
 only-layout t = List·Memᴰ·eq-of-singleton (t .layout)
 
--- ---- line 1, by the word that it has
-pub record GroundBack (l : Line) : Type 0 where
-  pub line : groundLine (groundOf l) ≡ l
-  pub short : AllShort (groundLine (groundOf l) .numbers)
+-- ---- line 1, by the layout that it has
+module _ (l : Line) where
+  known : (g : GroundValues) {l′ : Line} → groundOf l ≡ g → GroundLine g l′ → l′ ≡ l → GroundLine (groundOf l) l
+  known g same holds back = subst (λ (x : GroundValues). GroundLine x l) (sym same) (subst (GroundLine g) back holds)
 
-module _ (l : Line) (short : AllShort (l .numbers)) where
-  known : (g : GroundValues) → groundOf l ≡ g → groundLine g ≡ l → GroundBack l
-  known g same back =
-      let line : groundLine (groundOf l) ≡ l = ap groundLine same ∙ back in
-      record { line = line; short = subst (λ (x : Line). AllShort (x .numbers)) (sym line) short }
-
-  on-site : layoutOf l ≡ siteLayout → GroundBack l
+  with-one-pair : layoutOf l ≡ onePairLayout → GroundLine (groundOf l) l
   unfolding cells starts
-  on-site e = known (Site (siteValues (l .numbers))) (rw (ap (λ (k : Layout). k .word) e)) (line-back siteLayout l e)
+  with-one-pair e =
+      let v = siteValues (pairTwice (l .numbers)) in
+      known (Site v) (rw (ap (λ (k : Layout). k .word) e, ap (λ (k : Layout). k .numbers) e)) (one-pair v refl refl)
+      (line-back onePairLayout l e)
 
-  in-basin : layoutOf l ≡ basinLayout → GroundBack l
+  with-two-pairs : layoutOf l ≡ twoPairsLayout → GroundLine (groundOf l) l
   unfolding cells starts
-  in-basin e = known (Basin (getD (l .numbers) 0 0)) (rw (ap (λ (k : Layout). k .word) e)) (line-back basinLayout l e)
+  with-two-pairs e =
+      let v = siteValues (l .numbers) in
+      known (Site v) (rw (ap (λ (k : Layout). k .word) e, ap (λ (k : Layout). k .numbers) e)) (two-pairs v) (line-back twoPairsLayout l e)
 
-ground-back : (l : Line) → LaidLine (siteLayout ∷ basinLayout ∷ []) l → GroundBack l
-ground-back l t =
-    ⊎-elim (on-site l (t .short)) (λ m. in-basin l (t .short) (List·Memᴰ·eq-of-singleton m)) (List·Memᴰ·cases-cons (t .layout))
+  in-basin : layoutOf l ≡ basinLayout → GroundLine (groundOf l) l
+  unfolding cells starts
+  in-basin e =
+      let z = getD (l .numbers) 0 0 in
+      known (Basin z) (rw (ap (λ (k : Layout). k .word) e)) (zone z) (line-back basinLayout l e)
+
+  ground-back : LaidLine (firstOf sheetForm) l → GroundLine (groundOf l) l
+  ground-back t =
+      ⊎-elim with-one-pair
+      (λ m. ⊎-elim with-two-pairs (λ m′. in-basin (List·Memᴰ·eq-of-singleton m′)) (List·Memᴰ·cases-cons m))
+      (List·Memᴰ·cases-cons (t .layout))
 
 -- ---- the level lines
 pub record LevelsBack (ls : List Line) : Type 0 where
@@ -116,19 +123,18 @@ levels-back (l ∷ ls) t =
 
 -- ---- all lines
 sheet-back : (ls : List Line) → LaidLines sheetForm ls → length (linesLaid ls) ≤ 4_096
-    → (linesLaid ls ≡ sheetLaid (sheetOf ls)) × Laid (sheetOf ls)
+    → (linesLaid ls ≡ sheetLaid (lineAt ls 0) (sheetOf ls)) × Laid (lineAt ls 0) (sheetOf ls)
 unfolding sheetLaid cells
 sheet-back [] t fits = absurd (differ (sym t))
 sheet-back (a ∷ []) t fits = absurd (differ (sym (t .1)))
 sheet-back (a ∷ b ∷ ls) t fits =
     let later = levels-back ls (t .1 .1) in
-    let ground = ground-back a (t .0) in
     let e = only-layout (t .1 .0) in
-    let same : linesOf (sheetOf (a ∷ b ∷ ls)) ≡ a ∷ b ∷ ls =
-    λ i. ground .line i ∷ line-back frameLayout b e i ∷ later .lines i in (
+    let same : linesOf a (sheetOf (a ∷ b ∷ ls)) ≡ a ∷ b ∷ ls = λ i. a ∷ line-back frameLayout b e i ∷ later .lines i in (
       ap linesLaid (sym same),
       record {
-        ground = ground .short;
+        first = ground-back a (t .0);
+        ground = t .0 .short;
         frame = short-back frameLayout b e (t .1 .0 .short);
         weights = later .weights;
         heights = later .heights;
@@ -138,8 +144,9 @@ sheet-back (a ∷ b ∷ ls) t fits =
     )
 
 -- a sheet that is read was laid out: no other is read
-pub read-laid : (s : List ℕ) (r : Sheet) → readSheet s ≡ accepted r → (s ≡ sheetLaid r) × Laid r
+pub read-laid : (s : List ℕ) (r : Sheet) → readSheet s ≡ accepted r → (l : Line) × ((s ≡ sheetLaid l r) × Laid l r)
 read-laid s r e =
     let l = read-lines s r e in
     let b = sheet-back (l .lines) (l .laid) (subst (λ (x : List ℕ). length x ≤ 4_096) (l .is) (l .short)) in
-    subst (λ (x : Sheet). (s ≡ sheetLaid x) × Laid x) (l .held) (l .is ∙ b .0, b .1)
+    let first = lineAt (l .lines) 0 in
+    (first, subst (λ (x : Sheet). (s ≡ sheetLaid first x) × Laid first x) (l .held) (l .is ∙ b .0, b .1))

@@ -19,12 +19,11 @@ use Rattle.sheet.specs.declared.levels.LevelsAnswer.{LevelsAnswer}
 use Rattle.sheet.specs.declared.levels.LevelsAnswer.the-variants.{Taken as TakenLevels, Refused as RefusedLevels}
 use Rattle.sheet.specs.declared.levels.LevelsRead.{LevelsRead}
 use Rattle.sheet.specs.declared.reader.SheetAnswer.the-variants.{Taken}
-use Rattle.sheet.specs.Layouts.{Line, past}
-use Rattle.sheet.specs.Lines.{readFrom}
-use Rattle.sheet.specs.Reading.{sheetLines, levelLines, kept, cellsOf, levelsRead, sheetRead, levelsOutcome}
-use Rattle.sheet.specs.Sheet.{siteLayout, basinLayout, frameLayout, sheetForm, levelForm, frameValues, Levels, levelsOf}
+use Rattle.sheet.specs.Layouts.{Line, firstOf, past}
+use Rattle.sheet.specs.Lines.{lineIn, readFrom}
+use Rattle.sheet.specs.Reading.{FirstLine, sheetLines, levelLines, kept, cellsOf, levelsRead, sheetRead, levelsOutcome}
+use Rattle.sheet.specs.Sheet.{frameLayout, sheetForm, levelForm, frameValues, Levels, levelsOf}
 use Rattle.sheet.proofs.Fitting.{front, line-fits, line-not, no-more}
-use Rattle.sheet.proofs.GroundLine.{FirstLine}
 use Rattle.sheet.proofs.LaidRead.{sheet-worded, frame-worded}
 use Rattle.sheet.proofs.Lines.{read-stop, read-on}
 use Rattle.sheet.proofs.Refused.{answer-refused, only}
@@ -76,13 +75,11 @@ frame-held : (ns : List ℕ) → frameValues (laid ns blank) ≡ frameValues ns
 frame-held ns = rw (in-cells ns 0, in-cells ns 1, in-cells ns 2, in-cells ns 3, in-cells ns 4)
 
 module _ (s : List ℕ) where
-  pub lines-first : line (siteLayout .word) (siteLayout .numbers) s ≡ otherwise → line (basinLayout .word) (basinLayout .numbers) s ≡ otherwise
-      → sheetLines s ≡ refused 16 1
+  pub lines-first : lineIn 1 (firstOf sheetForm) s ≡ refused 16 1 → sheetLines s ≡ refused 16 1
   unfolding sheetLines
-  lines-first o q =
-      simp (read-stop 1 sheetForm s 16 1 refl (line-not 1 siteLayout (basinLayout ∷ []) s o ∙ line-not 1 basinLayout [] s q ∙ no-more 1 s))
+  lines-first o = simp (read-stop 1 sheetForm s 16 1 refl o)
 
-  module _ {g : GroundValues} {second : Cursor} (first : FirstLine s g second) where
+  module _ {g : GroundValues} {second : Cursor} (first : FirstLine (firstOf sheetForm) s g second) where
     abbrev rest₁ : List ℕ
     rest₁ = drop (second .at) s
 

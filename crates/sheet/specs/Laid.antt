@@ -1,10 +1,14 @@
 -- A sheet laid out as 'Sheet and listing' says: the lines and the bytes of a sheet that holds given numbers.
---   siteNumbers v, frameNumbers v    the numbers of a site line and of line 2, in order
---   groundLine g                     line 1: of a site, or of a zone
+--   siteNumbers v                    the numbers of a site line with a pair for each level, in order
+--   onePairNumbers v                 of one with one pair for both levels
+--   frameNumbers v                   of line 2
+--   siteLine ns                      the site line of these
+--   GroundLine g l                   l is a line 1 that holds the ground g: of a site, with one pair where both levels have the same; or of
+--                                    a zone
 --   levelLinesOf ws hs               a level line for each weight and height, lowest first
---   linesOf r, sheetLaid r           the lines of what r holds, and their bytes
---   Laid r                           each number has at most 9 digits, there are as many heights as weights, and the sheet has
---                                    at most 4,096 bytes
+--   linesOf l r, sheetLaid l r       the lines of what r holds, l being line 1, and their bytes
+--   Laid l r                         l holds the ground, each number has at most 9 digits, there are as many heights as weights, and
+--                                    the sheet has at most 4,096 bytes
 use mathlib.Core.Path.{_≡_}
 use mathlib.Core.List.{List, [], _∷_}
 use Prim.Native.Nat.{ℕ, _≤_}
@@ -19,33 +23,41 @@ use Rattle.sheet.specs.Layouts.{Line, linesLaid}
 use Rattle.sheet.specs.Sheet.{Sheet}
 
 abbrev pub siteNumbers : SiteValues → List ℕ
-siteNumbers v = v .ssd ∷ v .s1d ∷ v .ssm ∷ v .s1m ∷ v .na ∷ v .nv ∷ v .class ∷ []
+siteNumbers v = v .ssd ∷ v .s1d ∷ v .ssm ∷ v .s1m ∷ v .na ∷ v .nv ∷ v .nam ∷ v .nvm ∷ v .class ∷ []
+
+abbrev pub onePairNumbers : SiteValues → List ℕ
+onePairNumbers v = v .ssd ∷ v .s1d ∷ v .ssm ∷ v .s1m ∷ v .na ∷ v .nv ∷ v .class ∷ []
 
 abbrev pub frameNumbers : FrameValues → List ℕ
 frameNumbers v = v .kind ∷ v .calculated ∷ v .r ∷ v .i ∷ v .alpha ∷ []
 
-abbrev pub groundLine : GroundValues → Line
-groundLine (Site v) = record { word = bytes "site"; numbers = siteNumbers v }
-groundLine (Basin z) = record { word = bytes "basin"; numbers = z ∷ [] }
+abbrev pub siteLine : List ℕ → Line
+siteLine ns = record { word = bytes "site"; numbers = ns }
+
+pub data GroundLine : GroundValues → Line → Type 0 where
+  two-pairs : (v : SiteValues) → GroundLine (Site v) (siteLine (siteNumbers v))
+  one-pair : (v : SiteValues) → v .nam ≡ v .na → v .nvm ≡ v .nv → GroundLine (Site v) (siteLine (onePairNumbers v))
+  zone : (z : ℕ) → GroundLine (Basin z) (record { word = bytes "basin"; numbers = z ∷ [] })
 
 abbrev pub levelLinesOf : List ℕ → List ℕ → List Line
 levelLinesOf [] hs = []
 levelLinesOf (w ∷ ws) [] = []
 levelLinesOf (w ∷ ws) (h ∷ hs) = record { word = bytes "level"; numbers = w ∷ h ∷ [] } ∷ levelLinesOf ws hs
 
-abbrev pub linesOf : Sheet → List Line
-linesOf r =
-    groundLine (r .ground)
+abbrev pub linesOf : Line → Sheet → List Line
+linesOf l r =
+    l
     ∷ record { word = bytes "frame"; numbers = frameNumbers (r .frame) }
     ∷ levelLinesOf (r .levels .weights) (r .levels .heights)
 
-unfoldable pub sheetLaid : Sheet → List ℕ
-sheetLaid r = linesLaid (linesOf r)
+unfoldable pub sheetLaid : Line → Sheet → List ℕ
+sheetLaid l r = linesLaid (linesOf l r)
 
-pub record Laid (r : Sheet) : Type 0 where
-  pub ground : AllShort (groundLine (r .ground) .numbers)
+pub record Laid (l : Line) (r : Sheet) : Type 0 where
+  pub first : GroundLine (r .ground) l
+  pub ground : AllShort (l .numbers)
   pub frame : AllShort (frameNumbers (r .frame))
   pub weights : AllShort (r .levels .weights)
   pub heights : AllShort (r .levels .heights)
   pub same : length (r .levels .weights) ≡ length (r .levels .heights)
-  pub fits : length (sheetLaid r) ≤ 4_096
+  pub fits : length (sheetLaid l r) ≤ 4_096

@@ -4,21 +4,22 @@
 --   readSheet bytes        17 at 0 where there are over 4,096 bytes; else what the lines hold
 --   keptMost               how many levels are kept: one more than a job may have, so that the job can refuse the count
 --   kept l, cellsOf l      the first of a list, as many as are kept; in as many cells, zeros in the rest
---   groundLineAnswer o q       the code's answer to the readings of line 1, o as a site line and q as a basin line: the ground, and where
---                          the next line begins
+--   FirstLine ks s g second    line 1 of the bytes s, by the first of the layouts ks that it fits, holds the ground g, and line 2 begins
+--                          at `second`
+--   GroundAnswers ks s a   so says the code's answer a; or that it fits none
 --   levelLineAnswer c o        the code's answer to the reading o of a level line from c on: weight, height, where the next begins
 --   levelsRead o, sheetRead o          the code's answer to the outcome o, its weights and heights in cells
 --   levelsOutcome a, sheetOutcome a    what the code's answer a says: how many levels are kept, with ground and frame of a sheet;
 --                          or the refusal
 -- A sheet without level lines is read: 1 is refused by the job.
+use mathlib.Core.Path.{_≡_}
 use mathlib.Core.List.{List}
 use Prim.Native.Nat.{ℕ, _+_}
 use lib.Dec.{leb}
-use lib.ListN.{length, getD, take}
+use lib.ListN.{length, getD, drop, take}
 use Rattle.whole.specs.Cells.{laid}
 use Rattle.limits.specs.declared.frame.FrameValues.{FrameValues}
 use Rattle.limits.specs.declared.ground.GroundValues.{GroundValues}
-use Rattle.limits.specs.declared.ground.GroundValues.the-variants.{Site, Basin}
 use Rattle.limits.specs.Outcome.{Outcome, accepted, refused, zeros, require, _>>=_, _>>_}
 use Rattle.text.specs.Reading.{Reading, found, otherwise, after}
 use Rattle.text.specs.declared.reading.Cursor.{Cursor}
@@ -32,8 +33,9 @@ use Rattle.sheet.specs.declared.levels.LevelsRead.{LevelsRead}
 use Rattle.sheet.specs.declared.reader.SheetAnswer.{SheetAnswer}
 use Rattle.sheet.specs.declared.reader.SheetAnswer.the-variants.{Taken, Refused}
 use Rattle.sheet.specs.declared.reader.SheetRead.{SheetRead}
-use Rattle.sheet.specs.Lines.{readFrom}
-use Rattle.sheet.specs.Sheet.{sheetForm, levelForm, siteValues, Levels, levelsOf, Sheet, sheetOf}
+use Rattle.sheet.specs.Layouts.{Layout, Line}
+use Rattle.sheet.specs.Lines.{lineIn, readFrom}
+use Rattle.sheet.specs.Sheet.{sheetForm, levelForm, groundOf, Levels, levelsOf, Sheet, sheetOf}
 
 unfoldable pub sheetLines : List ℕ → Outcome Sheet
 sheetLines s = do
@@ -59,14 +61,14 @@ kept l = take keptMost l
 abbrev pub cellsOf : List ℕ → List ℕ
 cellsOf l = laid (kept l) (zeros keptMost)
 
--- the front of a sheet
-abbrev pub start : Cursor
-start = record { at = 0 }
+pub record FirstLine (ks : List Layout) (s : List ℕ) (g : GroundValues) (second : Cursor) : Type 0 where
+  pub line : Line
+  pub at : lineIn 1 ks s ≡ accepted (record { line = line; rest = drop (second .at) s })
+  pub holds : groundOf line ≡ g
 
-unfoldable pub groundLineAnswer : Reading (List ℕ) → Reading (List ℕ) → GroundLineAnswer
-groundLineAnswer (found ns n) q = FoundGround (Site (siteValues ns)) (after start n)
-groundLineAnswer otherwise (found ns n) = FoundGround (Basin (getD ns 0 0)) (after start n)
-groundLineAnswer otherwise otherwise = NoGround
+abbrev pub GroundAnswers : List Layout → List ℕ → GroundLineAnswer → Type 0
+GroundAnswers ks s (FoundGround g second) = FirstLine ks s g second
+GroundAnswers ks s NoGround = lineIn 1 ks s ≡ refused 16 1
 
 unfoldable pub levelLineAnswer : Cursor → Reading (List ℕ) → LevelLineAnswer
 levelLineAnswer c (found ns n) = Found (getD ns 0 0) (getD ns 1 0) (after c n)

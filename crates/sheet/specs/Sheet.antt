@@ -1,9 +1,12 @@
 -- 'Sheet and listing': the lines of a sheet, and what they hold.
---   siteLayout, basinLayout, frameLayout, levelLayout    the layouts of the lines
+--   onePairLayout, twoPairsLayout    the layouts of a site line: one pair of near-fault factors for both levels, or one for each
+--   basinLayout, frameLayout, levelLayout    of the other lines
 --   sheetForm          'Line 1 is `site`', or `basin` with the zone in its place; 'Line 2 is `frame`', 'All later lines are
 --                      `level`'
 --   levelForm          the form of the lines after these two
---   siteValues ns      S_S D, S_1 D, S_S M, S_1 M, N_A, N_V, class
+--   siteValues ns      S_S D, S_1 D, S_S M, S_1 M, N_A, N_V, N_A M, N_V M, class
+--   pairTwice ns       the nine numbers that seven stand for: 'A sheet with the old seven fields still means one pair for both'
+--   siteOf ns          what the numbers of a site line hold, be they seven or nine
 --   isWord w v         v is the word w
 --   groundOf l         what line 1 holds: the zone where its word is `basin`, else the site
 --   frameValues ns     kind, calculated period, R, I, alpha-y
@@ -14,7 +17,8 @@
 use mathlib.Core.Bool.{Bool, _&&_}
 use mathlib.Core.List.{List, [], _∷_, map}
 use Prim.Native.Nat.{ℕ}
-use lib.ListN.{getD, drop}
+use lib.Dec.{eqb}
+use lib.ListN.{length, getD, drop}
 use Rattle.whole.specs.Choice.{pick}
 use Rattle.limits.specs.declared.frame.FrameValues.{FrameValues}
 use Rattle.limits.specs.declared.ground.GroundValues.{GroundValues}
@@ -24,8 +28,11 @@ use Rattle.text.specs.Bytes.{bytes}
 use Rattle.text.specs.Reading.{starts}
 use Rattle.sheet.specs.Layouts.{Layout, Line, Form}
 
-abbrev pub siteLayout : Layout
-siteLayout = record { word = bytes "site"; numbers = 7 }
+abbrev pub onePairLayout : Layout
+onePairLayout = record { word = bytes "site"; numbers = 7 }
+
+abbrev pub twoPairsLayout : Layout
+twoPairsLayout = record { word = bytes "site"; numbers = 9 }
 
 abbrev pub basinLayout : Layout
 basinLayout = record { word = bytes "basin"; numbers = 1 }
@@ -37,7 +44,8 @@ abbrev pub levelLayout : Layout
 levelLayout = record { word = bytes "level"; numbers = 2 }
 
 abbrev pub sheetForm : Form
-sheetForm = record { heads = (siteLayout ∷ basinLayout ∷ []) ∷ (frameLayout ∷ []) ∷ []; later = levelLayout ∷ [] }
+sheetForm =
+    record { heads = (onePairLayout ∷ twoPairsLayout ∷ basinLayout ∷ []) ∷ (frameLayout ∷ []) ∷ []; later = levelLayout ∷ [] }
 
 abbrev pub levelForm : Form
 levelForm = record { heads = []; later = levelLayout ∷ [] }
@@ -51,14 +59,32 @@ siteValues ns =
       s1m = getD ns 3 0;
       na = getD ns 4 0;
       nv = getD ns 5 0;
-      class = getD ns 6 0;
+      nam = getD ns 6 0;
+      nvm = getD ns 7 0;
+      class = getD ns 8 0;
     }
+
+abbrev pub pairTwice : List ℕ → List ℕ
+pairTwice ns =
+    getD ns 0 0
+    ∷ getD ns 1 0
+    ∷ getD ns 2 0
+    ∷ getD ns 3 0
+    ∷ getD ns 4 0
+    ∷ getD ns 5 0
+    ∷ getD ns 4 0
+    ∷ getD ns 5 0
+    ∷ getD ns 6 0
+    ∷ []
+
+abbrev pub siteOf : List ℕ → SiteValues
+siteOf ns = siteValues (pick (eqb (length ns) (onePairLayout .numbers)) (pairTwice ns) ns)
 
 abbrev pub isWord : List ℕ → List ℕ → Bool
 isWord w v = starts w v && starts v w
 
 abbrev pub groundOf : Line → GroundValues
-groundOf l = pick (isWord (basinLayout .word) (l .word)) (Basin (getD (l .numbers) 0 0)) (Site (siteValues (l .numbers)))
+groundOf l = pick (isWord (basinLayout .word) (l .word)) (Basin (getD (l .numbers) 0 0)) (Site (siteOf (l .numbers)))
 
 abbrev pub frameValues : List ℕ → FrameValues
 frameValues ns =

@@ -3,7 +3,8 @@ use crate::layout::BASIN_NUMBERS;
 use crate::layout::FRAME_LINE;
 use crate::layout::FRAME_NUMBERS;
 use crate::layout::GROUND_LINE;
-use crate::layout::SITE_NUMBERS;
+use crate::layout::ONE_PAIR_NUMBERS;
+use crate::layout::TWO_PAIRS_NUMBERS;
 use crate::levels::KEPT;
 use crate::levels::LevelsAnswer;
 use crate::levels::level_lines;
@@ -16,12 +17,11 @@ use text::line::line;
 use text::reading::Cursor;
 use text::reading::ReadAnswer;
 ghost use mathlib.Core.Path.{_≡_};
+ghost use mathlib.Core.List.{[], _∷_};
 ghost use Rattle.limits.specs.Outcome.{refused, refusalOf};
-ghost use Rattle.text.specs.Bytes.{bytes};
-ghost use Rattle.text.specs.Line.{line};
-ghost use Rattle.text.specs.Reading.{otherwise};
-ghost use Rattle.sheet.specs.Reading.{groundLineAnswer, sheetLines, readSheet, sheetRead, sheetOutcome};
-ghost use Rattle.sheet.specs.Sheet.{siteValues, frameValues};
+ghost use Rattle.sheet.specs.Layouts.{firstOf};
+ghost use Rattle.sheet.specs.Reading.{GroundAnswers, sheetLines, readSheet, sheetRead, sheetOutcome};
+ghost use Rattle.sheet.specs.Sheet.{twoPairsLayout, basinLayout, sheetForm, siteValues, pairTwice, frameValues};
 
 // What line 1 holds, and where line 2 begins; or it is otherwise.
 pub enum GroundLineAnswer {
@@ -66,7 +66,8 @@ impl SheetRead {
     }
 }
 
-fn site_values(n: [u64; 10]) -> SiteValues
+// A pair for each level.
+fn two_pairs(n: [u64; 10]) -> SiteValues
     ensures { λ r. ⌜ r ≡ siteValues n ⌝ }
 {
     SiteValues {
@@ -76,6 +77,25 @@ fn site_values(n: [u64; 10]) -> SiteValues
         s1m: n[3],
         na: n[4],
         nv: n[5],
+        nam: n[6],
+        nvm: n[7],
+        class: n[8],
+    }
+}
+
+// One pair for both levels.
+fn one_pair(n: [u64; 10]) -> SiteValues
+    ensures { λ r. ⌜ r ≡ siteValues (pairTwice n) ⌝ }
+{
+    SiteValues {
+        ssd: n[0],
+        s1d: n[1],
+        ssm: n[2],
+        s1m: n[3],
+        na: n[4],
+        nv: n[5],
+        nam: n[4],
+        nvm: n[5],
         class: n[6],
     }
 }
@@ -92,22 +112,35 @@ fn frame_values(n: [u64; 10]) -> FrameValues
     }
 }
 
-// Line 1, by the first of its two layouts that it fits.
+// Line 1, by the first of its layouts that it fits.
 fn ground_line(s: &[u8]) -> GroundLineAnswer
-    ensures { λ a. ⌜ a ≡ groundLineAnswer (line (bytes "site") 7 (now (s .entry))) (line (bytes "basin") 1 (now (s .entry))) ⌝ }
+    ensures { λ a. ⌜ GroundAnswers (firstOf sheetForm) (now (s .entry)) a ⌝ }
 {
     let front = Cursor { at: 0 };
-    let site = line(s, front, b"site", SITE_NUMBERS);
+    let site = line(s, front, b"site", ONE_PAIR_NUMBERS);
+    let a = site.answer;
+    let ReadAnswer::Found(second) = a else {
+        return two_pairs_line(s);
+    };
+    let numbers = site.numbers;
+    GroundLineAnswer::Found(GroundValues::Site(one_pair(numbers)), second)
+}
+
+fn two_pairs_line(s: &[u8]) -> GroundLineAnswer
+    ensures { λ a. ⌜ GroundAnswers (twoPairsLayout ∷ basinLayout ∷ []) (now (s .entry)) a ⌝ }
+{
+    let front = Cursor { at: 0 };
+    let site = line(s, front, b"site", TWO_PAIRS_NUMBERS);
     let a = site.answer;
     let ReadAnswer::Found(second) = a else {
         return basin_line(s);
     };
     let numbers = site.numbers;
-    GroundLineAnswer::Found(GroundValues::Site(site_values(numbers)), second)
+    GroundLineAnswer::Found(GroundValues::Site(two_pairs(numbers)), second)
 }
 
 fn basin_line(s: &[u8]) -> GroundLineAnswer
-    ensures { λ a. ⌜ a ≡ groundLineAnswer otherwise (line (bytes "basin") 1 (now (s .entry))) ⌝ }
+    ensures { λ a. ⌜ GroundAnswers (basinLayout ∷ []) (now (s .entry)) a ⌝ }
 {
     let front = Cursor { at: 0 };
     let basin = line(s, front, b"basin", BASIN_NUMBERS);

@@ -3,7 +3,7 @@
 --   field             one tab, and a number
 --   fields k          k of them
 --   line w k          the word w, k numbers, LF: the numbers
---   blank             the ten cells for a line's numbers before any is read; a line of a sheet has seven at the most
+--   blank             the ten cells for a line's numbers before any is read; a line of a sheet has nine at the most
 --   noLine            the code's answer where a line is otherwise
 --   lineRead c o      the code's answer to the reading o of the bytes from c on, its numbers in the first cells
 use mathlib.Core.List.{List, [], _∷_}

@@ -1,8 +1,10 @@
 -- `sheet::reader::basin_line` meets its contract. Assumes nothing.
 use borrow.Author.Needs.{needs}
+use mathlib.Core.List.{[]}
 use Rattle.text.proofs.Readings.{line-missed, line-went}
-use Rattle.sheet.proofs.GroundLine.{basin-found, none-found}
-use Rattle.sheet.specs.Reading.{start}
+use Rattle.sheet.proofs.GroundLine.{start, others-left, none-left, basin-found}
+use Rattle.sheet.specs.Sheet.{basinLayout}
+use Rattle.sheet.specs.declared.reader.GroundLineAnswer.the-variants.{Otherwise}
 use Rattle.sheet.proofs.reader.basin_line.Statement.{statement}
 use Rattle.sheet.proofs.reader.basin_line.Tie as tie
 
@@ -19,13 +21,14 @@ enum-told : tie.Need-enum-told
 enum-told c = search needs
 
 returns : tie.Need-returns
-returns c = none-found _ (line-missed start _ _ (c .before .before .line .ensures) (c .enum-told .given .1))
+returns c =
+    others-left basinLayout [] _ Otherwise (line-missed start _ _ (c .before .before .line .ensures) (c .enum-told .given .1)) (none-left _)
 
 array-read-t12 : tie.Need-array-read-t12
 array-read-t12 c = search needs
 
 returns-2 : tie.Need-returns-2
-returns-2 c = basin-found (line-went start _ _ _ (c .before .before .before .before .line .ensures) (c .before .before .a .given .1))
+returns-2 c = basin-found _ [] (line-went start _ _ _ (c .before .before .before .before .line .ensures) (c .before .before .a .given .1))
 
 pub basin-line-spec : {M : Type 1} → statement M
 basin-line-spec =

@@ -1,14 +1,9 @@
--- `sheet::reader::ground_line` meets its contract: the first layout that line 1 fits. Assumes nothing.
+-- `sheet::reader::ground_line` meets its contract: a site line with one pair, or one of the other layouts. Assumes nothing.
 use borrow.Author.Needs.{needs}
-use mathlib.Core.Path.{sym, ap, _∙_}
-use mathlib.Core.List.{List}
-use Prim.Native.Nat.{ℕ}
+use mathlib.Core.List.{[], _∷_}
 use Rattle.text.proofs.Readings.{line-missed, line-went}
-use Rattle.text.specs.Bytes.{bytes}
-use Rattle.text.specs.Line.{line}
-use Rattle.text.specs.Reading.{Reading}
-use Rattle.sheet.proofs.GroundLine.{site-found}
-use Rattle.sheet.specs.Reading.{start, groundLineAnswer}
+use Rattle.sheet.proofs.GroundLine.{start, others-left, one-pair-found}
+use Rattle.sheet.specs.Sheet.{onePairLayout, twoPairsLayout, basinLayout}
 use Rattle.sheet.proofs.reader.ground_line.Statement.{statement}
 use Rattle.sheet.proofs.reader.ground_line.Tie as tie
 
@@ -24,21 +19,22 @@ enum-known-a c = search needs
 enum-told : tie.Need-enum-told
 enum-told c = search needs
 
-basin-line-requires : tie.Need-basin-line-requires
-basin-line-requires c κs = search needs
+two-pairs-line-requires : tie.Need-two-pairs-line-requires
+two-pairs-line-requires c κs = search needs
 
 returns : tie.Need-returns
 returns c =
-    let s = c .before .before .before .before .before .before .args .s .now in
-    c .basin-line .ensures
-    ∙ sym (ap (λ (o : Reading (List ℕ)). groundLineAnswer o (line (bytes "basin") 1 s)) (line-missed start _ _ (c .before .before .before .line .ensures) (c .before .enum-told .given .1)))
+    others-left onePairLayout (twoPairsLayout ∷ basinLayout ∷ []) _ (c .two-pairs-line .result)
+    (line-missed start _ _ (c .before .before .before .line .ensures) (c .before .enum-told .given .1)) (c .two-pairs-line .ensures)
 
-site-values-requires : tie.Need-site-values-requires
-site-values-requires c κs = search needs
+one-pair-requires : tie.Need-one-pair-requires
+one-pair-requires c κs = search needs
 
 returns-2 : tie.Need-returns-2
 returns-2 c =
-    site-found (line-went start _ _ _ (c .before .before .before .before .before .line .ensures) (c .before .before .before .a .given .1)) _ (c .site-values .ensures)
+    one-pair-found _ (twoPairsLayout ∷ basinLayout ∷ [])
+    (line-went start _ _ _ (c .before .before .before .before .before .line .ensures) (c .before .before .before .a .given .1))
+    (c .one-pair .ensures)
 
 pub ground-line-spec : {M : Type 1} → statement M
 ground-line-spec =
@@ -48,7 +44,7 @@ ground-line-spec =
     line-requires
     enum-known-a
     enum-told
-    basin-line-requires
+    two-pairs-line-requires
     returns
-    site-values-requires
+    one-pair-requires
     returns-2)

@@ -1,20 +1,23 @@
 -- `sheet::reader::sheet_lines` meets its contract: the stages of the code are the lines of `sheetLines`. Assumes nothing.
 use borrow.Author.Needs.{needs}
-use mathlib.Core.Path.{refl, sym, ap, _∙_}
+use mathlib.Core.Path.{refl, sym, ap, subst, _∙_}
 use Rattle.limits.specs.declared.refusal.Refusal.{Refusal}
 use Rattle.limits.specs.Outcome.{refused}
 use Rattle.limits.proofs.Stages.{yielded}
 use Rattle.text.proofs.Readings.{line-missed, line-went}
-use Rattle.sheet.proofs.GroundLine.{FirstLine, ground-missed, ground-found}
 use Rattle.sheet.proofs.Stages.{levels-refused, levels-taken, lines-first, lines-second, lines-later, lines-all}
-use Rattle.sheet.specs.Reading.{sheetRead, levelsOutcome}
+use Rattle.sheet.specs.Reading.{FirstLine, GroundAnswers, sheetRead, levelsOutcome}
+use Rattle.sheet.specs.Sheet.{sheetForm}
+use Rattle.sheet.specs.Layouts.{firstOf}
 use Rattle.sheet.proofs.reader.sheet_lines.Statement.{statement}
 use Rattle.sheet.proofs.reader.sheet_lines.Tie as tie
 
 -- what line 1 holds, and where line 2 begins
 after-first : (c : tie.After-first)
-    → FirstLine (c .before .before .before .before .args .s .now) (c .first .given .0 .0) (c .first .given .0 .1 .0)
-after-first c = ground-found _ _ _ (sym (c .before .before .ground-line .ensures) ∙ c .first .given .1)
+    → FirstLine (firstOf sheetForm) (c .before .before .before .before .args .s .now) (c .first .given .0 .0) (c .first .given .0 .1 .0)
+after-first c =
+    subst (GroundAnswers (firstOf sheetForm) (c .before .before .before .before .args .s .now)) (c .first .given .1)
+    (c .before .before .ground-line .ensures)
 
 ground-line-requires : tie.Need-ground-line-requires
 ground-line-requires c κs = search needs
@@ -30,8 +33,9 @@ stopped-requires c κs = search needs
 
 returns : tie.Need-returns
 returns c =
-    let none = ground-missed _ _ (sym (c .before .before .before .ground-line .ensures) ∙ c .before .enum-told .given .1) in
-    c .stopped .ensures ∙ ap sheetRead (sym (lines-first (c .before .before .before .before .before .args .s .now) (none .0) (none .1)))
+    let s = c .before .before .before .before .before .args .s .now in
+    let none = subst (GroundAnswers (firstOf sheetForm) s) (c .before .enum-told .given .1) (c .before .before .before .ground-line .ensures) in
+    c .stopped .ensures ∙ ap sheetRead (sym (lines-first s none))
 
 slice-aggregate-line : tie.Need-slice-aggregate-line
 slice-aggregate-line c = search needs
