@@ -24,7 +24,7 @@ use Rattle.limits.proofs.InOrder.{in-order}
 use Rattle.limits.proofs.LevelsStage.{levels-up-to, levels-stop}
 use Rattle.limits.proofs.GroundStage.{ground-up-to, ground-stops, ground-later}
 use Rattle.limits.proofs.FrameStage.{frame-stops, frame-later}
-use Rattle.limits.proofs.Places.{numbered, numbered-basin, named, not-above}
+use Rattle.limits.proofs.Places.{numbered, numbered-basin, named, one-pair-place, not-above}
 use Rattle.limits.proofs.Refusing.{refused-applies}
 
 module _ (s : GroundValues) (f : FrameValues) (ws hs : List ℕ) (room : ℕ) where
@@ -57,6 +57,13 @@ module _ (s : GroundValues) (f : FrameValues) (ws hs : List ℕ) (room : ℕ) wh
   -- nothing is accepted to which a refusal applies
   pub accepted-none : (g : Given) (n p : ℕ) → judgedJob s f ws hs room ≡ accepted g → Applies s f ws hs room n p → ⊥
   accepted-none g n p e a = subst (Stops n p) e (stops n p a)
+
+-- on a site with one pair of near-fault factors for both levels, 6 is given at place 1 or 2
+pub one-pair-lowest : (s : SiteValues) (f : FrameValues) (ws hs : List ℕ) (room p : ℕ) → s .nam ≡ s .na → s .nvm ≡ s .nv
+    → judgedJob (Site s) f ws hs room ≡ refused 6 p → p ≤ 2
+one-pair-lowest s f ws hs room p a b e =
+    let q = one-pair-place s a b (refused-applies (Site s) f ws hs room 6 p e) in
+    omega (arith, lowest-place (Site s) f ws hs room 6 p (q .0) e (q .1 .1), q .1 .0)
 
 -- every number that applies stands in the order
 pub applies-in-order : (s : GroundValues) (f : FrameValues) (ws hs : List ℕ) (room n p : ℕ) → Applies s f ws hs room n p → InOrder n

@@ -1,6 +1,6 @@
 -- The refusals of a job are 1 to 12, and 18 in place of 5 to 7; which of them name a place: 3 to 6 do, the others have place 0.
 -- Assumes nothing.
-use mathlib.Core.Path.{_≡_, refl}
+use mathlib.Core.Path.{_≡_, refl, subst}
 use mathlib.Core.List.{List}
 use mathlib.Core.Logic.{_⊎_, inl, inr, ⊎-elim}
 use Prim.Native.Nat.{ℕ, zero, suc, _+_, _≤_, _<_}
@@ -9,7 +9,7 @@ use Rattle.limits.specs.declared.frame.FrameValues.{FrameValues}
 use Rattle.limits.specs.declared.ground.GroundValues.{GroundValues}
 use Rattle.limits.specs.declared.ground.GroundValues.the-variants.{Site, Basin}
 use Rattle.limits.specs.declared.site.SiteValues.{SiteValues}
-use Rattle.limits.specs.Applies.{count, lists, buffer, weight, height, rising, LevelsApply, of-count, of-lengths, of-weights, of-heights, SiteApplies, ss-design, s1-design, ss-mce, s1-mce, na, nv, na-mce, nv-mce, class, ZoneApplies, zone, GroundApplies, FrameApplies, r, i, alpha, kind, period, Applies, of-levels, of-ground, of-frame}
+use Rattle.limits.specs.Applies.{OutOf, count, lists, buffer, weight, height, rising, LevelsApply, of-count, of-lengths, of-weights, of-heights, SiteApplies, ss-design, s1-design, ss-mce, s1-mce, na, nv, na-mce, nv-mce, class, ZoneApplies, zone, GroundApplies, FrameApplies, r, i, alpha, kind, period, Applies, of-levels, of-ground, of-frame}
 
 abbrev pub Named : ℕ → ℕ → Type 0
 Named n p = ((3 ≤ n) × (n ≤ 6) × (1 ≤ p)) ⊎ (((n < 3) ⊎ (6 < n)) × (p ≡ 0))
@@ -87,6 +87,25 @@ pub numbered-basin : {z : ℕ} {f : FrameValues} {ws hs : List ℕ} {room n p : 
 numbered-basin (of-levels a) = inl (numbered-levels a)
 numbered-basin (of-ground (zone o)) = inr (inl refl)
 numbered-basin (of-frame a) = inr (inr (numbered-frame a))
+
+-- where both levels have the same pair of near-fault factors, 6 applies at place 1 or 2 wherever it applies
+module _ (s : SiteValues) (na-same : s .nam ≡ s .na) (nv-same : s .nvm ≡ s .nv) where
+  site-pair : {n p : ℕ} → n ≡ 6 → SiteApplies s n p → (q : ℕ) × ((q ≤ 2) × SiteApplies s 6 q)
+  site-pair e (ss-design o) = absurd (let z : ⊥ = omega arith in z)
+  site-pair e (s1-design o) = absurd (let z : ⊥ = omega arith in z)
+  site-pair e (ss-mce o) = absurd (let z : ⊥ = omega arith in z)
+  site-pair e (s1-mce o) = absurd (let z : ⊥ = omega arith in z)
+  site-pair e (na o) = (1, (omega arith, na o))
+  site-pair e (nv o) = (2, (omega arith, nv o))
+  site-pair e (na-mce o) = (1, (omega arith, na (subst (OutOf 100 150) na-same o)))
+  site-pair e (nv-mce o) = (2, (omega arith, nv (subst (OutOf 100 200) nv-same o)))
+  site-pair e (class o) = absurd (let z : ⊥ = omega arith in z)
+
+  pub one-pair-place : {f : FrameValues} {ws hs : List ℕ} {room p : ℕ} → Applies (Site s) f ws hs room 6 p
+      → (q : ℕ) × ((q ≤ 2) × Applies (Site s) f ws hs room 6 q)
+  one-pair-place (of-levels a) = absurd (let h = numbered-levels a in let z : ⊥ = omega arith in z)
+  one-pair-place (of-ground a) = let t = site-pair refl a in (t .0, (t .1 .0, of-ground (t .1 .1)))
+  one-pair-place (of-frame a) = absurd (let h = numbered-frame a in let z : ⊥ = omega arith in z)
 
 -- where a number has place 0 it has no other
 pub not-above : (n p q : ℕ) → Named n p → Named n q → ((k : ℕ) → q ≡ 1 + k → p ≤ 1 + k) → p ≤ q

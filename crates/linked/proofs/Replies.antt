@@ -3,19 +3,25 @@
 use mathlib.Core.Path.{_≡_, refl, sym, ap, ap₂, subst, _∙_}
 use mathlib.Core.List.{List, [], _∷_}
 use Prim.Native.Nat.{ℕ}
+use native.Mathlib.Omega.{arith}
 use lib.ListN.{length}
 use Rattle.whole.specs.Cells.{laid}
 use Rattle.whole.proofs.Unique.{determined}
 use Rattle.limits.specs.declared.frame.FrameValues.{FrameValues}
 use Rattle.limits.specs.declared.ground.GroundValues.{GroundValues}
 use Rattle.limits.specs.declared.refusal.Refusal.{Refusal}
+use Rattle.limits.specs.Order.{InOrder}
 use Rattle.limits.specs.Outcome.{Outcome, accepted, refused, number, place, refusalOf}
 use Rattle.job.specs.declared.JobAnswer.{JobAnswer}
 use Rattle.job.specs.Job.{Results, jobOf, figuresOnly, answerOutcome, Buffers, shortest, written, Figured, Answers}
 use Rattle.job.proofs.Calls.{answerOf, says-outcome}
+use Rattle.sheet.proofs.Foremost.{applies-in-order, refused-applies}
+use Rattle.sheet.proofs.OnePair.{siteSheet, accepted-repeated}
 use Rattle.sheet.specs.declared.Put.{Put}
+use Rattle.sheet.specs.Laid.{siteLine}
+use Rattle.sheet.specs.Layouts.{LaidLine}
 use Rattle.sheet.specs.Listing.{refusal, listing, outcomeOf, sheetListing, Puts}
-use Rattle.sheet.specs.Sheet.{frameValues}
+use Rattle.sheet.specs.Sheet.{onePairLayout, pairTwice, frameValues}
 use Rattle.linked.specs.Linked.{Replies, FiguresReply, JobReplies, FiguresReplies, LogReplies, SheetReplies}
 
 -- ---- a reply to an outcome is one to an equal outcome, and there is no second
@@ -98,3 +104,28 @@ pub one-sheet-reply : (s : List ℕ) {old : List ℕ} {n n′ : ℕ} {held held�
     → SheetReplies s old n′ held′ r′ → (n ≡ n′) × (held ≡ held′) × (r ≡ r′)
 one-sheet-reply s p q =
     (determined (p .returned) (q .returned), determined (p .listed) (q .listed), determined (p .replied) (q .replied))
+
+-- 0 is returned where the sheet is accepted, and nowhere else: 0 is no refusal
+accepted-zero : (s : List ℕ) → number (outcomeOf s) ≡ 0 → (o : Results) × (outcomeOf s ≡ accepted o)
+accepted-zero s e = go (outcomeOf s) refl
+  where
+    go : (o : Outcome Results) → outcomeOf s ≡ o → (x : Results) × (outcomeOf s ≡ accepted x)
+    go (accepted x) q = (x, q)
+    go (refused k p) q =
+        let none : k ≡ 0 = sym (ap number q) ∙ e in
+        let stands : InOrder 0 = subst InOrder none (applies-in-order s k p (refused-applies s k p q)) in
+        absurd (let z : ⊥ = omega (arith, stands) in z)
+
+-- a site line of seven numbers that is accepted gets the reply of nine with the pair repeated, byte for byte
+pub repeated-sheet-reply : (ns x : List ℕ) → LaidLine (onePairLayout ∷ []) (siteLine ns) → {old : List ℕ} {n n′ : ℕ} {held held′ r r′ : List ℕ}
+    → SheetReplies (siteSheet ns x) old n held r → n ≡ 0 → SheetReplies (siteSheet (pairTwice ns) x) old n′ held′ r′
+    → (n ≡ n′) × (held ≡ held′) × (r ≡ r′)
+unfolding sheetListing
+repeated-sheet-reply ns x one {old} p zero q =
+    let a = accepted-zero (siteSheet ns x) (sym (p .returned) ∙ zero) in
+    let same : outcomeOf (siteSheet ns x) ≡ outcomeOf (siteSheet (pairTwice ns) x) =
+    a .1 ∙ sym (accepted-repeated ns x one (a .0) (a .1)) in (
+      p .returned ∙ ap number same ∙ sym (q .returned),
+      p .listed ∙ ap (λ (o : Outcome Results). laid (listing o) old) same ∙ sym (q .listed),
+      p .replied ∙ ap (λ (o : Outcome Results). place o ∷ length (listing o) ∷ []) same ∙ sym (q .replied),
+    )

@@ -11,8 +11,9 @@ ghost use Rattle.soil.specs.Class.{classNumber};
 ghost use Rattle.sheet.specs.Sheet.{siteValues, frameValues};
 ghost use Rattle.linked.specs.Linked.{FiguresReply, ClassReply};
 
-// A sheet's site line: S_S and S_1 of the design level, S_S and S_1 of the MCE level, in 0.01 g; N_A and N_V in 0.01; class.
-pub fn site_values(l: &[u64; 7]) -> SiteValues
+// A sheet's site line with a pair for each level: S_S and S_1 of the design level, S_S and S_1 of the MCE level, in 0.01 g; N_A and N_V of
+// the design level, N_A and N_V of the MCE level, in 0.01; class.
+pub fn site_values(l: &[u64; 9]) -> SiteValues
     ensures { λ r. ⌜ r ≡ siteValues (now (l .entry)) ⌝ }
 {
     SiteValues {
@@ -22,7 +23,9 @@ pub fn site_values(l: &[u64; 7]) -> SiteValues
         s1m: l[3],
         na: l[4],
         nv: l[5],
-        class: l[6],
+        nam: l[6],
+        nvm: l[7],
+        class: l[8],
     }
 }
 

@@ -14,19 +14,19 @@ ghost use mathlib.Core.Path.{_≡_};
 ghost use Rattle.linked.specs.Linked.{onSite, inBasin, JobReplies, FiguresReplies, LogReplies, SheetReplies, version, edition, source};
 
 // The version of the library: 1,000,000 times the major number, 1,000 times the minor one, and the last.
-pub const VERSION: u64 = 1_001_000;
+pub const VERSION: u64 = 2_000_000;
 
 // The edition of the code: Taiwan's of 2005.
 pub const EDITION: u64 = 2_005;
 
-// The state of the rules: 1 is document 01 by itself, 2 has the Taipei Basin with it. A change of what any call answers takes the next
-// number.
-pub const SOURCE: u64 = 2;
+// The state of the rules: 1 is document 01 by itself, 2 has the Taipei Basin with it, 3 a pair of near-fault factors for each level. A change
+// of what any call answers takes the next number.
+pub const SOURCE: u64 = 3;
 
 // The job on a site: a force, a shear and an overturning moment of each level in the lent buffers, place and figures in `figures`.
 #[no_mangle]
 pub extern "C" fn rukeshomaji_job(
-    site: &[u64; 7],
+    site: &[u64; 9],
     frame: &[u64; 5],
     weights: &[u64],
     heights: &[u64],
@@ -46,7 +46,7 @@ pub extern "C" fn rukeshomaji_job(
 // The five figures of a job on a site, with no buffer to write to.
 #[no_mangle]
 pub extern "C" fn rukeshomaji_figures(
-    site: &[u64; 7],
+    site: &[u64; 9],
     frame: &[u64; 5],
     weights: &[u64],
     heights: &[u64],

@@ -135,6 +135,10 @@ levels-length (w ∷ ws) (h ∷ hs) s t =
     simp length-append
     (omega (arith, levels-length ws hs (s .1) (t .1), line-short (bytes "level") (w ∷ h ∷ []) (s .0, (t .0, tt))))
 
+-- the judgments of the job of what a sheet holds
+abbrev pub judgedSheet : Sheet → Outcome Given
+judgedSheet r = judgedJob (r .ground) (r .frame) (r .levels .weights) (r .levels .heights) (length (r .levels .weights))
+
 pub allowed-laid : (l : Line) (r : Sheet) (room : ℕ) (g : Given) → GroundLine (r .ground) l
     → judgedJob (r .ground) (r .frame) (r .levels .weights) (r .levels .heights) room ≡ accepted g → Laid l r
 unfolding judgedJob sheetLaid

@@ -6,21 +6,18 @@ use mathlib.Core.List.{List}
 use Prim.Native.Nat.{ℕ}
 use lib.ListN.{length}
 use Rattle.limits.specs.declared.judging.Given.{Given}
-use Rattle.limits.specs.Judging.{judgedJob}
 use Rattle.limits.specs.Outcome.{Outcome, accepted, refused}
 use Rattle.job.specs.Job.{resultsOf}
 use Rattle.job.proofs.Results.{Promised, promised}
 use Rattle.job.proofs.Stages.{job-refused, job-accepted}
 use Rattle.sheet.proofs.Listable.{read-listed, unread-listed}
+use Rattle.sheet.proofs.Allowed.{judgedSheet}
 use Rattle.sheet.proofs.ReadLaid.{read-laid}
 use Rattle.sheet.specs.Laid.{GroundLine, sheetLaid}
 use Rattle.sheet.specs.Layouts.{Line}
 use Rattle.sheet.specs.Listing.{refusal, listing, sheetListing}
 use Rattle.sheet.specs.Reading.{readSheet}
 use Rattle.sheet.specs.Sheet.{Sheet}
-
-abbrev judgedSheet : Sheet → Outcome Given
-judgedSheet r = judgedJob (r .ground) (r .frame) (r .levels .weights) (r .levels .heights) (length (r .levels .weights))
 
 pub record SheetKept (s : List ℕ) : Type 0 where
   pub sheet : Sheet

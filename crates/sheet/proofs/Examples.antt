@@ -14,6 +14,7 @@ use Rattle.text.specs.Reading.{starts, word}
 use Rattle.text.specs.Writing.{digitsOf, decimal, fieldOf, fieldsOf, laidOut}
 use Rattle.job.proofs.Worked.{worked}
 use Rattle.job.proofs.WorkedBasin.{worked-basin}
+use Rattle.job.proofs.WorkedNearFault.{worked-near-fault}
 use Rattle.sheet.specs.Listing.{roofFirst, resultsListing, refusal, listing, jobOfSheet, sheetListing}
 use Rattle.sheet.specs.Lines.{lineIn, linesFrom}
 use Rattle.sheet.specs.Reading.{sheetLines, readSheet}
@@ -27,6 +28,9 @@ building =
 abbrev office : List ℕ
 office = bytes "site\t80\t45\t100\t55\t100\t100\t1\n" ++ building
 
+abbrev nearFault : List ℕ
+nearFault = bytes "site\t80\t45\t100\t55\t112\t123\t123\t136\t1\n" ++ building
+
 abbrev basin : List ℕ
 basin = bytes "basin\t1\n" ++ building
 
@@ -37,6 +41,20 @@ pub office-read : readSheet office ≡ accepted (record {
 })
 unfolding readSheet sheetLines lineIn linesFrom line fields field word starts number digits wellMade inRange valueFrom
 office-read = refl
+
+pub near-fault-read : readSheet nearFault ≡ accepted (record {
+  ground = Site (record { ssd = 80; s1d = 45; ssm = 100; s1m = 55; na = 112; nv = 123; nam = 123; nvm = 136; class = 1 });
+  frame = record { kind = 2; calculated = 1_000; r = 480; i = 100; alpha = 150 };
+  levels = record { weights = 5_000 ∷ 5_000 ∷ 5_000 ∷ []; heights = 100 ∷ 200 ∷ 300 ∷ [] };
+})
+unfolding readSheet sheetLines lineIn linesFrom line fields field word starts number digits wellMade inRange valueFrom
+near-fault-read = refl
+
+-- eight numbers, and ten
+pub site-otherwise : (readSheet (bytes "site\t80\t45\t100\t55\t112\t123\t123\t1\n" ++ building) ≡ refused 16 1)
+    × (readSheet (bytes "site\t80\t45\t100\t55\t112\t123\t123\t136\t1\t1\n" ++ building) ≡ refused 16 1)
+unfolding readSheet sheetLines lineIn linesFrom line fields field word starts number digits wellMade inRange valueFrom
+site-otherwise = (refl, refl)
 
 pub basin-read : readSheet basin ≡ accepted (record {
   ground = Basin 1;
@@ -64,6 +82,13 @@ pub office-listed : resultsListing (record { v = 909_708; vm = 818_458; star = 1
 unfolding resultsListing roofFirst laidOut fieldsOf fieldOf decimal digitsOf
 office-listed = refl
 
+pub near-fault-listed : resultsListing (record { v = 1_118_936; vm = 1_113_100; star = 1_071_429; vd = 1_118_936; t = 1_000 })
+    (173_435 ∷ 346_870 ∷ 598_631 ∷ []) (1_118_936 ∷ 945_501 ∷ 598_631 ∷ []) (266_306_800 ∷ 154_413_200 ∷ 59_863_100 ∷ [])
+    ≡ bytes "base\t1118936\t1113100\t1071429\t1118936\t1000\n" ++ (bytes "level\t3\t598631\t598631\t59863100\n"
+    ++ (bytes "level\t2\t346870\t945501\t154413200\n" ++ bytes "level\t1\t173435\t1118936\t266306800\n"))
+unfolding resultsListing roofFirst laidOut fieldsOf fieldOf decimal digitsOf
+near-fault-listed = refl
+
 pub basin-listed : resultsListing (record { v = 1_917_372; vm = 1_873_979; star = 1_714_286; vd = 1_917_372; t = 1_000 })
     (297_192 ∷ 594_385 ∷ 1_025_795 ∷ []) (1_917_372 ∷ 1_620_180 ∷ 1_025_795 ∷ []) (456_334_700 ∷ 264_597_500 ∷ 102_579_500 ∷ [])
     ≡ bytes "base\t1917372\t1873979\t1714286\t1917372\t1000\n" ++ (bytes "level\t3\t1025795\t1025795\t102579500\n"
@@ -82,6 +107,14 @@ pub office-answered : sheetListing office ≡ bytes "base\t909708\t818458\t10714
 unfolding sheetListing listing
 office-answered =
     ap (λ (o : Outcome Sheet). listing (o >>= jobOfSheet)) office-read ∙ ap listing worked ∙ office-listed
+
+-- and near a fault, with a pair for each level, this one
+pub near-fault-answered : sheetListing nearFault ≡ bytes "base\t1118936\t1113100\t1071429\t1118936\t1000\n"
+    ++ (bytes "level\t3\t598631\t598631\t59863100\n"
+    ++ (bytes "level\t2\t346870\t945501\t154413200\n" ++ bytes "level\t1\t173435\t1118936\t266306800\n"))
+unfolding sheetListing listing
+near-fault-answered =
+    ap (λ (o : Outcome Sheet). listing (o >>= jobOfSheet)) near-fault-read ∙ ap listing (worked-near-fault .0) ∙ near-fault-listed
 
 -- and in zone 1 of the Basin this one
 pub basin-answered : sheetListing basin ≡ bytes "base\t1917372\t1873979\t1714286\t1917372\t1000\n"

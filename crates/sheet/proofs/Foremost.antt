@@ -26,7 +26,7 @@ use Rattle.sheet.specs.Otherwise.{FirstOtherwise}
 use Rattle.sheet.specs.Reading.{sheetLines, readSheet}
 use Rattle.sheet.specs.Sheet.{sheetForm, Sheet, sheetOf}
 
-judged : (r : Sheet) (n p : ℕ) → jobOfSheet r ≡ refused n p
+pub judged : (r : Sheet) (n p : ℕ) → jobOfSheet r ≡ refused n p
     → judgedJob (r .ground) (r .frame) (r .levels .weights) (r .levels .heights) (length (r .levels .weights)) ≡ refused n p
 unfolding jobOf
 judged r n p e = only (judgedJob _ _ _ _ _) (λ g. resultsOf g (r .levels .weights) (r .levels .heights)) e

@@ -122,26 +122,33 @@ levels-back (l ∷ ls) t =
     }
 
 -- ---- all lines
-sheet-back : (ls : List Line) → LaidLines sheetForm ls → length (linesLaid ls) ≤ 4_096
-    → (linesLaid ls ≡ sheetLaid (lineAt ls 0) (sheetOf ls)) × Laid (lineAt ls 0) (sheetOf ls)
+pub lines-back : (ls : List Line) → LaidLines sheetForm ls
+    → GroundLine (sheetOf ls .ground) (lineAt ls 0) × (linesLaid ls ≡ sheetLaid (lineAt ls 0) (sheetOf ls))
 unfolding sheetLaid cells
+lines-back [] t = absurd (differ (sym t))
+lines-back (a ∷ []) t = absurd (differ (sym (t .1)))
+lines-back (a ∷ b ∷ ls) t =
+    let later = levels-back ls (t .1 .1) in
+    let same : linesOf a (sheetOf (a ∷ b ∷ ls)) ≡ a ∷ b ∷ ls =
+    λ i. a ∷ line-back frameLayout b (only-layout (t .1 .0)) i ∷ later .lines i in
+    (ground-back a (t .0), ap linesLaid (sym same))
+
+sheet-back : (ls : List Line) → LaidLines sheetForm ls → length (linesLaid ls) ≤ 4_096 → Laid (lineAt ls 0) (sheetOf ls)
+unfolding cells
 sheet-back [] t fits = absurd (differ (sym t))
 sheet-back (a ∷ []) t fits = absurd (differ (sym (t .1)))
 sheet-back (a ∷ b ∷ ls) t fits =
     let later = levels-back ls (t .1 .1) in
-    let e = only-layout (t .1 .0) in
-    let same : linesOf a (sheetOf (a ∷ b ∷ ls)) ≡ a ∷ b ∷ ls = λ i. a ∷ line-back frameLayout b e i ∷ later .lines i in (
-      ap linesLaid (sym same),
-      record {
-        first = ground-back a (t .0);
-        ground = t .0 .short;
-        frame = short-back frameLayout b e (t .1 .0 .short);
-        weights = later .weights;
-        heights = later .heights;
-        same = simp length-map;
-        fits = subst (λ (z : List Line). length (linesLaid z) ≤ 4_096) (sym same) fits;
-      },
-    )
+    let back = lines-back (a ∷ b ∷ ls) t in
+    record {
+      first = back .0;
+      ground = t .0 .short;
+      frame = short-back frameLayout b (only-layout (t .1 .0)) (t .1 .0 .short);
+      weights = later .weights;
+      heights = later .heights;
+      same = simp length-map;
+      fits = subst (λ (z : List ℕ). length z ≤ 4_096) (back .1) fits;
+    }
 
 -- a sheet that is read was laid out: no other is read
 pub read-laid : (s : List ℕ) (r : Sheet) → readSheet s ≡ accepted r → (l : Line) × ((s ≡ sheetLaid l r) × Laid l r)
@@ -149,4 +156,5 @@ read-laid s r e =
     let l = read-lines s r e in
     let b = sheet-back (l .lines) (l .laid) (subst (λ (x : List ℕ). length x ≤ 4_096) (l .is) (l .short)) in
     let first = lineAt (l .lines) 0 in
-    (first, subst (λ (x : Sheet). (s ≡ sheetLaid first x) × Laid first x) (l .held) (l .is ∙ b .0, b .1))
+    let back = l .is ∙ lines-back (l .lines) (l .laid) .1 in
+    (first, subst (λ (x : Sheet). (s ≡ sheetLaid first x) × Laid first x) (l .held) (back, b))
