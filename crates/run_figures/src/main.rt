@@ -160,6 +160,8 @@ fn sheet(
         s1m: 55,
         na: 100,
         nv: 100,
+        nam: 100,
+        nvm: 100,
         class: Class::HARD,
     };
     let frame = FrameValues {

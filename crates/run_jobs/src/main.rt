@@ -2,14 +2,12 @@
 use fields::BUFFERS;
 use fields::FRAME;
 use fields::GROUND;
+use fields::HEAD;
 use fields::HEIGHT_COUNT;
-use fields::HEIGHTS;
 use fields::LISTED;
 use fields::OLD;
-use fields::ROW;
 use fields::SITE;
 use fields::WEIGHT_COUNT;
-use fields::WEIGHTS;
 use job::JobAnswer;
 use libc::STDIN_FILENO;
 use libc::STDOUT_FILENO;
@@ -24,32 +22,34 @@ mod fields;
 ghost use Prim.Native.Nat.{_≤_};
 ghost use lib.ListN.{length};
 
-fn site(row: [u64; 140]) -> SiteValues {
+fn site(head: [u64; 140]) -> SiteValues {
     SiteValues {
-        ssd: row[SITE],
-        s1d: row[SITE + 1],
-        ssm: row[SITE + 2],
-        s1m: row[SITE + 3],
-        na: row[SITE + 4],
-        nv: row[SITE + 5],
-        class: row[SITE + 6],
+        ssd: head[SITE],
+        s1d: head[SITE + 1],
+        ssm: head[SITE + 2],
+        s1m: head[SITE + 3],
+        na: head[SITE + 4],
+        nv: head[SITE + 5],
+        nam: head[SITE + 6],
+        nvm: head[SITE + 7],
+        class: head[SITE + 8],
     }
 }
 
-fn ground(row: [u64; 140]) -> GroundValues {
-    if row[GROUND] == 1 {
-        return GroundValues::Basin(row[SITE]);
+fn ground(head: [u64; 140]) -> GroundValues {
+    if head[GROUND] == 1 {
+        return GroundValues::Basin(head[SITE]);
     }
-    GroundValues::Site(site(row))
+    GroundValues::Site(site(head))
 }
 
-fn frame(row: [u64; 140]) -> FrameValues {
+fn frame(head: [u64; 140]) -> FrameValues {
     FrameValues {
-        kind: row[FRAME],
-        calculated: row[FRAME + 1],
-        r: row[FRAME + 2],
-        i: row[FRAME + 3],
-        alpha: row[FRAME + 4],
+        kind: head[FRAME],
+        calculated: head[FRAME + 1],
+        r: head[FRAME + 2],
+        i: head[FRAME + 3],
+        alpha: head[FRAME + 4],
     }
 }
 
@@ -125,41 +125,41 @@ fn called(
     answer_said(job::figures::figures(ground, frame, weights, heights));
 }
 
-// Weights and heights are parts of the row, and the buffers that are lent are parts too.
+// Weights and heights are parts of what was read, and the buffers that are lent are parts too.
 fn parted(
-    ground: GroundValues,
-    frame: FrameValues,
-    row: &[u64],
+    head: [u64; 140],
+    weights: &[u64],
+    heights: &[u64],
     forces: &mut [u64],
     shears: &mut [u64],
     overturnings: &mut [u64],
 )
-    requires { ⌜ (140 ≤ length (now row)) × (60 ≤ length (now forces)) × (60 ≤ length (now shears)) × (60 ≤ length (now overturnings)) ⌝ }
+    requires { ⌜ (60 ≤ length (now weights)) × (60 ≤ length (now heights)) × (60 ≤ length (now forces)) × (60 ≤ length (now shears)) × (60 ≤ length (now overturnings)) ⌝ }
 {
-    let weights = WEIGHTS + least(row[WEIGHT_COUNT]);
-    let heights = HEIGHTS + least(row[HEIGHT_COUNT]);
-    let force_cells = least(row[BUFFERS]);
-    let shear_cells = least(row[BUFFERS + 1]);
-    let overturning_cells = least(row[BUFFERS + 2]);
+    let weight_count = least(head[WEIGHT_COUNT]);
+    let height_count = least(head[HEIGHT_COUNT]);
+    let force_cells = least(head[BUFFERS]);
+    let shear_cells = least(head[BUFFERS + 1]);
+    let overturning_cells = least(head[BUFFERS + 2]);
     called(
-        ground,
-        frame,
-        &row[WEIGHTS..weights],
-        &row[HEIGHTS..heights],
+        ground(head),
+        frame(head),
+        &weights[..weight_count],
+        &heights[..height_count],
         &mut forces[..force_cells],
         &mut shears[..shear_cells],
         &mut overturnings[..overturning_cells],
     );
 }
 
-fn case(row: [u64; 140]) {
-    let mut forces = [row[OLD]; 60];
-    let mut shears = [row[OLD + 1]; 60];
-    let mut overturnings = [row[OLD + 2]; 60];
+fn case(head: [u64; 140], weights: [u64; 140], heights: [u64; 140]) {
+    let mut forces = [head[OLD]; 60];
+    let mut shears = [head[OLD + 1]; 60];
+    let mut overturnings = [head[OLD + 2]; 60];
     parted(
-        ground(row),
-        frame(row),
-        &row,
+        head,
+        &weights,
+        &heights,
         &mut forces,
         &mut shears,
         &mut overturnings,
@@ -172,10 +172,14 @@ fn run(s: &[u8]) {
     let mut left = count.value;
     let mut at = count.next;
     while 0 < left {
-        let r = row(s, at, ROW);
-        let values = r.values;
-        case(values);
-        at = r.next;
+        let first = row(s, at, HEAD);
+        let head = first.values;
+        let second = row(s, first.next, least(head[WEIGHT_COUNT]));
+        let weights = second.values;
+        let third = row(s, second.next, least(head[HEIGHT_COUNT]));
+        let heights = third.values;
+        case(head, weights, heights);
+        at = third.next;
         left -= 1;
     }
 }

@@ -31,7 +31,7 @@ const CHANGES: usize = 8;
 fn say_field(at: usize, value: u64) {
     if at <= ZONE {
         say_name(
-            b"S_S D   S_1 D   S_S M   S_1 M   N_A     N_V     class   kind    period  R       I       alpha-y weights heights room    ground  zone    ",
+            b"S_S D   S_1 D   S_S M   S_1 M   N_A     N_V     N_A M   N_V M   class   kind    period  R       I       alpha-y weights heights room    ground  zone    ",
             at,
         );
     } else if at < HEIGHTS {
@@ -86,7 +86,9 @@ fn ground(job: [u64; 140]) -> GroundValues {
         s1m: job[SITE + 3],
         na: job[SITE + 4],
         nv: job[SITE + 5],
-        class: job[SITE + 6],
+        nam: job[SITE + 6],
+        nvm: job[SITE + 7],
+        class: job[SITE + 8],
     })
 }
 

@@ -17,6 +17,8 @@ fn run(class: u64) -> Figures {
         s1m: 50,
         na: 112,
         nv: 123,
+        nam: 112,
+        nvm: 123,
         class,
     };
     let frame = FrameValues {

@@ -44,9 +44,14 @@ pub record Vector : Type 0 where
   pub printed : List ℕ
   pub exact : List Fraction
 
+-- a pair of near-fault factors for each level
+abbrev pub siteOfPairs : ℕ → ℕ → ℕ → ℕ → ℕ → ℕ → ℕ → ℕ → Class → Site
+siteOfPairs ssd s1d ssm s1m na nv nam nvm c =
+    record { ssd = ssd; s1d = s1d; ssm = ssm; s1m = s1m; na = na; nv = nv; nam = nam; nvm = nvm; class = c }
+
+-- one pair for both
 abbrev pub siteOf : ℕ → ℕ → ℕ → ℕ → ℕ → ℕ → Class → Site
-siteOf ssd s1d ssm s1m na nv c =
-    record { ssd = ssd; s1d = s1d; ssm = ssm; s1m = s1m; na = na; nv = nv; class = c }
+siteOf ssd s1d ssm s1m na nv c = siteOfPairs ssd s1d ssm s1m na nv na nv c
 
 abbrev pub frameOf : Kind → ℕ → ℕ → ℕ → ℕ → Frame
 frameOf k calculated r i alpha = record { kind = k; calculated = calculated; r = r; i = i; alpha = alpha }

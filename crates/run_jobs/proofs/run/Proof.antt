@@ -20,6 +20,24 @@ loop-holds c = search needs
 row-requires : tie.Need-row-requires Inv-loop μ-loop
 row-requires c κs = search needs
 
+array-read-least : tie.Need-array-read-least Inv-loop μ-loop
+array-read-least c = search needs
+
+least-requires : tie.Need-least-requires Inv-loop μ-loop
+least-requires c κs = search needs
+
+row-requires-2 : tie.Need-row-requires-2 Inv-loop μ-loop
+row-requires-2 c κs = search needs
+
+array-read-least-2 : tie.Need-array-read-least-2 Inv-loop μ-loop
+array-read-least-2 c = search needs
+
+least-requires-2 : tie.Need-least-requires-2 Inv-loop μ-loop
+least-requires-2 c κs = search needs
+
+row-requires-3 : tie.Need-row-requires-3 Inv-loop μ-loop
+row-requires-3 c κs = search needs
+
 case-requires : tie.Need-case-requires Inv-loop μ-loop
 case-requires c κs = search needs
 
@@ -44,6 +62,12 @@ run-spec =
     number-requires
     loop-holds
     row-requires
+    array-read-least
+    least-requires
+    row-requires-2
+    array-read-least-2
+    least-requires-2
+    row-requires-3
     case-requires
     sub-left
     loop-less
