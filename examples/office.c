@@ -10,11 +10,15 @@ enum { LEVELS = 3 };
 
 int main(void)
 {
-    RukeshomajiSite site = {80, 45, 100, 55, 100, 100, RUKESHOMAJI_HARD};
+    RukeshomajiSite site = {80, 45, 100, 55, 100, 100, 100, 100, RUKESHOMAJI_HARD};
     RukeshomajiFrame frame = {RUKESHOMAJI_CONCRETE, 1000, 480, 100, 150};
     uint64_t weights[LEVELS] = {5000, 5000, 5000}, heights[LEVELS] = {100, 200, 300};
     uint64_t forces[LEVELS], shears[LEVELS], overturnings[LEVELS];
     RukeshomajiFigures f;
+    if (rukeshomaji_version() / 1000000 != RUKESHOMAJI_VERSION / 1000000) {
+        fprintf(stderr, "the library is of another major version than the header\n");
+        return 2;
+    }
     uint64_t refused = rukeshomaji_job(&site, &frame, weights, LEVELS, heights, LEVELS, forces, LEVELS, shears, LEVELS, overturnings, LEVELS, &f);
     if (refused) {
         fprintf(stderr, "refused %" PRIu64 " at %" PRIu64 "\n", refused, f.place);

@@ -13,11 +13,12 @@ import os
 import pathlib
 from collections import namedtuple
 
-Site = namedtuple('Site', 'ssd s1d ssm s1m na nv class_number')
+Site = namedtuple('Site', 'ssd s1d ssm s1m na nv nam nvm class_number')
 Frame = namedtuple('Frame', 'kind calculated r i alpha_y')
 Figures = namedtuple('Figures', 'v vm star vd t')
 Job = namedtuple('Job', 'figures forces shears overturnings')
 
+MAJOR = 2
 LONGEST = 4_610
 TEXTS = {
     1: 'no level, or over 50',
@@ -40,7 +41,8 @@ TEXTS = {
     18: 'zone not 1 to 4',
 }
 PLACES = {
-    3: 'level', 4: 'level', 5: ('S_S design', 'S_1 design', 'S_S MCE', 'S_1 MCE'), 6: ('N_A', 'N_V'), 14: 'layer', 15: 'layer', 16: 'line',
+    3: 'level', 4: 'level', 5: ('S_S design', 'S_1 design', 'S_S MCE', 'S_1 MCE'), 6: ('N_A design', 'N_V design', 'N_A MCE', 'N_V MCE'),
+    14: 'layer', 15: 'layer', 16: 'line',
 }
 
 U64 = ctypes.c_uint64
@@ -67,6 +69,8 @@ _core.rukeshomaji_site_class.argtypes = [*_list * 3, _numbers]
 _core.rukeshomaji_sheet.argtypes = [ctypes.c_char_p, U64, ctypes.c_char_p, _numbers]
 for _name in ('job', 'figures', 'basin_job', 'basin_figures', 'site_class', 'sheet', 'version', 'edition', 'source'):
     getattr(_core, f'rukeshomaji_{_name}').restype = U64
+if _core.rukeshomaji_version() // 1_000_000 != MAJOR:
+    raise ImportError(f'{LIBRARY} is of another major version than this module, {MAJOR}')
 
 
 def _array(numbers, count=None):
@@ -104,12 +108,12 @@ def _figures(entry, ground, frame, weights, heights):
 
 def job(site, frame, weights, heights):
     """The five figures, and the force, shear and overturning moment of each level, lowest first."""
-    return _job(_core.rukeshomaji_job, _array(site, 7), frame, weights, heights)
+    return _job(_core.rukeshomaji_job, _array(site, 9), frame, weights, heights)
 
 
 def figures(site, frame, weights, heights):
     """The five figures alone."""
-    return _figures(_core.rukeshomaji_figures, _array(site, 7), frame, weights, heights)
+    return _figures(_core.rukeshomaji_figures, _array(site, 9), frame, weights, heights)
 
 
 def basin_job(zone, frame, weights, heights):
@@ -142,7 +146,7 @@ def version():
 
 def main():
     """The worked sheet."""
-    done = job(Site(80, 45, 100, 55, 100, 100, 1), Frame(2, 1000, 480, 100, 150), [5000] * 3, [100, 200, 300])
+    done = job(Site(80, 45, 100, 55, 100, 100, 100, 100, 1), Frame(2, 1000, 480, 100, 150), [5000] * 3, [100, 200, 300])
     print('base', *done.figures, sep='\t')
     for level in range(3, 0, -1):
         print('level', level, done.forces[level - 1], done.shears[level - 1], done.overturnings[level - 1], sep='\t')
