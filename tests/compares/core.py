@@ -28,7 +28,7 @@ def fields(names):
 class Site(ctypes.Structure):
     """RukeshomajiSite"""
 
-    _fields_ = fields('ssd s1d ssm s1m na nv cls')
+    _fields_ = fields('ssd s1d ssm s1m na nv nam nvm cls')
 
 
 class Frame(ctypes.Structure):
@@ -130,7 +130,7 @@ def entry_of(library, name, ground):
     """The entry for a ground, and the ground as it takes it: a zone by value, a site through a pointer."""
     if isinstance(ground, limits.Basin):
         return getattr(library, f'rukeshomaji_basin_{name}'), ground.zone
-    return getattr(library, f'rukeshomaji_{name}'), Site(*ground)
+    return getattr(library, f'rukeshomaji_{name}'), Site(*limits.ground_of(ground))
 
 
 def job(library, ground, frame, weights, heights, buffers):
@@ -139,7 +139,7 @@ def job(library, ground, frame, weights, heights, buffers):
     lists, (array, reply) = [lent(weights), lent(heights)], painted(Figures)
     number = entry(given, line, *lists[0], *lists[1], *(part for _, pointer, length in out for part in (pointer, length)), reply)
     read = [numbers_of(given) if isinstance(given, Site) else (given,), numbers_of(line), *(list(each) for each, _ in lists)]
-    same = read == [tuple(ground), tuple(frame), list(weights), list(heights)]
+    same = read == [tuple(limits.ground_of(ground)), tuple(frame), list(weights), list(heights)]
     return answer(number, array), [cells_of(each) for each, _, _ in out], same
 
 

@@ -6,7 +6,7 @@
 
 #define LEVELS 3
 
-static const RukeshomajiSite site = {80, 45, 100, 55, 100, 100, 1};
+static const RukeshomajiSite site = {80, 45, 100, 55, 100, 100, 100, 100, 1};
 static const RukeshomajiFrame frame = {2, 1000, 480, 100, 150};
 static const uint64_t weights[LEVELS] = {5000, 5000, 5000}, heights[LEVELS] = {100, 200, 300};
 static const uint64_t thicknesses[LEVELS] = {1000, 1000, 1000}, kinds[LEVELS] = {1, 2, 3}, values[LEVELS] = {3000, 20, 40};

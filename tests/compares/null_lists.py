@@ -16,7 +16,7 @@ import tempfile
 from tests.compares import core
 from tests.model import job as jobs, limits, sheet, soil
 
-SITE, FRAME = limits.Site(80, 45, 100, 55, 100, 100, 1), limits.Frame(2, 1000, 480, 100, 150)
+SITE, FRAME = limits.one_pair(80, 45, 100, 55, 100, 100, 1), limits.Frame(2, 1000, 480, 100, 150)
 LEVELS = 3
 BASIN = limits.Basin(3)
 JOB, FIGURES = ([5000] * LEVELS, [100, 200, 300], [7] * LEVELS, [8] * LEVELS, [9] * LEVELS), ([5000] * LEVELS, [100, 200, 300])

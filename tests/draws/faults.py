@@ -7,8 +7,10 @@ from tests.model import limits
 
 MOST = 2**64 - 1
 TALL = [5_000] * 50, [40 * (level + 1) for level in range(50)]
-SITE, BASIN, FRAME, ROOM = (80, 45, 100, 55, 100, 100, 1), limits.Basin(1), (2, 1000, 480, 100, 150), (50, 50, 50)
-LIMITS = {'site': (limits.S_S_DESIGN, limits.S_1_DESIGN, limits.S_S_MCE, limits.S_1_MCE, limits.N_A, limits.N_V, limits.CLASS),
+SITE, BASIN = limits.one_pair(80, 45, 100, 55, 100, 100, 1), limits.Basin(1)
+FRAME, ROOM = (2, 1000, 480, 100, 150), (50, 50, 50)
+LIMITS = {'site': (limits.S_S_DESIGN, limits.S_1_DESIGN, limits.S_S_MCE, limits.S_1_MCE, limits.N_A, limits.N_V, limits.N_A, limits.N_V,
+                   limits.CLASS),
           'basin': (limits.ZONE,),
           'frame': (limits.KIND, limits.CALCULATED_PERIOD, limits.R_RANGE, limits.I_VALUES, limits.ALPHA_Y)}
 
@@ -55,16 +57,21 @@ def systematic(ground=SITE):
         yield from ((ground, frame, weights, heights, put(room, place, count)) for place in range(3))
 
 
-def zones_with_another():
-    """Every zone that is judged with every other number beside its limits: 18 stands after 1 to 4 and before 8 to 12."""
-    (weights, heights), zones = TALL, [limits.Basin(zone) for zone in beside(limits.ZONE)]
-    for zone in zones:
+def with_another(grounds):
+    """Each of the grounds with every other number beside its limits: a ground is judged after 1 to 4 and before 8 to 12."""
+    weights, heights = TALL
+    for ground in grounds:
         for place, allowed in enumerate(LIMITS['frame']):
-            yield from ((zone, put(FRAME, place, value), weights, heights, ROOM) for value in beside(allowed))
-        yield from ((zone, FRAME, put(weights, 49, value), heights, ROOM) for value in beside(limits.WEIGHT))
-        yield from ((zone, FRAME, weights, put(heights, 49, value), ROOM) for value in beside(limits.HEIGHT))
-        yield from ((zone, FRAME, weights[:count], heights, ROOM) for count in (0, 49))
-        yield from ((zone, FRAME, weights, heights, put(ROOM, place, 49)) for place in range(3))
+            yield from ((ground, put(FRAME, place, value), weights, heights, ROOM) for value in beside(allowed))
+        yield from ((ground, FRAME, put(weights, 49, value), heights, ROOM) for value in beside(limits.WEIGHT))
+        yield from ((ground, FRAME, weights, put(heights, 49, value), ROOM) for value in beside(limits.HEIGHT))
+        yield from ((ground, FRAME, weights[:count], heights, ROOM) for count in (0, 49))
+        yield from ((ground, FRAME, weights, heights, put(ROOM, place, 49)) for place in range(3))
+
+
+def zones():
+    """Every zone that is judged."""
+    return [limits.Basin(zone) for zone in beside(limits.ZONE)]
 
 
 def wrong_value(rng, allowed):

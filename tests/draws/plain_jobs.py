@@ -14,15 +14,29 @@ class Inputs(NamedTuple):
     heights: list
 
 
+def draw_pair(rng):
+    """N_A and N_V, each at its ends and between."""
+    return (rng.choice((100, 150, rng.randint(100, 150), rng.randint(100, 150))),
+            rng.choice((100, 200, rng.randint(100, 200), rng.randint(100, 200))))
+
+
 def draw_site(rng):
-    """Listed mapped values; near-fault factors at their ends and between."""
-    return limits.Site(
+    """Listed mapped values; one pair of near-fault factors for both levels."""
+    return limits.one_pair(
         rng.choice(limits.S_S_DESIGN), rng.choice(limits.S_1_DESIGN),
         rng.choice(limits.S_S_MCE), rng.choice(limits.S_1_MCE),
-        rng.choice((100, 150, rng.randint(100, 150), rng.randint(100, 150))),
-        rng.choice((100, 200, rng.randint(100, 200), rng.randint(100, 200))),
+        *draw_pair(rng),
         rng.choice(limits.CLASS),
     )
+
+
+def draw_pairs(rng):
+    """A site with a pair for each level: they differ in one factor or in both."""
+    site = draw_site(rng)
+    while not limits.of_two_pairs(site):
+        NAM, NVM = draw_pair(rng)
+        site = site._replace(NAM=NAM, NVM=NVM)
+    return site
 
 
 def draw_basin(rng):

@@ -65,7 +65,7 @@ def heavy():
     """A million kN, I = 1.50, alpha-y = 1.00, R near 1, T just below 0.2 T0: a millionth is 1071 N, and every stage rounds."""
     def reach(inputs):
         """The largest weights; the period up to 30 ms below the corner of V or of V_M."""
-        site = inputs.ground._replace(SSM=100, NA=130 + inputs.ground.NA % 21)
+        site = inputs.ground._replace(SSM=100, NA=130 + inputs.ground.NA % 21, NAM=130 + inputs.ground.NAM % 21)
         hazard = (sites.design, sites.mce)[inputs.frame.alphay % 2]
         period = max(1, int(response.corner(*hazard(site)) / 5) - inputs.frame.calculated_period % 31)
         return Inputs(site, limits.Frame(1, period, 100 + inputs.frame.R % 21, 150, 100), [20_000] * 50, list(range(8, 401, 8)))
@@ -78,7 +78,7 @@ def largest():
     """Every number at its largest and R = 1: the largest shears and products."""
     def reach(inputs):
         """The levels at the very top; class, kind and period as drawn."""
-        site = inputs.ground._replace(SSD=80, S1D=45, SSM=100, S1M=55, NA=150, NV=200)
+        site = inputs.ground._replace(SSD=80, S1D=45, SSM=100, S1M=55, NA=150, NV=200, NAM=150, NVM=200)
         frame = inputs.frame._replace(R=100, I=150, alphay=100)
         return Inputs(site, frame, [20_000] * 50, list(range(1_951, 2_001)))
 

@@ -30,7 +30,7 @@ def corner_and_ratio_strata():
 def site_strata():
     """S against the columns of Table 2; every class."""
     mapped = (('SSD', 'NA', sites.S_S_COLUMNS), ('S1D', 'NV', sites.S_1_COLUMNS),
-              ('SSM', 'NA', sites.S_S_COLUMNS), ('S1M', 'NV', sites.S_1_COLUMNS))
+              ('SSM', 'NAM', sites.S_S_COLUMNS), ('S1M', 'NVM', sites.S_1_COLUMNS))
     yield from (in_table(*each, place) for each in mapped for place in ('on', 'between', 'beyond'))
     yield from (with_number('ground', 'cls', cls) for cls in limits.CLASS)
 

@@ -72,12 +72,12 @@ def squares(ground, R):
 
 
 def hazards(ground):
-    """A and B of V, V_M and V*."""
+    """A and B of V, V_M and V*, V and V_M "with each level's own pair"."""
     if isinstance(ground, limits.Basin):
         design, mce = (basins.A_and_B(S, ground.zone) for S in (basins.S_DS, basins.S_MS))
         return design, mce, design
     return (sites.A_and_B(ground.SSD, ground.S1D, ground.NA, ground.NV, ground.cls),
-            sites.A_and_B(ground.SSM, ground.S1M, ground.NA, ground.NV, ground.cls),
+            sites.A_and_B(ground.SSM, ground.S1M, ground.NAM, ground.NVM, ground.cls),
             sites.A_and_B(ground.SSD, ground.S1D, 100, 100, ground.cls))
 
 

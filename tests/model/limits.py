@@ -21,7 +21,7 @@ CALCULATED_PERIOD = range(0, 60_000 + 1)
 
 
 class Site(NamedTuple):
-    """The numbers of a `site` line: "S_S D, S_1 D, S_S M, S_1 M, N_A, N_V, class"."""
+    """The numbers of a `site` line: "S_S D, S_1 D, S_S M, S_1 M, N_A, N_V", "N_A and N_V for MCE", "class"."""
 
     SSD: int
     S1D: int
@@ -29,7 +29,19 @@ class Site(NamedTuple):
     S1M: int
     NA: int
     NV: int
+    NAM: int
+    NVM: int
     cls: int
+
+
+def one_pair(SSD, S1D, SSM, S1M, NA, NV, cls):
+    """A `Site` by seven numbers: "A sheet with the old seven fields still means one pair for both"."""
+    return Site(SSD, S1D, SSM, S1M, NA, NV, NA, NV, cls)
+
+
+def of_two_pairs(site):
+    """The pair of MCE is another than that of design."""
+    return (site.NA, site.NV) != (site.NAM, site.NVM)
 
 
 class Basin(NamedTuple):
@@ -65,12 +77,13 @@ def level_refusals(weights, heights, buffer_lengths):
 
 
 def site_refusals(site):
-    """Refusals 5 to 7: "mapped value not listed", at "1 to 4, sheet order"; factor; class."""
+    """Refusals 5 to 7: "mapped value not listed", at "1 to 4, sheet order"; factor, at 1 to 4 too: "6 gets places 3 and 4"; class."""
     mapped = (S_S_DESIGN, S_1_DESIGN, S_S_MCE, S_1_MCE)
     for place, (value, listed) in enumerate(zip(site[:4], mapped), 1):
         if value not in listed:
             yield 5, place
-    for place, (value, allowed) in enumerate(((site.NA, N_A), (site.NV, N_V)), 1):
+    factors = ((site.NA, N_A), (site.NV, N_V), (site.NAM, N_A), (site.NVM, N_V))
+    for place, (value, allowed) in enumerate(factors, 1):
         if value not in allowed:
             yield 6, place
     if site.cls not in CLASS:
@@ -84,8 +97,10 @@ def basin_refusals(basin):
 
 
 def ground_of(numbers):
-    """A ground: a `Basin`, or a `Site`, which may be given by its seven numbers alone."""
-    return numbers if isinstance(numbers, Basin) else Site(*numbers)
+    """A ground: a `Basin`, or a `Site`, which may be given by its nine numbers alone, or by seven."""
+    if isinstance(numbers, Basin):
+        return numbers
+    return Site(*numbers) if len(numbers) == len(Site._fields) else one_pair(*numbers)
 
 
 def ground_refusals(ground):

@@ -7,23 +7,26 @@ from . import job as jobs, limits
 MOST_BYTES = 4_096
 NUMBER = rb'\t(0|[1-9][0-9]{0,8})'
 SITE = re.compile(rb'site' + NUMBER * 7)
+TWO_PAIRS = re.compile(rb'site' + NUMBER * 9)
 FRAME = re.compile(rb'frame' + NUMBER * 5)
 LEVEL = re.compile(rb'level' + NUMBER * 2)
 BASIN = re.compile(rb'basin' + NUMBER)
+GROUNDS = {SITE: limits.one_pair, TWO_PAIRS: limits.Site, BASIN: limits.Basin}      # what a line 1 means
 
 
 def layouts(line_number):
-    """Layouts: "Line 1 is `site`", "Line 2 is `frame`", "All later lines are `level`"; "`basin` with the zone in place of `site`"."""
-    return {1: (SITE, BASIN), 2: (FRAME,)}.get(line_number, (LEVEL,))
+    """Layouts: "Line 1 is `site`", which "gets two further fields after N_V", "Line 2 is `frame`", "All later lines are `level`"; "`basin`
+    with the zone in place of `site`"."""
+    return {1: tuple(GROUNDS), 2: (FRAME,)}.get(line_number, (LEVEL,))
 
 
 def numbers_of(line_number, line):
-    """The numbers of a line, those of a `basin` line as its ground; None where it is otherwise than laid out."""
+    """The numbers of a line, those of line 1 as its ground; None where it is otherwise than laid out."""
     for layout in layouts(line_number):
         match = layout.fullmatch(line)
         if match is not None:
             numbers = tuple(int(field) for field in match.groups())
-            return limits.Basin(*numbers) if layout is BASIN else numbers
+            return GROUNDS[layout](*numbers) if layout in GROUNDS else numbers
     return None
 
 
@@ -57,9 +60,19 @@ def listing(job):
     return b''.join(lines)
 
 
-def write(ground, frame, weights, heights):
+def first_line(ground, in_full=False):
+    """The word and the numbers of line 1: a site that has one pair for both by seven numbers, unless it is written in full."""
+    if isinstance(ground, limits.Basin):
+        return 'basin', *ground
+    site = limits.ground_of(ground)
+    if in_full or limits.of_two_pairs(site):
+        return 'site', *site
+    return 'site', site.SSD, site.S1D, site.SSM, site.S1M, site.NA, site.NV, site.cls
+
+
+def write(ground, frame, weights, heights, in_full=False):
     """The bytes of a sheet that holds these numbers."""
-    lines = [('basin' if isinstance(ground, limits.Basin) else 'site', *ground), ('frame', *frame)]
+    lines = [first_line(ground, in_full), ('frame', *frame)]
     lines += [('level', weight, height) for weight, height in zip(weights, heights)]
     return ''.join('\t'.join(map(str, line)) + '\n' for line in lines).encode('ascii')
 

@@ -52,17 +52,17 @@ def A_and_B(mapped_S_S, mapped_S_1, NA, NV, cls):
 
 
 def design(site):
-    """A and B of V: "design values"."""
+    """A and B of V: "design values"; "V uses the first pair"."""
     return A_and_B(site.SSD, site.S1D, site.NA, site.NV, site.cls)
 
 
 def mce(site):
-    """A and B of V_M: "the same from MCE values"."""
-    return A_and_B(site.SSM, site.S1M, site.NA, site.NV, site.cls)
+    """A and B of V_M: "the same from MCE values"; "V_M the second"."""
+    return A_and_B(site.SSM, site.S1M, site.NAM, site.NVM, site.cls)
 
 
 def star(site):
-    """A and B of V*: design values with "both near-fault factors taken as 100"."""
+    """A and B of V*: design values with "both near-fault factors taken as 100"; "V* neither"."""
     return A_and_B(site.SSD, site.S1D, NO_NEAR_FAULT, NO_NEAR_FAULT, site.cls)
 
 

@@ -63,7 +63,7 @@ def hazards(worked):
     """For V, V_M and V* on a site: mapped S_S and S_1, near-fault factors, the model's response."""
     site, none = worked.ground, sites.NO_NEAR_FAULT
     return ((site.SSD, site.S1D, site.NA, site.NV, worked.design),
-            (site.SSM, site.S1M, site.NA, site.NV, worked.mce),
+            (site.SSM, site.S1M, site.NAM, site.NVM, worked.mce),
             (site.SSD, site.S1D, none, none, worked.star))
 
 

@@ -5,7 +5,7 @@ from fractions import Fraction
 from tests.model import exact, limits, response, shears, site, storeys
 from tests.model.job import job
 
-SITE = limits.Site(80, 45, 100, 55, 100, 100, 1)
+SITE = limits.one_pair(80, 45, 100, 55, 100, 100, 1)
 HEAVY = ([20_000] * 50, list(range(1951, 2001)))
 MODIFIED = {
     0: 0, 1: 1, 299_999: 299_999, 300_000: 300_000, 300_003: 300_002, 350_000: 326_000,
@@ -35,12 +35,12 @@ def near_fault_in_star():
     frame = limits.Frame(2, 700, 480, 125, 130)
     far = job(SITE._replace(cls=3), frame, *HEAVY)
     for NA, NV in ((150, 200), (101, 100), (100, 101), (133, 177)):
-        def figures(near=SITE._replace(cls=3, NA=NA, NV=NV)):
+        def figures(near=SITE._replace(cls=3, NA=NA, NV=NV, NAM=NA, NVM=NV)):
             """All that leads to V* at this near-fault site."""
             result = job(near, frame, *HEAVY)
             return result.star, result.p, result.V_star
         yield f'V* with N_A {NA}, N_V {NV}', figures, (far.star, far.p, far.V_star)
-    near = limits.Site(50, 30, 70, 40, 130, 120, 3)
+    near = limits.one_pair(50, 30, 70, 40, 130, 120, 3)
     yield 'A and B, design', lambda: site.design(near), (11500 * 6500, 16800 * 3600)
     yield 'A and B, MCE', lambda: site.mce(near), (10000 * 9100, 14400 * 4800)
     yield 'A and B, V*', lambda: site.star(near), (12000 * 5000, 18000 * 3000)

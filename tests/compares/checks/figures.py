@@ -3,7 +3,7 @@
 from tests.model import exact, limits, response, site, soil
 from tests.model.job import job
 
-SITE = limits.Site(80, 45, 100, 55, 100, 100, 1)
+SITE = limits.one_pair(80, 45, 100, 55, 100, 100, 1)
 FRAME = limits.Frame(2, 1000, 480, 100, 150)
 WEIGHTS, HEIGHTS = [5000, 5000, 5000], [100, 200, 300]
 HARD_80_45 = (80_000_000, 45_000_000)
@@ -27,7 +27,7 @@ LOWER_UPPER_FACTORS = {
     1: (1013004, 1013005), 112: (2456557, 2456559), 113: (2463060, 2463061), 337: (2463060, 2463061),
     338: (2465438, 2465440), 562: (3530954, 3530955), 563: (3533333, 3533334), 1407: (3533333, 3533334),
 }
-STOREY_EXCESS_ABOVE_2 = (limits.Site(70, 30, 70, 40, 149, 135, 1), limits.Frame(1, 6246, 244, 125, 199),
+STOREY_EXCESS_ABOVE_2 = (limits.one_pair(70, 30, 70, 40, 149, 135, 1), limits.Frame(1, 6246, 244, 125, 199),
                          [12, 1, 1, 1, 2, 1], [207, 630, 1464, 1481, 1657, 2000])
 
 

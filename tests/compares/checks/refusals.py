@@ -2,9 +2,10 @@
 
 from tests.model import limits
 
-SITE = limits.Site(80, 45, 100, 55, 100, 100, 1)
+SITE = limits.one_pair(80, 45, 100, 55, 100, 100, 1)
 FRAME = limits.Frame(2, 1000, 480, 100, 150)
 HUGE = 999_999_999
+BAD_SITE = [1] * 4 + [99] * 4 + [0]
 
 SITE_LIMITS = (
     ('SSD', (50, 60, 70, 80), (0, 49, 51, 55, 79, 81, 90, 100, HUGE), (5, 1)),
@@ -13,6 +14,8 @@ SITE_LIMITS = (
     ('S1M', (40, 45, 50, 55), (0, 30, 35, 39, 41, 54, 56, HUGE), (5, 4)),
     ('NA', (100, 101, 149, 150), (0, 99, 151, 160, 200, HUGE), (6, 1)),
     ('NV', (100, 101, 151, 160, 199, 200), (0, 99, 201, HUGE), (6, 2)),
+    ('NAM', (100, 101, 149, 150), (0, 99, 151, 160, 200, HUGE), (6, 3)),
+    ('NVM', (100, 101, 151, 160, 199, 200), (0, 99, 201, HUGE), (6, 4)),
     ('cls', (1, 2, 3), (0, 4, HUGE), (7, 0)),
 )
 FRAME_LIMITS = (
@@ -69,8 +72,8 @@ def limits_of_lists():
 
 def site_repairs():
     """What is refused of a site, and the site without it."""
-    site = [1] * 4 + [99, 99, 0]
-    for place, refusal in enumerate(((5, 1), (5, 2), (5, 3), (5, 4), (6, 1), (6, 2), (7, 0))):
+    site = BAD_SITE
+    for place, refusal in enumerate(((5, 1), (5, 2), (5, 3), (5, 4), (6, 1), (6, 2), (6, 3), (6, 4), (7, 0))):
         site = site[:place] + [SITE[place]] + site[place + 1:]
         yield refusal, 'ground', site
 
@@ -95,5 +98,5 @@ def checks():
     """All refusals of a job."""
     yield from limits_of_numbers()
     yield from limits_of_lists()
-    yield from order([1] * 4 + [99, 99, 0], site_repairs())
+    yield from order(BAD_SITE, site_repairs())
     yield from order(limits.Basin(0), [((18, 0), 'ground', limits.Basin(4))])
