@@ -1,57 +1,38 @@
-"""Compares the compiled core with the model: jobs, bad jobs, soil logs, sheets; jobs and bad jobs of the Basin.
+"""Compares the compiled core with the model: jobs, bad jobs, soil logs, sheets; jobs and bad jobs of the Basin, and with two pairs.
 
-usage: python3 -m tests.compares.compare [JOBS [BAD [LOGS [SHEETS [SEED [BASIN [BASIN_BAD]]]]]]]
+usage: python3 -m tests.compares.compare [JOBS [BAD [LOGS [SHEETS [SEED [BASIN [BASIN_BAD [PAIRS [PAIRS_BAD]]]]]]]]]
 
-JOBS and BAD are on sites; a third of the SHEETS is of the Basin. It prints the count of each stratum, the largest excess over the exact
-figure of demand 3 on sites and in the Basin, and the number of differences; on standard error it says how far it is. It needs x86-64, or
+JOBS and BAD are on sites with one pair of near-fault factors for both levels, PAIRS and PAIRS_BAD on sites with a pair for each; a quarter of
+the SHEETS is of the Basin, and a quarter has two pairs. It prints the count of each stratum, the largest excess over the exact figure of demand 3
+on sites, in the Basin and with two pairs, and the number of differences; on standard error it says how far it is. It needs x86-64, or
 RUKESHOMAJI_LIBRARY, a shared library of the core for the machine at hand.
 """
 
 import random
 import sys
 import time
-from collections import Counter
 from concurrent import futures
 
 from tests.compares import core
-from tests.compares.excess import SHARP, Largest
-from tests.draws import damage, faults, soil_logs
+from tests.compares.compare_sheets import run_both_ways, run_sheets, run_stored_sheets
+from tests.compares.excess import SHARP
+from tests.compares.tally import Tally, kind_of, label, refusal_words
+from tests.draws import faults, pairs, soil_logs
 from tests.draws.basin import basin_strata
-from tests.draws.plain_jobs import draw, draw_basin, draw_site
+from tests.draws.plain_jobs import draw, draw_basin, draw_pairs, draw_site
 from tests.draws.rare import rare_strata
 from tests.draws.sample import all_strata, draw_in
-from tests.model import job as jobs, limits, sheet, soil
+from tests.model import job as jobs, soil
 from tests.writes import log_cases
 
-JOBS, BAD, LOGS, SHEETS, SEED, BASIN, BASIN_BAD = 1_000_000, 120_000, 100_000, 120_000, 1, 200_000, 24_000
+JOBS, BAD, LOGS, SHEETS, SEED = 1_000_000, 120_000, 100_000, 120_000, 1
+BASIN, BASIN_BAD, PAIRS, PAIRS_BAD = 200_000, 24_000, 200_000, 24_000
 A_STRATUM, CHUNK, SHOWN = 500, 2_500, 5
+BOTH_WAYS = 20          # one in so many of the count of sheets is of jobs that are written by seven numbers and by nine
 SAID_EACH = 10          # seconds
 WITHOUT = 'the same without buffers'
 MEASURED_EACH = 10      # of the jobs drawn from all that is allowed, the exact figure of every tenth is worked out
 OLD = (7_000_000, 8_000_000, 9_000_000)       # what the buffers held: all cells differ
-
-
-class Tally:
-    """What was compared, by stratum, what differed, and the largest excess on sites and in the Basin."""
-
-    def __init__(self):
-        self.counts, self.compared, self.differences = Counter(), 0, []
-        self.largest = {'site': Largest('on sites'), 'basin': Largest('in the Basin')}
-
-    def compare(self, stratum, call, got, expected):
-        """Count one comparison."""
-        self.counts[stratum] += 1
-        self.compared += 1
-        if got != expected:
-            self.differences.append((stratum, call, got, expected))
-
-    def add(self, other):
-        """Count another's."""
-        self.counts.update(other.counts)
-        self.compared += other.compared
-        self.differences += other.differences
-        for ground, largest in self.largest.items():
-            largest.add(other.largest[ground])
 
 
 def held(lengths):
@@ -79,11 +60,6 @@ def got_job(library, ground, frame, weights, heights, lengths):
     return core.job(library, ground, frame, weights, heights, held(lengths))
 
 
-def label(call, words):
-    """How a stratum of sites is called for a call in the Basin."""
-    return f'Basin: {words}' if isinstance(call[0], limits.Basin) else words
-
-
 def compare_job(tally, library, stratum, call, measured):
     """One accepted call, with buffers and without."""
     result = jobs.job(*call)
@@ -91,7 +67,7 @@ def compare_job(tally, library, stratum, call, measured):
     tally.compare(stratum, call, got_job(library, *call), expected)
     tally.compare(label(call, WITHOUT), call, core.figures(library, *call[:4]), expected[0])
     if measured:
-        tally.largest['basin' if isinstance(result.ground, limits.Basin) else 'site'].measure(result)
+        tally.largest[kind_of(result.ground)].measure(result)
 
 
 def lengths(rng, weights):
@@ -132,11 +108,16 @@ def run_basin(library, tally, seed, count):
     run_plain(library, tally, seed, count, draw_basin)
 
 
+def run_pairs(library, tally, seed, count):
+    """Jobs with two pairs drawn from all that is allowed."""
+    run_plain(library, tally, seed, count, draw_pairs)
+
+
 def run_faults(library, tally, calls):
     """Bad calls, with and without buffers; counted by the refusal that the model gives."""
     for call in calls:
         expected = expected_job(*call)
-        stratum = f'refusal {expected[0][0]:2}' if expected[0][0] else 'changed, and accepted'
+        stratum = f'refusal {refusal_words(*expected[0][:2])}' if expected[0][0] else 'changed, and accepted'
         tally.compare(label(call, stratum), call, got_job(library, *call), expected)
         plain = expected_job(*call[:4], (len(call[2]),) * 3)[0]
         tally.compare(label(call, WITHOUT), call, core.figures(library, *call[:4]), plain)
@@ -154,6 +135,12 @@ def run_basin_bad(library, tally, seed, count):
     run_faults(library, tally, (faults.random_call(rng, draw_basin) for _ in range(count)))
 
 
+def run_pairs_bad(library, tally, seed, count):
+    """Random bad calls with two pairs."""
+    rng = random.Random(seed)
+    run_faults(library, tally, (pairs.random_call(rng) for _ in range(count)))
+
+
 def run_systematic(library, tally, seed, count):
     """Both sides of every limit at every place."""
     run_faults(library, tally, faults.systematic())
@@ -162,7 +149,12 @@ def run_systematic(library, tally, seed, count):
 def run_systematic_basin(library, tally, seed, count):
     """The same in the Basin, and every zone that is judged with another number out of range."""
     run_faults(library, tally, faults.systematic(faults.BASIN))
-    run_faults(library, tally, faults.zones_with_another())
+    run_faults(library, tally, faults.with_another(faults.zones()))
+
+
+def run_systematic_pairs(library, tally, seed, count):
+    """The same with two pairs, two numbers of the site at once, and each bad factor with another number out of range."""
+    run_faults(library, tally, pairs.systematic())
 
 
 def compare_log(tally, library, name, lists):
@@ -189,29 +181,6 @@ def run_logs(library, tally, seed, count):
         compare_log(tally, library, name, soil_logs.STRATA[name](rng))
 
 
-def compare_sheet(tally, library, data):
-    """One sheet; counted by what the model prints first, and by the word that it begins with."""
-    expected = sheet.shear(data)
-    first = expected.split(b'\t')
-    refused = (0, 0) if first[0] == b'base' else (int(first[1]), int(first[2]))
-    stratum = f'sheet refused {refused[0]:2}' if refused[0] else 'sheet listed'
-    stratum = f'Basin: {stratum}' if data.startswith(b'basin') else stratum
-    tally.compare(stratum, data, core.sheet(library, data), ((*refused, len(expected)), expected, True))
-
-
-def run_stored_sheets(library, tally, seed, count):
-    """The sheets of the program `run_sheets`."""
-    for path in sorted((core.ROOT / 'crates' / 'run_sheets' / 'data').iterdir()):
-        compare_sheet(tally, library, path.read_bytes())
-
-
-def run_sheets(library, tally, seed, count):
-    """Sheets, sound and damaged."""
-    rng = random.Random(seed)
-    for _ in range(count):
-        compare_sheet(tally, library, damage.drawn(rng))
-
-
 def run(task):
     """One task in a process of its own."""
     function, *rest = task
@@ -226,18 +195,29 @@ def chunks(function, seed, count):
 
 
 def strata(draw_ground=draw_site):
-    """Every stratum of sites or of the Basin, with the jobs drawn for it."""
-    if draw_ground is draw_basin:
-        return list(basin_strata(A_STRATUM))
-    return [*((each, A_STRATUM) for each in all_strata()), *rare_strata()]
+    """Every stratum of sites, of the Basin or of two pairs, with the jobs drawn for it."""
+    if draw_ground is draw_site:
+        return [*((each, A_STRATUM) for each in all_strata()), *rare_strata()]
+    return list((basin_strata if draw_ground is draw_basin else pairs.pair_strata)(A_STRATUM))
+
+
+def job_tasks(seed, draw_ground, plain, count):
+    """The strata of a kind of ground, and what is drawn from all that is allowed."""
+    drawn = strata(draw_ground)
+    yield from ((run_stratum, f'stratum {seed} {each.name}', each.name, of_it, draw_ground) for each, of_it in drawn)
+    yield from chunks(plain, seed, count - sum(of_it for _, of_it in drawn))
 
 
 def basin_tasks(seed, count, bad):
     """What is compared of the Basin beside sheets."""
-    drawn = strata(draw_basin)
-    yield from ((run_stratum, f'stratum {seed} {each.name}', each.name, of_it, draw_basin) for each, of_it in drawn)
-    yield from chunks(run_basin, seed, count - sum(of_it for _, of_it in drawn))
+    yield from job_tasks(seed, draw_basin, run_basin, count)
     yield from ((run_systematic_basin, seed, 0), *chunks(run_basin_bad, seed, bad))
+
+
+def pair_tasks(seed, count, bad):
+    """What is compared with two pairs beside sheets."""
+    yield from job_tasks(seed, draw_pairs, run_pairs, count)
+    yield from ((run_systematic_pairs, seed, 0), *chunks(run_pairs_bad, seed, bad))
 
 
 def told(tallies, parts):
@@ -253,16 +233,15 @@ def told(tallies, parts):
         yield tally
 
 
-def main(job_count=JOBS, bad=BAD, logs=LOGS, sheets=SHEETS, seed=SEED, basin=BASIN, basin_bad=BASIN_BAD):
+def main(job_count=JOBS, bad=BAD, logs=LOGS, sheets=SHEETS, seed=SEED, basin=BASIN, basin_bad=BASIN_BAD, two_pairs=PAIRS,
+         two_pairs_bad=PAIRS_BAD):
     """Run all, print all; 1 where anything differs. No fewer jobs are drawn than the strata ask for."""
     core.build()
-    tasks = [(run_stratum, f'stratum {seed} {each.name}', each.name, count) for each, count in strata()]
-    tasks += [(run_sharp, seed, 0)]
-    tasks += chunks(run_plain, seed, job_count - sum(count for _, count in strata()) - len(SHARP))
+    tasks = [*job_tasks(seed, draw_site, run_plain, job_count - len(SHARP)), (run_sharp, seed, 0)]
     tasks += [(run_systematic, seed, 0), *chunks(run_bad, seed, bad)]
     tasks += [(run_systematic_logs, seed, 0), *chunks(run_logs, seed, logs)]
-    tasks += [(run_stored_sheets, seed, 0), *chunks(run_sheets, seed, sheets)]
-    tasks += basin_tasks(seed, basin, basin_bad)
+    tasks += [(run_stored_sheets, seed, 0), *chunks(run_sheets, seed, sheets), *chunks(run_both_ways, seed, sheets // BOTH_WAYS)]
+    tasks += [*basin_tasks(seed, basin, basin_bad), *pair_tasks(seed, two_pairs, two_pairs_bad)]
     total = Tally()
     with futures.ProcessPoolExecutor() as pool:     # a core that crashes ends this with an error
         for tally in told(pool.map(run, tasks), len(tasks)):

@@ -1,4 +1,5 @@
-"""01's 'Errors that look right', and some of the Basin, each put into the model: how many of the comparisons with the compiled core show it.
+"""01's 'Errors that look right', some of the Basin and some of two pairs of near-fault factors, each put into the model: how many of the
+comparisons with the compiled core show it.
 
 usage: python3 -m tests.compares.wrong_models [JOBS [SEED]]        after tests/compares/compare.py has built the archive
 """
@@ -12,8 +13,9 @@ from unittest import mock
 
 from tests.compares import core
 from tests.compares.compare import expected_job, got_job, lengths
-from tests.draws.faults import random_call
-from tests.draws.plain_jobs import draw, draw_basin
+from tests.compares.tally import NEAR_FAULT
+from tests.draws import faults, pairs
+from tests.draws.plain_jobs import draw, draw_basin, draw_pairs
 from tests.model import basin as basins, limits, response, site as sites, storeys
 
 JOBS, SEED = 10_000, 1
@@ -70,6 +72,22 @@ def zone_by_number(ground, frame, weights, heights, buffer_lengths):
     yield from limits.ground_refusals(ground)
 
 
+def mce_by_the_design_pair(site):
+    """The first pair for V_M too."""
+    return sites.A_and_B(site.SSM, site.S1M, site.NA, site.NV, site.cls)
+
+
+def design_by_the_mce_pair(site):
+    """The second pair for V too."""
+    return sites.A_and_B(site.SSD, site.S1D, site.NAM, site.NVM, site.cls)
+
+
+def places_3_and_4_exchanged(site, judged=limits.site_refusals):
+    """N_A M refused at 4, N_V M at 3."""
+    for number, place in judged(site):
+        yield number, {3: 4, 4: 3}.get(place, place) if number == NEAR_FAULT else place
+
+
 ERRORS = {
     'the lower factor used in V*': [(response, 'upper_factor', response.lower_factor)],
     'near-fault factors left in V*': [(sites, 'star', sites.design)],
@@ -84,6 +102,15 @@ BASIN_ERRORS = {
     '4.2 kept in V*': [(basins, 'V_STAR', sites.V_STAR)],
     'the corner of another zone for MCE': [(basins, 'mce', mce_of_the_next_zone)],
     '18 judged after 8': [(limits, 'refusals', zone_by_number)],
+}
+
+
+PAIR_ERRORS = {
+    'the design pair in V_M': [(sites, 'mce', mce_by_the_design_pair)],
+    'the MCE pair in V': [(sites, 'design', design_by_the_mce_pair)],
+    'the design pair left in V*': [(sites, 'star', sites.design)],
+    'the MCE pair left in V*': [(sites, 'star', design_by_the_mce_pair)],
+    'places 3 and 4 of 6 exchanged': [(limits, 'site_refusals', places_3_and_4_exchanged)],
 }
 
 
@@ -107,14 +134,24 @@ def site_calls(rng, count):
         yield ground, frame, weights, heights, lengths(rng, weights)
 
 
-def basin_calls(rng, count):
-    """Jobs of the Basin, every second one bad."""
+def mixed_calls(rng, count, draw_ground, bad_call):
+    """Jobs of a kind of ground, every second one bad."""
     for number in range(count):
         if number % 2:
-            yield random_call(rng, draw_basin)
+            yield bad_call(rng)
             continue
-        ground, frame, weights, heights = draw(rng, draw_basin)
+        ground, frame, weights, heights = draw(rng, draw_ground)
         yield ground, frame, weights, heights, lengths(rng, weights)
+
+
+def basin_calls(rng, count):
+    """Jobs of the Basin."""
+    return mixed_calls(rng, count, draw_basin, lambda rng: faults.random_call(rng, draw_basin))
+
+
+def pair_calls(rng, count):
+    """Jobs with two pairs."""
+    return mixed_calls(rng, count, draw_pairs, pairs.random_call)
 
 
 def unseen(library, calls, where, errors):
@@ -129,10 +166,11 @@ def unseen(library, calls, where, errors):
 
 
 def main(jobs=JOBS, seed=SEED):
-    """Try the errors on sites and those of the Basin; 1 where one is not seen at all."""
+    """Try the errors on sites, those of the Basin and those of two pairs; 1 where one is not seen at all."""
     rng, library = random.Random(seed), core.load()
     count = unseen(library, list(site_calls(rng, jobs)), 'on sites', ERRORS)
     count += unseen(library, list(basin_calls(rng, jobs)), 'in the Basin', BASIN_ERRORS)
+    count += unseen(library, list(pair_calls(rng, jobs)), 'with two pairs', PAIR_ERRORS)
     return 1 if count else 0
 
 
