@@ -1,22 +1,26 @@
 """Writes the cases of the program `run_jobs` and what the model says of them.
 
 usage: python3 -m tests.writes.job_cases        rewrites crates/run_jobs/stdin and crates/run_jobs/stdout
+
+The first line of stdin is the count of cases. Every other line is a case: what the ground is, nine numbers of it, five of the frame, the counts of
+weights and of heights, the lengths of three buffers and what a cell of each holds; then the weights and the heights.
 """
 
 import pathlib
 import random
 from typing import NamedTuple
 
+from tests.draws import pairs
 from tests.draws.basin import corner_strata, named
-from tests.draws.plain_jobs import draw_basin
+from tests.draws.plain_jobs import draw_basin, draw_pairs
 from tests.draws.sample import all_strata, draw_in
 from tests.draws.strata import governed_by
 from tests.model import limits
 from tests.model.job import job
 
 HERE = pathlib.Path(__file__).resolve().parents[2] / 'crates' / 'run_jobs'
-ROW, WEIGHTS, HEIGHTS, GROUND, LISTED, MOST_BYTES = 140, 20, 80, 139, 60, 65_536
-LINE, SITE_GROUND, BASIN_GROUND = 7, 0, 1
+LISTED, MOST_BYTES = 60, 65_536
+LINE, SITE_GROUND, BASIN_GROUND = len(limits.Site._fields), 0, 1
 OLD, SEED, LARGEST, FEW = (7, 8, 9), 1, 2**64 - 1, 4
 
 
@@ -31,16 +35,13 @@ class Case(NamedTuple):
     old: tuple = OLD
 
     def row(self):
-        """The numbers that the program reads: of the Basin the zone stands first of the seven of a site; the last says what the ground is."""
-        row = [0] * ROW
-        line = [*self.ground, *[0] * (LINE - len(self.ground))]
-        numbers = (*line, *self.frame, len(self.weights), len(self.heights), *self.buffers, *self.old)
-        row[:len(numbers)] = numbers
-        row[WEIGHTS:WEIGHTS + len(self.weights)] = self.weights
-        row[HEIGHTS:HEIGHTS + len(self.heights)] = self.heights
-        assert len(self.heights) < LISTED
-        row[GROUND] = BASIN_GROUND if isinstance(self.ground, limits.Basin) else SITE_GROUND
-        return row
+        """The numbers that the program reads: of the Basin the zone stands first of the nine of a site."""
+        assert max(len(self.weights), len(self.heights)) <= LISTED
+        ground = limits.ground_of(self.ground)
+        kind = BASIN_GROUND if isinstance(ground, limits.Basin) else SITE_GROUND
+        line = [*ground, *[0] * (LINE - len(ground))]
+        counts = len(self.weights), len(self.heights)
+        return [kind, *line, *self.frame, *counts, *self.buffers, *self.old, *self.weights, *self.heights]
 
     def said(self):
         """What the program must write."""
@@ -61,6 +62,8 @@ def answer(result):
 
 
 WORKED = Case((80, 45, 100, 55, 100, 100, 1), (2, 1000, 480, 100, 150), [5000] * 3, [100, 200, 300], (3, 3, 3))
+NEAR, TURNED = (80, 45, 100, 55, 120, 150, 110, 130, 1), (80, 45, 100, 55, 110, 130, 120, 150, 1)
+FACTORS = {4: limits.N_A, 5: limits.N_V, 6: limits.N_A, 7: limits.N_V}
 OTHER = Case((60, 35, 80, 45, 142, 179, 3), (4, 0, 250, 150, 100), [900, 1, 20_000, 44], [1, 2, 1999, 2000], (4, 5, 6))
 
 
@@ -148,15 +151,59 @@ def drawn_basin_cases():
             yield Case(drawn.ground, tuple(drawn.frame), drawn.weights[-count:], drawn.heights[-count:], (count,) * 3)
 
 
-def written(row):
-    """A row as the program reads it: where no number stands, it reads 0."""
-    return ' '.join(str(number or '') for number in row)
+def pair_cases():
+    """The worked job near a fault with a pair for each level, before and after one with one pair for both; buffers, lists and order."""
+    near, turned = WORKED._replace(ground=NEAR, buffers=(5, 4, 3)), WORKED._replace(ground=TURNED, buffers=(3, 5, 4))
+    yield from (near, WORKED, near, turned, OTHER, turned, near._replace(ground=limits.Basin(1)), near)
+    yield from (WORKED._replace(ground=(*WORKED.ground[:4], *pair, *pair, 1)) for pair in ((100, 100), (120, 150)))
+    yield from (WORKED._replace(ground=(*WORKED.ground[:4], *pair, 1)) for pair in ((120, 150), (110, 130)))
+    yield from (near._replace(buffers=each) for each in ((2, 3, 3), (3, 2, 3), (3, 3, 2), (0, 0, 0)))
+    yield from (tower(count)._replace(ground=TURNED) for count in (0, 1, 51))
+    for ground in ((80, 45, 100, 55, 150, 200, 100, 100, 2), (80, 45, 100, 55, 100, 100, 150, 200, 3)):
+        yield near._replace(ground=ground, frame=(4, 300, 100, 150, 100), weights=[20_000] * 50, heights=list(range(1_951, 2_001)),
+                            buffers=(50, 50, 50))
+
+
+def put(numbers, *changes):
+    """The numbers with others at some places."""
+    numbers = list(numbers)
+    for place, value in changes:
+        numbers[place] = value
+    return tuple(numbers)
+
+
+def wrong_pair_cases():
+    """Each of the nine numbers of a site wrong, both sides of each factor, two factors at once, and a factor with another refusal; buffers
+    that hold another job's figures must stay as they are."""
+    used = WORKED._replace(ground=NEAR, old=(573_215, 1_071_429, 57_321_500), buffers=(5, 5, 5))
+    for place in range(LINE):
+        yield used._replace(ground=put(NEAR, (place, LARGEST)))
+        yield used._replace(ground=NEAR[:place] + (0,) * (LINE - place))
+    for place, allowed in FACTORS.items():
+        beside = (allowed[0] - 1, allowed[0], allowed[-1], allowed[-1] + 1, allowed[0] + 2**16, allowed[0] + 2**32, allowed[0] + 2**63)
+        yield from (used._replace(ground=put(NEAR, (place, value))) for value in beside)
+        yield from (used._replace(ground=put(NEAR, (place, 99), (other, 201))) for other in FACTORS if other != place)
+    for place in list(FACTORS)[2:]:
+        bad = used._replace(ground=put(NEAR, (place, 99)))
+        yield from (bad._replace(ground=put(bad.ground, each)) for each in ((3, 41), (8, 4)))
+        yield from (bad._replace(weights=[5000, 5000, 0]), bad._replace(heights=[100, 200, 200]), bad._replace(buffers=(5, 2, 5)))
+        yield from (bad._replace(frame=put(WORKED.frame, (each, 61_000))) for each in range(5))
+
+
+def drawn_pair_cases():
+    """A job of every stratum of two pairs, its two highest levels, with buffers as long as the lists."""
+    rng = random.Random(SEED)
+    for stratum in pairs.plain_strata():
+        drawn = draw_in(rng, stratum, draw_pairs)
+        weights, heights = drawn.weights[-2:], drawn.heights[-2:]
+        yield Case(tuple(drawn.ground), tuple(drawn.frame), weights, heights, (len(weights),) * 3)
 
 
 def main():
     """Write both files, and say how many cases there are."""
-    cases = [*buffer_cases(), *list_cases(), *wrong_cases(), *order_cases(), *drawn_cases(), *basin_cases(), *drawn_basin_cases()]
-    lines = [str(len(cases)), *(written(case.row()) for case in cases)]
+    cases = [*buffer_cases(), *list_cases(), *wrong_cases(), *order_cases(), *drawn_cases(), *basin_cases(), *drawn_basin_cases(),
+             *pair_cases(), *wrong_pair_cases(), *drawn_pair_cases()]
+    lines = [str(len(cases)), *(' '.join(map(str, case.row())) for case in cases)]
     text = '\n'.join(lines) + '\n'
     assert len(text) <= MOST_BYTES, len(text)
     (HERE / 'stdin').write_text(text)

@@ -3,18 +3,21 @@
 usage: python3 -m tests.writes.refusal_cases        rewrites crates/run_refusals/stdin and crates/run_refusals/stdout
 """
 
+import itertools
 import pathlib
 
 from tests.model import limits
 
 HERE = pathlib.Path(__file__).resolve().parents[2] / 'crates' / 'run_refusals'
-NAMES = ('S_S D', 'S_1 D', 'S_S M', 'S_1 M', 'N_A', 'N_V', 'class', 'kind', 'period', 'R', 'I', 'alpha-y',
-         'weights', 'heights', 'room', 'ground', 'zone')
+MAPPED = ('S_S D', 'S_1 D', 'S_S M', 'S_1 M')
+SITE = (*MAPPED, 'N_A', 'N_V', 'N_A M', 'N_V M', 'class')
+FRAME = ('kind', 'period', 'R', 'I', 'alpha-y')
+NAMES = (*SITE, *FRAME, 'weights', 'heights', 'room', 'ground', 'zone')
 FIELD = {name: place for place, name in enumerate(NAMES)}
 WEIGHTS, HEIGHTS, LISTED, FIELDS, NONE = 20, 80, 51, 140, 999
 MOST = 2**64 - 1
 SITE_GROUND, BASIN_GROUND = 0, 1
-GOOD = {**dict(enumerate((80, 45, 100, 55, 100, 100, 1, 2, 1000, 480, 100, 150, 5, 5, 5, SITE_GROUND, 1))),
+GOOD = {**dict(enumerate((80, 45, 100, 55, 100, 100, 100, 100, 1, 2, 1000, 480, 100, 150, 5, 5, 5, SITE_GROUND, 1))),
         **{WEIGHTS + i: 5000 for i in range(LISTED)}, **{HEIGHTS + i: 38 * (i + 1) for i in range(LISTED)}}
 
 
@@ -27,12 +30,14 @@ def both_sides(allowed):
     return sorted(value for value in ends if value >= 0) + [MOST]
 
 
-SITE_RANGES = dict(zip(NAMES, (limits.S_S_DESIGN, limits.S_1_DESIGN, limits.S_S_MCE, limits.S_1_MCE, limits.N_A, limits.N_V, limits.CLASS)))
-FRAME_RANGES = dict(zip(NAMES[7:], (limits.KIND, limits.CALCULATED_PERIOD, limits.R_RANGE, limits.I_VALUES, limits.ALPHA_Y)))
+SITE_RANGES = {**dict(zip(MAPPED, (limits.S_S_DESIGN, limits.S_1_DESIGN, limits.S_S_MCE, limits.S_1_MCE))),
+               'N_A': limits.N_A, 'N_V': limits.N_V, 'class': limits.CLASS}
+PAIR_RANGES = {'N_A M': limits.N_A, 'N_V M': limits.N_V}
+FRAME_RANGES = dict(zip(FRAME, (limits.KIND, limits.CALCULATED_PERIOD, limits.R_RANGE, limits.I_VALUES, limits.ALPHA_Y)))
 
 
 def number_cases():
-    """Both sides of every limit of the site and frame lines."""
+    """Both sides of every limit of a site line of seven numbers and of the frame line."""
     for name, allowed in {**SITE_RANGES, **FRAME_RANGES}.items():
         yield from ([(FIELD[name], value)] for value in both_sides(allowed))
     yield from ([(FIELD['period'], value)] for value in (1, 2))
@@ -72,7 +77,7 @@ WRONG = {1: (FIELD['weights'], 0), 2: (FIELD['room'], 1), 3: (WEIGHTS + 1, 0), 4
 def pair_cases():
     """Every ordered pair of refusals 1 to 12 at once: the one that comes first is given."""
     yield from ([WRONG[first], WRONG[second]] for first in WRONG for second in WRONG if first != second)
-    yield from ([(FIELD[a], 0), (FIELD[b], 0)] for a, b in zip(NAMES[:4], NAMES[1:4]))
+    yield from ([(FIELD[a], 0), (FIELD[b], 0)] for a, b in zip(MAPPED, MAPPED[1:]))
     yield [(FIELD['N_A'], 99), (FIELD['N_V'], 99)]
 
 
@@ -96,6 +101,29 @@ def basin_cases():
     yield from ([BASIN, WRONG_ZONE, WRONG[number]] for number in (5, 6, 7))
 
 
+FACTOR_RANGES = {'N_A': limits.N_A, 'N_V': limits.N_V, **PAIR_RANGES}
+LOW_BITS = (2**16, 2**32, 2**63)
+
+
+def two_pair_cases():
+    """The near-fault factors of MCE: both sides of their limits, every two of the four factors at once, each with every other refusal. In the
+    Basin they play no part."""
+    for name, allowed in PAIR_RANGES.items():
+        yield from ([(FIELD[name], value)] for value in (0, *both_sides(allowed), *(allowed[0] + step for step in LOW_BITS)))
+    yield from ([(FIELD['N_A'], 150), (FIELD['N_V'], 200), (FIELD['N_A M'], value), (FIELD['N_V M'], value)] for value in (99, 100, 150, 151))
+    yield from ([(FIELD['N_A'], value), (FIELD['N_V'], value), (FIELD['N_A M'], 150), (FIELD['N_V M'], 200)] for value in (99, 100, 150, 151))
+    for one, other in itertools.permutations(FACTOR_RANGES, 2):
+        yield [(FIELD[one], FACTOR_RANGES[one][-1] + 1), (FIELD[other], 99)]
+    yield from ([(FIELD[name], 99) for name in FACTOR_RANGES if name != left_out] for left_out in FACTOR_RANGES)
+    yield [(FIELD[name], 99) for name in FACTOR_RANGES]
+    for name in PAIR_RANGES:
+        yield from ([(FIELD[name], 99), wrong] for number, wrong in WRONG.items() if number != 6)
+        yield from ([(FIELD[each], 0), (FIELD[name], 99)] for each in MAPPED)
+        yield [(FIELD[name], 99), WRONG[5], WRONG[7]]
+        yield from ([BASIN, (FIELD[name], value)] for value in (0, 99, MOST))
+        yield [BASIN, WRONG_ZONE, (FIELD[name], 99)]
+
+
 def said(field, value):
     """A change as the program writes it."""
     if field < len(NAMES):
@@ -107,17 +135,17 @@ def said(field, value):
 def outcome(changes):
     """What the model says of the good job so changed."""
     job = {**GOOD, **dict(changes)}
-    numbers = [job[place] for place in range(len(NAMES))]
-    weights = [job[WEIGHTS + i] for i in range(min(numbers[12], LISTED))]
-    heights = [job[HEIGHTS + i] for i in range(min(numbers[13], LISTED))]
-    ground = limits.Basin(job[FIELD['zone']]) if job[FIELD['ground']] == BASIN_GROUND else tuple(numbers[:7])
-    refusal = limits.judge(ground, tuple(numbers[7:12]), weights, heights, (numbers[14],))
+    weights, heights = ([job[first + i] for i in range(min(job[FIELD[name]], LISTED))]
+                        for name, first in (('weights', WEIGHTS), ('heights', HEIGHTS)))
+    site, frame = (tuple(job[FIELD[name]] for name in names) for names in (SITE, FRAME))
+    ground = limits.Basin(job[FIELD['zone']]) if job[FIELD['ground']] == BASIN_GROUND else site
+    refusal = limits.judge(ground, frame, weights, heights, (job[FIELD['room']],))
     return 'taken' if refusal is None else 'refused {} at {}'.format(*refusal)
 
 
 def all_cases():
     """Every list of changes to the good job."""
-    return [*number_cases(), *level_cases(), *pair_cases(), *basin_cases()]
+    return [*number_cases(), *level_cases(), *pair_cases(), *basin_cases(), *two_pair_cases()]
 
 
 def main():
