@@ -1,6 +1,8 @@
 """Writes the jobs that the definitions are put through: crates/vectors/specs/Rows.antt, from a seed.
 
-usage: python3 -m tests.writes.vectors [SEED [COUNT [BASIN]]] > crates/vectors/specs/Rows.antt        COUNT on sites, BASIN in the Basin
+usage: python3 -m tests.writes.vectors [SEED [COUNT [BASIN [PAIRS]]]] > crates/vectors/specs/Rows.antt
+
+COUNT jobs are on sites with one pair of near-fault factors for both levels, BASIN in the Basin, PAIRS on sites with a pair for each level.
 """
 
 import random
@@ -8,27 +10,29 @@ import sys
 from fractions import Fraction
 
 from tests.draws.basin import accepted_basin_jobs
+from tests.draws.pairs import accepted_pair_jobs
 from tests.draws.sample import accepted_jobs
 from tests.model import exact, limits
 from tests.model.job import job
 from tests.model.response import UNIT
+from tests.model.sheet import first_line
 
-SEED, COUNT, BASIN = 2005, 520, 100
+SEED, COUNT, BASIN, PAIRS = 2005, 520, 100, 80
 FINER = 10  # every so many rows the unit is ten-millionths
 FEW_LEVELS = 4
 CLASSES = {1: 'Hard', 2: 'Normal', 3: 'Soft'}
 ZONES = {1: 'One', 2: 'Two', 3: 'Three', 4: 'Four'}
 KINDS = {1: 'Steel', 2: 'Concrete', 3: 'Braced', 4: 'Other'}
 
-HEAD = """-- {count} jobs on sites and {basin} in the Basin with what the model of tests/ makes of them: data.
--- `python3 -m tests.writes.vectors {seed} {count} {basin}` writes it. A line a row: the unit; the site or the zone; the frame; weights;
--- heights; three fractions for the roots; the printed stages; the exact figures.
+HEAD = """-- {count} jobs on sites, {basin} in the Basin and {pairs} on sites with two pairs of near-fault factors, with what the model of tests/ makes
+-- of them: data. `python3 -m tests.writes.vectors {seed} {count} {basin} {pairs}` writes it. A line a row: the unit; the site or the zone;
+-- the frame; weights; heights; three fractions for the roots; the printed stages; the exact figures.
 use mathlib.Core.List.{{List, [], _∷_}}
 use Rattle.whole.specs.Fraction.{{over}}
 use Rattle.limits.specs.declared.class.Class.the-variants.{{Hard, Normal, Soft}}
 use Rattle.limits.specs.declared.kind.Kind.the-variants.{{Steel, Concrete, Braced, Other}}
 use Rattle.limits.specs.declared.zone.Zone.the-variants.{{One, Two, Three, Four}}
-use Rattle.vectors.specs.Vector.{{Vector, vector, basinVector, siteOf, frameOf, rootsOf}}
+use Rattle.vectors.specs.Vector.{{Vector, vector, basinVector, siteOf, siteOfPairs, frameOf, rootsOf}}
 
 unfoldable pub rows : List Vector
 rows ="""
@@ -75,8 +79,9 @@ def maker(s, ground):
     """How a row begins: what makes the vector, its unit, and the site or the zone."""
     if isinstance(ground, limits.Basin):
         return f'basinVector {s} {ZONES[ground.zone]}'
-    *mapped, number = ground
-    return f'vector {s} (siteOf {" ".join(map(str, mapped))} {CLASSES[number]})'
+    _, *numbers, cls = first_line(ground)
+    name = 'siteOfPairs' if limits.of_two_pairs(ground) else 'siteOf'
+    return f'vector {s} ({name} {" ".join(map(str, numbers))} {CLASSES[cls]})'
 
 
 def worked(seed, jobs):
@@ -89,10 +94,11 @@ def worked(seed, jobs):
         yield result, [some_root(rng, each.lower_root, each.upper_root, s) for each in (result.design, result.mce, result.star)]
 
 
-def all_worked(seed=SEED, count=COUNT, basin=BASIN):
-    """Those on sites, then those in the Basin."""
+def all_worked(seed=SEED, count=COUNT, basin=BASIN, pairs=PAIRS):
+    """Those on sites, those in the Basin, those with two pairs."""
     yield from worked(seed, accepted_jobs(seed, count))
     yield from worked(seed, accepted_basin_jobs(seed, basin))
+    yield from worked(seed, accepted_pair_jobs(seed, pairs))
 
 
 def row(result, roots):
@@ -109,10 +115,10 @@ def row(result, roots):
     ))
 
 
-def main(seed=SEED, count=COUNT, basin=BASIN):
+def main(seed=SEED, count=COUNT, basin=BASIN, pairs=PAIRS):
     """Write the file."""
-    print(HEAD.format(seed=seed, count=count, basin=basin))
-    for each in all_worked(seed, count, basin):
+    print(HEAD.format(seed=seed, count=count, basin=basin, pairs=pairs))
+    for each in all_worked(seed, count, basin, pairs):
         print('    ' + row(*each) + ' ∷')
     print('    []')
 

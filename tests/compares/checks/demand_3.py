@@ -1,11 +1,12 @@
-"""Demand 3 on random accepted jobs of sites and of the Basin, in either unit, and what ties the storeys together."""
+"""Demand 3 on random accepted jobs of sites, of the Basin and with two pairs, in either unit, and what ties the storeys together."""
 
 from tests.draws.basin import accepted_basin_jobs
+from tests.draws.pairs import accepted_pair_jobs
 from tests.draws.sample import accepted_jobs
 from tests.model import exact
 from tests.model.job import job
 
-SEED, COUNT, BASIN = 20, 300, 200
+SEED, COUNT, BASIN, PAIRS = 20, 300, 200, 250
 FINER = 10**7
 FEW_DIGITS = 2
 
@@ -30,7 +31,8 @@ def tied(inputs):
 
 def checks():
     """Demand 3 on the sample."""
-    for number, (name, *inputs) in enumerate((*accepted_jobs(SEED, COUNT), *accepted_basin_jobs(SEED, BASIN))):
+    jobs = (*accepted_jobs(SEED, COUNT), *accepted_basin_jobs(SEED, BASIN), *accepted_pair_jobs(SEED, PAIRS))
+    for number, (name, *inputs) in enumerate(jobs):
         yield f'demand 3, job {number}, {name}', lambda inputs=inputs: held(inputs, 10**6), True
         yield f'demand 3 in 10^-7, job {number}, {name}', lambda inputs=inputs: held(inputs, FINER), True
         yield f'storeys, job {number}, {name}', lambda inputs=inputs: tied(inputs), (True, True, True)
