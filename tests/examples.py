@@ -20,7 +20,7 @@ EXAMPLES = ROOT / 'examples'
 GIVEN = os.environ.get('RUKESHOMAJI_LIBRARY')
 ARCHIVE = 'target/lib/librukeshomaji.a'
 STRICT = {'cc ': 'cc -std=c99 -Wall -Wextra -pedantic -Werror ', 'c++ ': 'c++ -std=c++11 -Wall -Wextra -pedantic -Werror '}
-SITE, FRAME = (80, 45, 100, 55, 100, 100, 1), (2, 1000, 480, 100, 150)
+SITE, FRAME = (80, 45, 100, 55, 100, 100, 100, 100, 1), (2, 1000, 480, 100, 150)
 WEIGHTS, HEIGHTS = [5000] * 3, [100, 200, 300]
 
 
@@ -84,8 +84,8 @@ def refusals(core):
     yield 3, 2, job(weights=[5000, 20_001, 5000])
     yield 4, 3, job(heights=[100, 200, 200])
     yield from ((5, place + 1, job(with_number(SITE, place, 75))) for place in (0, 1, 2, 3))
-    yield from ((6, place - 3, job(with_number(SITE, place, 99))) for place in (4, 5))
-    yield 7, 0, job(with_number(SITE, 6, 4))
+    yield from ((6, place - 3, job(with_number(SITE, place, 99))) for place in (4, 5, 6, 7))
+    yield 7, 0, job(with_number(SITE, 8, 4))
     yield from ((number, 0, job(frame=with_number(FRAME, place, 99_999))) for number, place in ((8, 2), (9, 3), (10, 4), (11, 0), (12, 1)))
     yield 13, 0, log([], [], [])
     yield 14, 2, log([3000, 0], [2, 2], [2, 2])

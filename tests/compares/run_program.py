@@ -22,6 +22,7 @@ from tests.model import sheet
 ROOT = pathlib.Path(__file__).resolve().parents[2]
 SECONDS = 60
 END = b'\x04'          # what Ctrl-D sends
+TWO_PAIRS = b'site\t80\t45\t100\t55\t120\t150\t110\t130\t1\n'
 
 
 def run(pieces):
@@ -145,8 +146,12 @@ def cases():
     yield 'a sheet of the Basin', run, [basin], answer(sheet.shear(basin))
     yield 'a sheet of the Basin byte by byte', run, bytes_of(basin), answer(sheet.shear(basin))
     yield 'a basin line alone', run, [b'basin\t3\n'], answer(b'refused\t16\t2\n', 'the sheet ends before it')
-    for name, data in (*refused(worked), *((f'Basin, {name}', data) for name, data in refused(basin))):
-        yield f'refused: {name}', run, [data], answer(sheet.shear(data))
+    near = TWO_PAIRS + worked.split(b'\n', 1)[1]
+    yield 'a sheet with two pairs', run, [near], answer(sheet.shear(near))
+    yield 'a sheet with two pairs byte by byte', run, bytes_of(near), answer(sheet.shear(near))
+    for before, good in (('', worked), ('Basin, ', basin), ('two pairs, ', near)):
+        for name, data in refused(good):
+            yield f'refused: {before}{name}', run, [data], answer(sheet.shear(data))
     endless = itertools.chain([worked], itertools.repeat(b'level\t1\t1\n'))
     yield 'a sheet, then level lines without end', run, endless, answer(b'refused\t17\t0\n')
     yield 'zero bytes without end', run, itertools.repeat(b'\0' * 512), answer(b'refused\t17\t0\n')
