@@ -2,10 +2,10 @@
 
 usage: python3 -m tests.compares.compare [JOBS [BAD [LOGS [SHEETS [SEED [BASIN [BASIN_BAD [PAIRS [PAIRS_BAD]]]]]]]]]
 
-JOBS and BAD are on sites with one pair of near-fault factors for both levels, PAIRS and PAIRS_BAD on sites with a pair for each; a quarter of
-the SHEETS is of the Basin, and a quarter has two pairs. It prints the count of each stratum, the largest excess over the exact figure of demand 3
-on sites, in the Basin and with two pairs, and the number of differences; on standard error it says how far it is. It needs x86-64, or
-RUKESHOMAJI_LIBRARY, a shared library of the core for the machine at hand.
+JOBS and BAD are on sites with one pair of near-fault factors for both levels, PAIRS and PAIRS_BAD on sites with a pair for each; a quarter
+of the SHEETS is of the Basin, and a quarter has two pairs. It prints the count of each stratum, the largest excess over the exact figure of
+demand 3 on sites, in the Basin and with two pairs, and the number of differences; on standard error it says how far it is. It needs x86-64,
+or RUKESHOMAJI_LIBRARY, a shared library of the core for the machine at hand.
 """
 
 import random

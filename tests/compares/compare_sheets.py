@@ -55,7 +55,8 @@ def run_both_ways(library, tally, seed, count):
         job = draw(rng)
         seven, nine = sheet.write(*job), sheet.write(*job, in_full=True)
         assert (numbers_on_line_1(seven), numbers_on_line_1(nine)) == (7, 9)
-        tally.compare('sheet, the same by 7 numbers and by 9', nine, compare_sheet(tally, library, nine), compare_sheet(tally, library, seven))
+        by_seven, by_nine = (compare_sheet(tally, library, data) for data in (seven, nine))
+        tally.compare('sheet, the same by 7 numbers and by 9', nine, by_nine, by_seven)
         for data in (seven, nine):
             more = damage.one_number_more(rng, data)
             said, _, _ = compare_sheet(tally, library, more)

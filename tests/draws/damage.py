@@ -44,8 +44,9 @@ def one_number_less(rng, data):
 
 
 def drawn(rng):
-    """A sheet of a drawn job, one in four of the Basin and one with two pairs, sound or with one to three damages; half of those with one pair
-    for both levels in full; one in ten with a number more or less on line 1; one in fifty as long as a sheet may be, or a little longer."""
+    """A sheet of a drawn job, one in four of the Basin and one with two pairs, sound or with one to three damages; half of those with one
+    pair for both levels in full; one in ten with a number more or less on line 1; one in fifty as long as a sheet may be, or a little
+    longer."""
     data = sheet.write(*draw(rng, rng.choice((draw_site, draw_site, draw_basin, draw_pairs))), in_full=rng.random() < 0.5)
     if rng.random() < 0.1:
         data = rng.choice((one_number_more, one_number_less))(rng, data)

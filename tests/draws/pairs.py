@@ -1,7 +1,7 @@
 """Strata of jobs on sites with two pairs of near-fault factors, one for the design level and one for the MCE level; bad jobs of such sites.
 
-In every stratum the pairs differ in one factor or in both. S of a level is on, below or above a column of Table 2 by that level's own factor,
-and T is beside a corner that no other pair gives.
+In every stratum the pairs differ in one factor or in both. S of a level is on, below or above a column of Table 2 by that level's own
+factor, and T is beside a corner that no other pair gives.
 """
 
 import itertools
@@ -122,7 +122,8 @@ def plain_strata():
 
 
 def accepted_pair_jobs(seed, count):
-    """Yield (stratum name, ground, frame, weights, heights) `count` times: the plain strata in turn, or spread over them where there are more."""
+    """Yield (stratum name, ground, frame, weights, heights) `count` times: the plain strata in turn, or some of them, evenly spread, where
+    there are more strata than jobs."""
     rng, strata = random.Random(seed), plain_strata()
     for number in range(count):
         stratum = strata[number % len(strata) if count >= len(strata) else number * len(strata) // count]

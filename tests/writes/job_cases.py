@@ -2,8 +2,8 @@
 
 usage: python3 -m tests.writes.job_cases        rewrites crates/run_jobs/stdin and crates/run_jobs/stdout
 
-The first line of stdin is the count of cases. Every other line is a case: what the ground is, nine numbers of it, five of the frame, the counts of
-weights and of heights, the lengths of three buffers and what a cell of each holds; then the weights and the heights.
+The first line of stdin is the count of cases. Every other line is a case: what the ground is, nine numbers of it, five of the frame, the
+counts of weights and of heights, the lengths of three buffers and what a cell of each holds; then the weights and the heights.
 """
 
 import pathlib

@@ -1,4 +1,5 @@
-"""The sheets with a pair of near-fault factors for each level among those of the program `run_sheets`, and line 1 with other counts of numbers."""
+"""The sheets with a pair of near-fault factors for each level among those of the program `run_sheets`, and line 1 with other counts of
+numbers."""
 
 import random
 
@@ -32,7 +33,8 @@ def put(place, text):
 def both_ways():
     """Each pair for each level, by nine numbers; one pair for both by seven and by nine."""
     for name, first, second in (('near', FIRST, SECOND), ('turned', SECOND, FIRST), ('design_alone', FIRST, (100, 100)),
-                                ('mce_alone', (100, 100), FIRST), ('largest', (150, 200), (150, 199)), ('largest_mce', (149, 200), (150, 200))):
+                                ('mce_alone', (100, 100), FIRST), ('largest', (150, 200), (150, 199)),
+                                ('largest_mce', (149, 200), (150, 200))):
         yield name, line_of((*MAPPED, *first, *second, CLASS)) + REST
     for name, pair in (('none', (100, 100)), ('first', FIRST), ('second', SECOND)):
         yield f'{name}_by_seven', line_of((*MAPPED, *pair, CLASS)) + REST
@@ -53,7 +55,7 @@ def counts():
 
 
 def out_of_range():
-    """Each of the nine numbers at 0 and at its most digits; both sides of each factor; two factors at once; seven numbers with a bad pair."""
+    """Each of the nine numbers at 0 and with nine digits; both sides of each factor; two factors at once; seven numbers with a bad pair."""
     for place, name in enumerate(limits.Site._fields):
         yield f'{name}_0', put(place, b'0') + REST
         yield f'{name}_nine_digits', put(place, b'999999999') + REST
@@ -64,7 +66,8 @@ def out_of_range():
     bad |= {'SSM_and_NAM': {'SSM': 60, 'NAM': 99}, 'NVM_and_class': {'NVM': 99, 'cls': 4}, 'NA_160_NV_160': {'NA': 160, 'NV': 160},
             'NAM_160_NVM_160': {'NAM': 160, 'NVM': 160}, 'every_factor': dict.fromkeys(FACTORS, 99)}
     yield from ((f'bad_{name}', line_of(NEAR._replace(**changes)) + REST) for name, changes in bad.items())
-    for name, pair in (('NA', (99, 100)), ('NV', (100, 99)), ('NA_151', (151, 100)), ('NV_201', (100, 201)), ('both', (99, 99)), ('160', (160, 160))):
+    for name, pair in (('NA', (99, 100)), ('NV', (100, 99)), ('NA_151', (151, 100)), ('NV_201', (100, 201)), ('both', (99, 99)),
+                       ('160', (160, 160))):
         yield f'by_seven_bad_{name}', line_of((*MAPPED, *pair, CLASS)) + REST
 
 

@@ -106,12 +106,13 @@ LOW_BITS = (2**16, 2**32, 2**63)
 
 
 def two_pair_cases():
-    """The near-fault factors of MCE: both sides of their limits, every two of the four factors at once, each with every other refusal. In the
-    Basin they play no part."""
+    """The near-fault factors of MCE: both sides of their limits, every two of the four factors at once, each with every other refusal. In
+    the Basin they play no part."""
     for name, allowed in PAIR_RANGES.items():
         yield from ([(FIELD[name], value)] for value in (0, *both_sides(allowed), *(allowed[0] + step for step in LOW_BITS)))
-    yield from ([(FIELD['N_A'], 150), (FIELD['N_V'], 200), (FIELD['N_A M'], value), (FIELD['N_V M'], value)] for value in (99, 100, 150, 151))
-    yield from ([(FIELD['N_A'], value), (FIELD['N_V'], value), (FIELD['N_A M'], 150), (FIELD['N_V M'], 200)] for value in (99, 100, 150, 151))
+    design, mce = (FIELD['N_A'], FIELD['N_V']), (FIELD['N_A M'], FIELD['N_V M'])
+    for largest, same in ((design, mce), (mce, design)):
+        yield from (sorted((*zip(largest, (150, 200)), *((field, value) for field in same))) for value in (99, 100, 150, 151))
     for one, other in itertools.permutations(FACTOR_RANGES, 2):
         yield [(FIELD[one], FACTOR_RANGES[one][-1] + 1), (FIELD[other], 99)]
     yield from ([(FIELD[name], 99) for name in FACTOR_RANGES if name != left_out] for left_out in FACTOR_RANGES)

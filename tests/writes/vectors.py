@@ -24,9 +24,9 @@ CLASSES = {1: 'Hard', 2: 'Normal', 3: 'Soft'}
 ZONES = {1: 'One', 2: 'Two', 3: 'Three', 4: 'Four'}
 KINDS = {1: 'Steel', 2: 'Concrete', 3: 'Braced', 4: 'Other'}
 
-HEAD = """-- {count} jobs on sites, {basin} in the Basin and {pairs} on sites with two pairs of near-fault factors, with what the model of tests/ makes
--- of them: data. `python3 -m tests.writes.vectors {seed} {count} {basin} {pairs}` writes it. A line a row: the unit; the site or the zone;
--- the frame; weights; heights; three fractions for the roots; the printed stages; the exact figures.
+HEAD = """-- {count} jobs on sites, {basin} in the Basin and {pairs} on sites with two pairs of near-fault factors, with what the model of
+-- tests/ makes of them: data. `python3 -m tests.writes.vectors {seed} {count} {basin} {pairs}` writes it. A line a row: the unit; the site
+-- or the zone; the frame; weights; heights; three fractions for the roots; the printed stages; the exact figures.
 use mathlib.Core.List.{{List, [], _∷_}}
 use Rattle.whole.specs.Fraction.{{over}}
 use Rattle.limits.specs.declared.class.Class.the-variants.{{Hard, Normal, Soft}}

@@ -1,6 +1,6 @@
--- 520 jobs on sites, 100 in the Basin and 80 on sites with two pairs of near-fault factors, with what the model of tests/ makes
--- of them: data. `python3 -m tests.writes.vectors 2005 520 100 80` writes it. A line a row: the unit; the site or the zone;
--- the frame; weights; heights; three fractions for the roots; the printed stages; the exact figures.
+-- 520 jobs on sites, 100 in the Basin and 80 on sites with two pairs of near-fault factors, with what the model of
+-- tests/ makes of them: data. `python3 -m tests.writes.vectors 2005 520 100 80` writes it. A line a row: the unit; the site
+-- or the zone; the frame; weights; heights; three fractions for the roots; the printed stages; the exact figures.
 use mathlib.Core.List.{List, [], _∷_}
 use Rattle.whole.specs.Fraction.{over}
 use Rattle.limits.specs.declared.class.Class.the-variants.{Hard, Normal, Soft}

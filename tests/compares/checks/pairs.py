@@ -1,7 +1,8 @@
 """Two pairs of near-fault factors: figures worked by hand with each level's own pair, what a pair moves and what it leaves, places, sheets.
 
-The worked sheet near a fault, N_A 1.20 and N_V 1.50 for one level, 1.10 and 1.30 for the other, on hard ground at T = 1000 ms. With the first for
-design S_S = 80*120 = 9600 and S_1 = 45*150 = 6750, Sa = 0.675 g; with the second for MCE S_S = 100*110 and S_1 = 55*130, Sa = 0.715 g.
+The worked sheet near a fault, N_A 1.20 and N_V 1.50 for one level, 1.10 and 1.30 for the other, on hard ground at T = 1000 ms. With the
+first for design S_S = 80*120 = 9600 and S_1 = 45*150 = 6750, Sa = 0.675 g; with the second for MCE S_S = 100*110 and S_1 = 55*130,
+Sa = 0.715 g.
 """
 
 from fractions import Fraction
@@ -51,10 +52,12 @@ LINES_1 = {
     NINE % (100, 100, 100, 99): (6, 4), NINE % (100, 100, 160, 160): (6, 3), NINE % (150, 200, 151, 201): (6, 3),
     NINE % (150, 200, 150, 201): (6, 4), NINE.replace(b'\t100', b'\t60') % (100, 100, 99, 99): (5, 3),
     NINE.replace(b'\t1\n', b'\t4\n') % (100, 100, 100, 99): (6, 4), NINE.replace(b'\t1\n', b'\t4\n') % (100, 100, 100, 100): (7, 0),
-    (SEVEN % (100, 100))[:-1] + b'\t1\n': (16, 1), (SEVEN % (100, 100))[:-1] + b'\t3\n': (16, 1), (SEVEN % (99, 99))[:-1] + b'\t100\n': (16, 1),
+    (SEVEN % (100, 100))[:-1] + b'\t1\n': (16, 1), (SEVEN % (100, 100))[:-1] + b'\t3\n': (16, 1),
+    (SEVEN % (99, 99))[:-1] + b'\t100\n': (16, 1),
     (NINE % (100, 100, 100, 100))[:-1] + b'\t1\n': (16, 1), (NINE % (100, 100, 99, 99))[:-1] + b'\t1\n': (16, 1),
     (NINE % (100, 100, 100, 100))[:-3] + b'\n': (16, 1), (NINE % (100, 100, 100, 100))[:-1] + b'\t\n': (16, 1),
-    NINE.replace(b'site', b'basin') % (100, 100, 100, 100): (16, 1), b'site' + b'\t100' * 6 + b'\n': (16, 1), b'site' + b'\t100' * 11 + b'\n': (16, 1),
+    NINE.replace(b'site', b'basin') % (100, 100, 100, 100): (16, 1), b'site' + b'\t100' * 6 + b'\n': (16, 1),
+    b'site' + b'\t100' * 11 + b'\n': (16, 1),
     b'site\t80\t45\t100\t55\t100\t100\t0100\t100\t1\n': (16, 1), b'site\t80\t45\t100\t55\t100\t100\t100\t1000000100\t1\n': (16, 1),
 }
 
