@@ -3,7 +3,7 @@
 --   nearFault na nv nam nvm    the job of the worked sheet with these factors
 -- Assumes nothing.
 use mathlib.Core.Path.{_≡_, refl}
-use mathlib.Core.List.{List, [], _∷_}
+use mathlib.Core.List.{[], _∷_}
 use Prim.Native.Nat.{ℕ}
 use Rattle.whole.specs.Cells.{cells, sum}
 use Rattle.whole.specs.Line.{between}

@@ -1,9 +1,10 @@
 -- Line 1 of a sheet, as the code takes it: by the first of the layouts that it fits. What a layout more costs is one of the two laws.
 -- Assumes nothing.
-use mathlib.Core.Path.{_≡_, refl, sym, ap, _∙_}
-use mathlib.Core.List.{List, [], _∷_}
+use mathlib.Core.Path.{_≡_, sym, ap, _∙_}
+use mathlib.Core.List.{List, [], _∷_, _++_}
 use Prim.Native.Nat.{ℕ}
-use lib.ListN.{length, getD}
+use native.Mathlib.Nat.{zero-add}
+use lib.ListN.{length, getD, drop}
 use Rattle.whole.specs.Cells.{laid}
 use Rattle.limits.specs.declared.ground.GroundValues.{GroundValues}
 use Rattle.limits.specs.declared.ground.GroundValues.the-variants.{Site, Basin}
@@ -11,9 +12,11 @@ use Rattle.limits.specs.declared.site.SiteValues.{SiteValues}
 use Rattle.text.specs.declared.reading.Cursor.{Cursor}
 use Rattle.text.specs.Line.{line, blank}
 use Rattle.text.specs.Reading.{otherwise, starts}
+use Rattle.text.specs.Writing.{laidOut}
 use Rattle.text.proofs.Back.{line-back}
 use Rattle.text.proofs.Readings.{LineWent}
 use Rattle.text.proofs.Stored.{in-cells}
+use Rattle.text.proofs.Trip.{line-read}
 use Rattle.sheet.specs.declared.reader.GroundLineAnswer.{GroundLineAnswer}
 use Rattle.sheet.specs.declared.reader.GroundLineAnswer.the-variants.{Found, Otherwise}
 use Rattle.sheet.specs.Layouts.{Layout}
@@ -25,20 +28,40 @@ use Rattle.sheet.proofs.Fitting.{front, line-fits, line-not, no-more}
 abbrev pub start : Cursor
 start = record { at = 0 }
 
+-- ---- a line that was read: its numbers, and how many bytes it has
+module _ (k : Layout) (s : List ℕ) {second : Cursor} {held : List ℕ} (went : LineWent start second (line (k .word) (k .numbers) s) held) where
+  count-is : length (went .numbers) ≡ k .numbers
+  count-is = line-back (k .word) (k .numbers) s (went .numbers) (went .went .used) (went .went .is) .2 .count
+
+  ends-there : second .at ≡ length (laidOut (k .word) (went .numbers))
+  ends-there =
+      let ns = went .numbers in
+      let b = line-back (k .word) (k .numbers) s ns (went .went .used) (went .went .is) in
+      let is = b .1 ∙ ap (λ (y : List ℕ). y ++ drop (went .went .used) s) (b .2 .is) in
+      let read = line-read (k .word) ns (drop (went .went .used) s) (b .2 .short) in
+      let both =
+      sym (went .went .is) ∙ ap (line (k .word) (k .numbers)) is
+      ∙ ap (λ (n : ℕ). line (k .word) n (laidOut (k .word) ns ++ drop (went .went .used) s)) (sym (b .2 .count)) ∙ read in
+      let used : went .went .used ≡ length (laidOut (k .word) ns) = cc in
+      sym (ap (λ (c : Cursor). c .at) (went .went .to)) ∙ zero-add (went .went .used) ∙ used
+
+-- ---- layout by layout
 module _ (k : Layout) (ks : List Layout) (s : List ℕ) where
-  -- the first layout fits
+  -- the first fits
   first-fits : {second : Cursor} {held : List ℕ} {g : GroundValues} (went : LineWent start second (line (k .word) (k .numbers) s) held)
       → groundOf (front k (went .numbers) s .line) ≡ g → GroundAnswers (k ∷ ks) s (Found g second)
   first-fits {second} went holds =
       record {
         line = front k (went .numbers) s .line;
         at = line-fits 1 k ks s {c = start} {c′ = second} {ns = went .numbers} (went .went);
+        ends = ends-there k s went;
         holds = holds;
       }
 
   -- it does not, and the others are left
   pub others-left : (a : GroundLineAnswer) → line (k .word) (k .numbers) s ≡ otherwise → GroundAnswers ks s a → GroundAnswers (k ∷ ks) s a
-  others-left (Found g second) o t = record { line = t .line; at = line-not 1 k ks s o ∙ t .at; holds = t .holds }
+  others-left (Found g second) o t =
+      record { line = t .line; at = line-not 1 k ks s o ∙ t .at; ends = t .ends; holds = t .holds }
   others-left Otherwise o t = line-not 1 k ks s o ∙ t
 
 pub none-left : (s : List ℕ) → GroundAnswers [] s Otherwise
@@ -46,16 +69,13 @@ none-left s = no-more 1 s
 
 -- ---- what a line of each layout holds, by the cells that the code reads it into
 module _ (s : List ℕ) {second : Cursor} {held : List ℕ} where
-  count-is : (k : Layout) (went : LineWent start second (line (k .word) (k .numbers) s) held) → length (went .numbers) ≡ k .numbers
-  count-is k went = line-back (k .word) (k .numbers) s (went .numbers) (went .went .used) (went .went .is) .2 .count
-
   pub one-pair-found : (ks : List Layout) (went : LineWent start second (line (onePairLayout .word) 7 s) held) {v : SiteValues}
       → v ≡ siteValues (pairTwice held) → GroundAnswers (onePairLayout ∷ ks) s (Found (Site v) second)
   unfolding starts
   one-pair-found ks went {v} e =
       let ns = went .numbers in
       first-fits onePairLayout ks s went
-      (rw (count-is onePairLayout went) (ap Site (sym (e ∙ ap (λ (l : List ℕ). siteValues (pairTwice l)) (went .held-is) ∙ one-held ns))))
+      (rw (count-is onePairLayout s went) (ap Site (sym (e ∙ ap (λ (l : List ℕ). siteValues (pairTwice l)) (went .held-is) ∙ one-held ns))))
     where
       one-held : (ns : List ℕ) → siteValues (pairTwice (laid ns blank)) ≡ siteValues (pairTwice ns)
       one-held ns =
@@ -67,7 +87,7 @@ module _ (s : List ℕ) {second : Cursor} {held : List ℕ} where
   two-pairs-found ks went {v} e =
       let ns = went .numbers in
       first-fits twoPairsLayout ks s went
-      (rw (count-is twoPairsLayout went) (ap Site (sym (e ∙ ap siteValues (went .held-is) ∙ two-held ns))))
+      (rw (count-is twoPairsLayout s went) (ap Site (sym (e ∙ ap siteValues (went .held-is) ∙ two-held ns))))
     where
       two-held : (ns : List ℕ) → siteValues (laid ns blank) ≡ siteValues ns
       two-held ns =

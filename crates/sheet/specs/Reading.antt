@@ -33,7 +33,7 @@ use Rattle.sheet.specs.declared.levels.LevelsRead.{LevelsRead}
 use Rattle.sheet.specs.declared.reader.SheetAnswer.{SheetAnswer}
 use Rattle.sheet.specs.declared.reader.SheetAnswer.the-variants.{Taken, Refused}
 use Rattle.sheet.specs.declared.reader.SheetRead.{SheetRead}
-use Rattle.sheet.specs.Layouts.{Layout, Line}
+use Rattle.sheet.specs.Layouts.{Layout, Line, lineLaid}
 use Rattle.sheet.specs.Lines.{lineIn, readFrom}
 use Rattle.sheet.specs.Sheet.{sheetForm, levelForm, groundOf, Levels, levelsOf, Sheet, sheetOf}
 
@@ -64,6 +64,7 @@ cellsOf l = laid (kept l) (zeros keptMost)
 pub record FirstLine (ks : List Layout) (s : List ℕ) (g : GroundValues) (second : Cursor) : Type 0 where
   pub line : Line
   pub at : lineIn 1 ks s ≡ accepted (record { line = line; rest = drop (second .at) s })
+  pub ends : second .at ≡ length (lineLaid line)
   pub holds : groundOf line ≡ g
 
 abbrev pub GroundAnswers : List Layout → List ℕ → GroundLineAnswer → Type 0

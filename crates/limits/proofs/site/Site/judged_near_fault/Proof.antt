@@ -34,7 +34,11 @@ returns-2 : tie.Need-returns-2
 unfolding judgedNearFault
 returns-2 c =
     let c₁ = c .before .before .before in
-    simp (says verdictOutcome (c₁ .before .before .judged-na .ensures) (c₁ .enum-told .given .1), says verdictOutcome (c .before .before .judged-nv .ensures) (c .enum-told4 .given .1)) (ap verdictOutcome (c .enum-told4 .given .1))
+    simp (
+      says verdictOutcome (c₁ .before .before .judged-na .ensures) (c₁ .enum-told .given .1),
+      says verdictOutcome (c .before .before .judged-nv .ensures) (c .enum-told4 .given .1),
+    )
+    (ap verdictOutcome (c .enum-told4 .given .1))
 
 judged-na-requires-2 : tie.Need-judged-na-requires-2
 judged-na-requires-2 c κs = search needs
@@ -50,7 +54,12 @@ unfolding judgedNearFault
 returns-3 c =
     let c₂ = c .before .before .before in
     let c₁ = c₂ .before .before .before in
-    simp (says verdictOutcome (c₁ .before .before .judged-na .ensures) (c₁ .enum-told .given .1), says verdictOutcome (c₂ .before .before .judged-nv .ensures) (c₂ .enum-told3 .given .1), says verdictOutcome (c .before .before .judged-na2 .ensures) (c .enum-told6 .given .1)) (ap verdictOutcome (c .enum-told6 .given .1))
+    simp (
+      says verdictOutcome (c₁ .before .before .judged-na .ensures) (c₁ .enum-told .given .1),
+      says verdictOutcome (c₂ .before .before .judged-nv .ensures) (c₂ .enum-told3 .given .1),
+      says verdictOutcome (c .before .before .judged-na2 .ensures) (c .enum-told6 .given .1),
+    )
+    (ap verdictOutcome (c .enum-told6 .given .1))
 
 judged-nv-requires-2 : tie.Need-judged-nv-requires-2
 judged-nv-requires-2 c κs = search needs
@@ -61,7 +70,12 @@ returns-4 c =
     let c₃ = c .before in
     let c₂ = c₃ .before .before .before in
     let c₁ = c₂ .before .before .before in
-    simp (says verdictOutcome (c₁ .before .before .judged-na .ensures) (c₁ .enum-told .given .1), says verdictOutcome (c₂ .before .before .judged-nv .ensures) (c₂ .enum-told3 .given .1), says verdictOutcome (c₃ .before .before .judged-na2 .ensures) (c₃ .enum-told5 .given .1)) (c .judged-nv2 .ensures)
+    simp (
+      says verdictOutcome (c₁ .before .before .judged-na .ensures) (c₁ .enum-told .given .1),
+      says verdictOutcome (c₂ .before .before .judged-nv .ensures) (c₂ .enum-told3 .given .1),
+      says verdictOutcome (c₃ .before .before .judged-na2 .ensures) (c₃ .enum-told5 .given .1),
+    )
+    (c .judged-nv2 .ensures)
 
 pub judged-near-fault-spec : {M : Type 1} → statement M
 judged-near-fault-spec =
