@@ -29,6 +29,11 @@ def decimal(number, digits=3):
     return text + more if more else text.rstrip('0').rstrip('.')
 
 
+def hundredths(number):
+    """A whole number of hundredths with its two digits."""
+    return f'{number // 100}.{number % 100:02}'
+
+
 def table(head, rows):
     """A table in Markdown."""
     lines = ['| ' + ' | '.join(row) + ' |' for row in (head, *rows)]
@@ -365,8 +370,7 @@ def moments(worked):
 def site_names(worked):
     """What a page on a sheet of a site may name besides."""
     site = worked.ground
-    return {'site_table': site_table(worked), 'site': CLASS_NAMES[site.cls], 'NA': f'{site.NA // 100}.{site.NA % 100:02}',
-            'NV': f'{site.NV // 100}.{site.NV % 100:02}'}
+    return {'site_table': site_table(worked), 'site': CLASS_NAMES[site.cls], 'NA': hundredths(site.NA), 'NV': hundredths(site.NV)}
 
 
 def x_fraction(worked):

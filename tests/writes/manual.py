@@ -13,7 +13,7 @@ from math import ceil
 
 from tests.model import exact, limits, soil, storeys
 from tests.model.sheet import listing
-from tests.writes import by_hand
+from tests.writes import by_hand, near_fault
 from tests.writes.by_hand import code, comma, decimal, table
 
 ROOT = pathlib.Path(__file__).resolve().parents[2]
@@ -81,7 +81,7 @@ def soil_names():
 
 def rounding_names():
     """What the page on roundings names."""
-    worked, other, basin = (by_hand.read(example(name)) for name in ('office', 'soft_ground', 'basin'))
+    worked, other, near, basin = (by_hand.read(example(name)) for name in ('office', 'soft_ground', 'near_fault', 'basin'))
     unit = exact.shear_unit(other) / other.s
     frame = other.frame
     _, above = exact.bounds(other)
@@ -95,7 +95,7 @@ def rounding_names():
     I, alphay = decimal(Fraction(frame.I, 100)), decimal(Fraction(frame.alphay, 100))
     millionth = code([f'{I} · {comma(other.W)} kN · 1000 / (1.4 · {alphay}) / 10⁶ = {decimal(unit)} N'])
     shears = []
-    for name, each in (('worked sheet', worked), ('second sheet', other), ('Basin sheet', basin)):
+    for name, each in (('worked sheet', worked), ('second sheet', other), ('near-fault sheet', near), ('Basin sheet', basin)):
         below, _ = exact.bounds(each)
         margin = 6 * exact.shear_unit(each) / each.s + 1
         shears.append((name, 'V_D', comma(each.V_D), decimal(below.V_D), decimal(each.V_D - below.V_D), decimal(margin)))
@@ -149,7 +149,8 @@ def filled(page, names):
 def written():
     """Each page that is filled, by its name."""
     pages = {'worked.md': by_hand.names(example('office')), 'soft_ground.md': by_hand.names(example('soft_ground')),
-             'basin.md': by_hand.names(example('basin')), 'rounding.md': rounding_names(), 'soil.md': soil_names()}
+             'near_fault.md': near_fault.names(example('near_fault')), 'basin.md': by_hand.names(example('basin')),
+             'rounding.md': rounding_names(), 'soil.md': soil_names()}
     assert {path.name for path in PAGES.iterdir()} == pages.keys()
     return {page: filled(page, names) for page, names in pages.items()}
 

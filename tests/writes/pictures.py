@@ -9,12 +9,13 @@ import sys
 from fractions import Fraction
 from xml.sax.saxutils import escape
 
-from tests.model import basin as basins, response, site as sites
+from tests.model import basin as basins, limits, response, site as sites
 from tests.model.job import job
 
 ROOT = pathlib.Path(__file__).resolve().parents[2]
 PICTURES = ROOT / 'docs' / 'manual' / 'pictures'
 SHEET, LISTING = ROOT / 'examples' / 'office.sheet', ROOT / 'examples' / 'office.listing'
+NEAR_FAULT = ROOT / 'examples' / 'near_fault.sheet'
 BLUE, RED, GREEN, GREY, BLACK = '#0072b2', '#d55e00', '#00795a', '#707070', '#000000'
 CLASSES = ((1, 'hard', BLUE, ''), (2, 'normal', GREEN, '12 6'), (3, 'soft', RED, '3 5'))
 ZONES = ((1, BLUE, ''), (2, GREEN, '12 6'), (3, RED, '3 5'), (4, BLACK, '14 5 3 5'))
@@ -246,17 +247,20 @@ def storeys():
     return picture.svg()
 
 
-def classes():
-    """V, V_M, V* and V_D of the worked sheet, with the site class changed to 2 and 3."""
-    site, frame, *levels = [tuple(map(int, line.split('\t')[1:])) for line in SHEET.read_text().splitlines()]
-    weights, heights = [list(each) for each in zip(*levels)]
-    picture = Picture(960, 600, 'What the site class does to the base shear')
-    picture.words(130, 36, 'The worked sheet on a hard, a normal and a soft site', size=19, weight='bold')
-    axes = Axes(picture, (130, 70, 940, 520), 3, 2_000_000)
-    axes.frame('', '', [], [(each, f'{each:,}') for each in range(0, 2_000_001, 500_000)])
+def sheet_numbers(path):
+    """The numbers of a sheet's site line, of its frame line, and its weights and heights."""
+    site, frame, *levels = [tuple(map(int, line.split('\t')[1:])) for line in path.read_text().splitlines()]
+    return site, frame, *(list(each) for each in zip(*levels))
+
+
+def groups_of_shears(title, heading, most, groups):
+    """V, V_M and V* of some jobs, three bars a job, the one that governs in full colour; groups are (what stands below, the job)."""
+    picture = Picture(960, 600, title)
+    picture.words(130, 36, heading, size=19, weight='bold')
+    axes = Axes(picture, (130, 70, 940, 520), len(groups), most)
+    axes.frame('', '', [], [(each, f'{each:,}') for each in range(0, most + 1, 500_000)])
     picture.words(24, 295, 'base shear (N)', anchor='middle', turned=True)
-    for number, name, _, _ in CLASSES:
-        result = job((*site[:-1], number), frame, weights, heights)
+    for number, (words, result) in enumerate(groups, 1):
         figures = (('V', result.V, BLUE), ('V_M', result.V_M, GREEN), ('V*', result.V_star, RED))
         for place, (label, newtons, colour) in enumerate(figures):
             left, _ = axes.point(number - 1, 0)
@@ -264,13 +268,33 @@ def classes():
             governs = newtons == result.V_D
             picture.bar(x, y, 80, axes.bottom - y, colour, '' if governs else '0.35')
             picture.words(x + 40, axes.bottom + 24, label, anchor='middle')
-            if governs:
+            if governs and place == 0:      # above the number of the bar beside it
+                picture.words(x, y - 34, f'V_D = {newtons:,}', weight='bold')
+            elif governs:
                 picture.words(x + 80, y - 12, f'V_D = {newtons:,}', anchor='end', weight='bold')
             else:
                 picture.words(x + 40, y - 10, f'{newtons:,}', size=15, anchor='middle')
         x, _ = axes.point(number - Fraction(1, 2), 0)
-        picture.words(x, axes.bottom + 54, f'class {number}, {name}', anchor='middle', weight='bold')
+        picture.words(x, axes.bottom + 54, words, anchor='middle', weight='bold')
     return picture.svg()
+
+
+def classes():
+    """V, V_M, V* and V_D of the worked sheet, with the site class changed to 2 and 3."""
+    site, frame, weights, heights = sheet_numbers(SHEET)
+    groups = [(f'class {number}, {name}', job((*site[:-1], number), frame, weights, heights)) for number, name, _, _ in CLASSES]
+    return groups_of_shears('What the site class does to the base shear', 'The worked sheet on a hard, a normal and a soft site', 2_000_000, groups)
+
+
+def near_fault():
+    """V, V_M, V* and V_D of the sheet near a fault without factors, with its own pairs, and with the larger pair for both levels."""
+    numbers, frame, weights, heights = sheet_numbers(NEAR_FAULT)
+    site, none = limits.Site(*numbers), sites.NO_NEAR_FAULT
+    groups = [(words, job(site._replace(**pairs), frame, weights, heights)) for words, pairs in (
+        ('no near-fault factors', {'NA': none, 'NV': none, 'NAM': none, 'NVM': none}), ('a pair for each level', {}),
+        ('the larger pair for both', {'NA': site.NAM, 'NV': site.NVM}))]
+    return groups_of_shears('What the near-fault factors do to the base shear',
+                            'The same building with three choices of near-fault factors', 1_500_000, groups)
 
 
 def basin():
@@ -295,7 +319,7 @@ def basin():
     return picture.svg()
 
 
-DRAWN = {'spectrum': spectrum, 'factor': factor, 'modified': modified, 'storeys': storeys, 'classes': classes, 'basin': basin}
+DRAWN = {'spectrum': spectrum, 'factor': factor, 'modified': modified, 'storeys': storeys, 'classes': classes, 'near_fault': near_fault, 'basin': basin}
 
 
 def wrong():
