@@ -3,7 +3,8 @@
 usage: python3 -m tests.manual
 
 - each page that tests/writes/manual.py fills is what it writes, byte for byte, and what such a page says in digits of its own is a constant
-- each field of a sheet has the range of the model, its line has that many fields, and classes and kinds have the model's coefficients
+- each field of a sheet has the range of the model, its line has that many fields, a `site` line seven or nine, and classes and kinds have
+  the model's coefficients
 - each refusal from 1 to 18 has a row, its ranges are the model's, and its example gets what the row says
 - each rule, worked out as the page writes it, gives the model's number, and is rounded to the side that the page names; so do those of the
   Taipei Basin
@@ -19,7 +20,7 @@ from fractions import Fraction
 from math import ceil, floor
 
 from tests.model import basin as basins, limits, response, sheet, shears, site as sites, soil, storeys
-from tests.writes import manual
+from tests.writes import manual, near_fault
 from tests.writes.by_hand import comma, decimal, read
 from tests.writes.manual import ranged
 
@@ -27,11 +28,13 @@ ROOT = pathlib.Path(__file__).resolve().parents[1]
 MANUAL = ROOT / 'docs' / 'manual'
 OFFICE = (ROOT / 'examples' / 'office.sheet').read_bytes()
 BASIN = (ROOT / 'examples' / 'basin.sheet').read_bytes()
+NEAR_FAULT = (ROOT / 'examples' / 'near_fault.sheet').read_bytes()
 # what a filled page says in digits of its own: constants of the rules, powers of ten, equations, sections, tables and limits of 000,
 # numbers of kinds and refusals, and the exponent of a pocket calculator
 OWN = {
     'worked.md': '0.01 0.75 1 1.4 2 4.2 5 7 16 17 19 25 50 75 100 300 1400 4200 10,000',
     'soft_ground.md': '0.75 2',
+    'near_fault.md': '1 1.0 1.00 2 2.2 2.4 3 4 6 7 8 9 10 13 16 19 100',
     'basin.md': '0.01 0.2 0.4 0.6 0.8 1 1.0 1.4 1.5 2 2.0 2.3 2.4 2.5 3 3.5 4 4.2 6 7 10 11 15 16 17 18 19 50 100 200 1000 1400 2005 3500',
     'rounding.md': '1 3 1.4 1.5 4.2 10 15',
     'soil.md': '0.1 1 2 3 2.1 10 13 15 18 27 30 180 270 800 1000',
@@ -58,7 +61,8 @@ FIELDS = {
     'Line 1: `site`': (
         ('S_S D', '0.01 g', listed(limits.S_S_DESIGN)), ('S_1 D', '0.01 g', listed(limits.S_1_DESIGN)),
         ('S_S M', '0.01 g', listed(limits.S_S_MCE)), ('S_1 M', '0.01 g', listed(limits.S_1_MCE)), ('N_A', '0.01', ranged(limits.N_A)),
-        ('N_V', '0.01', ranged(limits.N_V)), ('class', 'number', listed(limits.CLASS))),
+        ('N_V', '0.01', ranged(limits.N_V)), ('N_A M', '0.01', ranged(limits.N_A)), ('N_V M', '0.01', ranged(limits.N_V)),
+        ('class', 'number', listed(limits.CLASS))),
     'Line 1 in the Taipei Basin: `basin`': (('zone', 'number', listed(limits.ZONE)),),
     'Line 2: `frame`': (
         ('kind', 'number', listed(limits.KIND)), ('calculated period', 'ms', '0 for none, ' + ranged(limits.CALCULATED_PERIOD[1:])),
@@ -66,11 +70,13 @@ FIELDS = {
     'Every later line: `level`': (
         ('weight', 'kN', ranged(limits.WEIGHT)), ('height', 'dm (0.1 m)', ranged(limits.HEIGHT) + ', each above the level below')),
 }
-LAYOUTS = (sheet.SITE, sheet.BASIN, sheet.FRAME, sheet.LEVEL)
+LAYOUTS = (sheet.TWO_PAIRS, sheet.BASIN, sheet.FRAME, sheet.LEVEL)
+OF_MCE = ('N_A M', 'N_V M')      # what a site line of seven numbers leaves out
 # what the row of each refusal must say
 SAID = {
     1: [f'more than {limits.LEVELS[-1]}', ranged(limits.LEVELS)], 3: [ranged(limits.WEIGHT) + ' kN'], 4: [ranged(limits.HEIGHT) + ' dm'],
-    5: ['1 S_S D, 2 S_1 D, 3 S_S M, 4 S_1 M'], 6: ['1 N_A, 2 N_V', 'N_A ' + ranged(limits.N_A), 'N_V ' + ranged(limits.N_V)],
+    5: ['1 S_S D, 2 S_1 D, 3 S_S M, 4 S_1 M'],
+    6: ['1 N_A, 2 N_V, 3 N_A M, 4 N_V M', f'N_A {ranged(limits.N_A)}, N_V {ranged(limits.N_V)}, at both levels'],
     7: ['not ' + either(limits.CLASS)], 8: ['not ' + ranged(limits.R_RANGE)], 9: ['not ' + either(limits.I_VALUES)],
     10: ['not ' + ranged(limits.ALPHA_Y)], 11: ['not ' + either(limits.KIND)], 12: [f'above {comma(limits.CALCULATED_PERIOD[-1])} ms'],
     13: [f'more than {soil.LAYERS[-1]}'], 14: [],
@@ -142,14 +148,33 @@ def fields():
         yield words in text, f'docs/manual/sheet.md: does not say: {words}'
 
 
+def site_lines():
+    """A site line has seven numbers or nine, and no other count; both in the order that the page on near-fault sites has."""
+    name, names = 'docs/manual/near_fault.md', [field for field, _, _ in FIELDS['Line 1: `site`']]
+    short = [field for field in names if field not in OF_MCE]
+    for row, order, layout in zip(rows(page('near_fault.md'), 'How they are entered'), (names, short), (sheet.TWO_PAIRS, sheet.SITE)):
+        yield row[:2] == [str(layout.groups), ', '.join(order)] and len(order) == layout.groups, f'{name}: {row}, wanted {order}'
+    taken = [count for count in range(13) if with_line(1, 'site' + count * '\t100') != ['refused', '16', '1']]
+    yield taken == [len(short), len(names)] == [7, 9], f'docs/manual/sheet.md: a site line may have {taken} numbers'
+    for words in ('These are nine numbers. A line may also have seven', 'With 8 numbers, or 10, the line is refused'):
+        yield words in page('sheet.md').replace('\n', ' '), f'docs/manual/sheet.md: does not say: {words}'
+    module = re.search(r"^Site = namedtuple\('Site', '([^']*)'\)$", (ROOT / 'examples' / 'rukeshomaji.py').read_text(), re.M)
+    yield module[1].split() == near_fault.FIELDS, f'{name}: the fields in Python are {module[1]}'
+
+
+def with_line(number, line):
+    """What the model prints for the worked sheet with another line."""
+    changed = OFFICE.decode().split('\n')
+    changed[number - 1] = line
+    return sheet.shear('\n'.join(changed).encode()).decode().split()
+
+
 def answer(example):
     """What the model answers to the example of a refusal."""
     line = re.match(r'line (\d+) `([^`]*)`$', example)
     layers = re.match(r'log `([^`]*)`$', example)
     if line:
-        changed = OFFICE.decode().split('\n')
-        changed[int(line[1]) - 1] = line[2].replace(' ', '\t')
-        return sheet.shear('\n'.join(changed).encode()).decode().split()
+        return with_line(int(line[1]), line[2].replace(' ', '\t'))
     if layers:
         log = [tuple(map(int, layer.split())) for layer in layers[1].split(',')]
         return list(map(str, soil.log(*map(list, zip(*log)))))
@@ -181,6 +206,8 @@ def refusals():
         yield (place == '0') == (bool(said) and said[2].split()[2] == '0'), f'docs/manual/refusals.md: {number}: its place'
         for words in SAID.get(int(number), []):
             yield words in f'{place}; {wrong}; {to_do}', f'docs/manual/refusals.md: {number}: does not say: {words}'
+    by_seven = re.search(r'at place 1 or 2, never at 3 or 4: `(site [\d ]*)` gets `(refused 6 [12])`', text)
+    yield bool(by_seven) and answer(f'line 1 `{by_seven[1]}`') == by_seven[2].split(), 'docs/manual/refusals.md: 6 on a line of seven numbers'
     whole = ' '.join(row[2] for row in found if row[0] == '14')
     yield f'{comma(soil.THICKNESS_SUM)} cm' in whole, 'docs/manual/refusals.md: 14: the depth'
 
@@ -343,9 +370,12 @@ def shown():
     for zone in limits.ZONE:
         changed = b'basin\t%d\n' % zone + BASIN.split(b'\n', 1)[1]
         yield f'```\n{sheet.shear(changed).decode()}```\n' in page('basin.md'), f'docs/manual/basin.md: no listing of zone {zone}'
-    for paper in ('sheet.md', 'basin.md'):
-        yield f'```\n{BASIN.decode()}```\n' in page(paper), f'docs/manual/{paper}: not the sheet of examples/basin'
-    yield (ROOT / 'examples' / 'basin.listing').read_bytes() == sheet.shear(BASIN), 'examples/basin.listing: not the listing of its sheet'
+    for name, data in (('basin', BASIN), ('near_fault', NEAR_FAULT)):
+        for paper in ('sheet.md', f'{name}.md'):
+            yield f'```\n{data.decode()}```\n' in page(paper), f'docs/manual/{paper}: not the sheet of examples/{name}'
+        yield (ROOT / 'examples' / f'{name}.listing').read_bytes() == sheet.shear(data), f'examples/{name}.listing: not the listing of its sheet'
+    in_c = re.search(r'^ *(RukeshomajiSite site = .*;)$', (ROOT / 'examples' / 'office.c').read_text(), re.M)
+    yield f'\n{in_c[1]}\n' in (ROOT / 'README.md').read_text(), 'README.md: not the site of examples/office.c'
     listing = (ROOT / 'examples' / 'office.listing').read_text()
     for paper in (ROOT / 'README.md', MANUAL / 'sheet.md', MANUAL / 'worked.md'):
         for name, text in (('sheet', OFFICE.decode()), ('listing', listing)):
@@ -361,7 +391,7 @@ def shown():
 def main():
     """Check all, say what is wrong."""
     count, wrong = 0, []
-    for check in (filled, fields, refusals, rules, basin_rules, shown):
+    for check in (filled, fields, site_lines, refusals, rules, basin_rules, shown):
         for holds, words in check():
             count += 1
             wrong += [] if holds else [words]
