@@ -21,6 +21,7 @@ GIVEN = os.environ.get('RUKESHOMAJI_LIBRARY')
 ARCHIVE = 'target/lib/librukeshomaji.a'
 STRICT = {'cc ': 'cc -std=c99 -Wall -Wextra -pedantic -Werror ', 'c++ ': 'c++ -std=c++11 -Wall -Wextra -pedantic -Werror '}
 SITE, FRAME = (80, 45, 100, 55, 100, 100, 100, 100, 1), (2, 1000, 480, 100, 150)
+NEAR_FAULT = (*SITE[:4], 112, 123, 123, 136, 1)     # that of examples/near_fault.sheet
 WEIGHTS, HEIGHTS = [5000] * 3, [100, 200, 300]
 
 
@@ -109,6 +110,7 @@ def listed(done):
 def run_module(core):
     """What the Python module answers, refuses and does not call."""
     yield 'the same figures alone', core.figures(SITE, FRAME, WEIGHTS, HEIGHTS) == core.job(SITE, FRAME, WEIGHTS, HEIGHTS).figures
+    yield 'a job near a fault', listed(core.job(NEAR_FAULT, FRAME, WEIGHTS, HEIGHTS)) == (EXAMPLES / 'near_fault.listing').read_bytes()
     yield 'a job in the Basin', listed(core.basin_job(1, FRAME, WEIGHTS, HEIGHTS)) == (EXAMPLES / 'basin.listing').read_bytes()
     yield from ((f'the figures of zone {zone} alone', core.basin_figures(zone, FRAME, WEIGHTS, HEIGHTS)
                  == core.basin_job(zone, FRAME, WEIGHTS, HEIGHTS).figures) for zone in (1, 2, 3, 4))
@@ -131,7 +133,9 @@ def run_module(core):
     yield 'the largest number of 64 bits', raises(core.Refused, core.figures, SITE, (2, 2 ** 64 - 1, 480, 100, 150), WEIGHTS, HEIGHTS)
     yield 'a zone of 1.0', raises(TypeError, core.basin_figures, 1.0, FRAME, WEIGHTS, HEIGHTS)
     yield 'an R of 4.8', raises(TypeError, core.job, SITE, (2, 1000, 4.8, 100, 150), WEIGHTS, HEIGHTS)
-    yield 'a site of six numbers', raises(TypeError, core.job, SITE[:6], FRAME, WEIGHTS, HEIGHTS)
+    for count in (6, 7, 8, 10):
+        yield f'a site of {count} numbers', raises(TypeError, core.job, (*SITE, 1)[:count], FRAME, WEIGHTS, HEIGHTS)
+    yield 'a Site of seven numbers', raises(TypeError, core.Site, *SITE[:7])
 
 
 def main():

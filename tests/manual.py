@@ -207,7 +207,7 @@ def refusals():
         for words in SAID.get(int(number), []):
             yield words in f'{place}; {wrong}; {to_do}', f'docs/manual/refusals.md: {number}: does not say: {words}'
     by_seven = re.search(r'at place 1 or 2, never at 3 or 4: `(site [\d ]*)` gets `(refused 6 [12])`', text)
-    yield bool(by_seven) and answer(f'line 1 `{by_seven[1]}`') == by_seven[2].split(), 'docs/manual/refusals.md: 6 on a line of seven numbers'
+    yield bool(by_seven) and answer(f'line 1 `{by_seven[1]}`') == by_seven[2].split(), 'docs/manual/refusals.md: 6 on seven numbers'
     whole = ' '.join(row[2] for row in found if row[0] == '14')
     yield f'{comma(soil.THICKNESS_SUM)} cm' in whole, 'docs/manual/refusals.md: 14: the depth'
 
@@ -373,7 +373,8 @@ def shown():
     for name, data in (('basin', BASIN), ('near_fault', NEAR_FAULT)):
         for paper in ('sheet.md', f'{name}.md'):
             yield f'```\n{data.decode()}```\n' in page(paper), f'docs/manual/{paper}: not the sheet of examples/{name}'
-        yield (ROOT / 'examples' / f'{name}.listing').read_bytes() == sheet.shear(data), f'examples/{name}.listing: not the listing of its sheet'
+        stored = (ROOT / 'examples' / f'{name}.listing').read_bytes()
+        yield stored == sheet.shear(data), f'examples/{name}.listing: not the listing of its sheet'
     in_c = re.search(r'^ *(RukeshomajiSite site = .*;)$', (ROOT / 'examples' / 'office.c').read_text(), re.M)
     yield f'\n{in_c[1]}\n' in (ROOT / 'README.md').read_text(), 'README.md: not the site of examples/office.c'
     listing = (ROOT / 'examples' / 'office.listing').read_text()

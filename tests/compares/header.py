@@ -33,7 +33,8 @@ NOT_REFUSALS = {'NOWHERE'}      # of the constants beside the refusal numbers
 RANGES = [
     ('S_S of the design level, 0.01 g: ', 'limits/site SS_DESIGN'), ('S_1 of the design level, 0.01 g: ', 'limits/site S1_DESIGN'),
     ('S_S of the MCE level, 0.01 g: ', 'limits/site SS_MCE'), ('S_1 of the MCE level, 0.01 g: ', 'limits/site S1_MCE'),
-    ('N_A of the design level, 0.01: ', 'limits/site NA_LEAST NA_MOST'), ('N_V of the design level, 0.01: ', 'limits/site NV_LEAST NV_MOST'),
+    ('N_A of the design level, 0.01: ', 'limits/site NA_LEAST NA_MOST'),
+    ('N_V of the design level, 0.01: ', 'limits/site NV_LEAST NV_MOST'),
     ('N_A of the MCE level, 0.01: ', 'limits/site NA_LEAST NA_MOST'), ('N_V of the MCE level, 0.01: ', 'limits/site NV_LEAST NV_MOST'),
     ('calculated period, ms: ', 'limits/frame PERIOD_LEAST PERIOD_MOST'), ('R, 0.01: ', 'limits/frame R_LEAST R_MOST'),
     ('I, 0.01: ', 'limits/frame I_VALUES'), ('alpha-y, 0.01: ', 'limits/frame ALPHA_LEAST ALPHA_MOST'),

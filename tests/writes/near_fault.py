@@ -1,4 +1,4 @@
-"""The page on near-fault sites: a sheet with a pair of factors for each level, worked out by hand, and beside it with one pair for both levels.
+"""The page on near-fault sites: a sheet with a pair of factors for each level, worked out by hand, and beside it other choices of pairs.
 
 Each pair of the sheet is used for each level in turn, so that what one pair for both levels overstates or understates is seen.
 """
@@ -47,7 +47,8 @@ def table_of_pairs(own, larger, smaller, turned):
     assert own.V_star == larger.V_star == smaller.V_star == turned.V_star and own.T == larger.T == smaller.T == turned.T
     return table(('pairs on the sheet', 'N_A, N_V', 'N_A M, N_V M', 'V, N', 'V_M, N', 'V*, N', 'V_D, N'),
                  (row('each level its own pair', own), row('the larger pair for both levels', larger),
-                  row('the smaller pair for both levels', smaller), row('the other way round: the larger pair for the design level', turned)))
+                  row('the smaller pair for both levels', smaller),
+                  row('the other way round: the larger pair for the design level', turned)))
 
 
 def low_building(site):

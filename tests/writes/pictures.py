@@ -283,7 +283,8 @@ def classes():
     """V, V_M, V* and V_D of the worked sheet, with the site class changed to 2 and 3."""
     site, frame, weights, heights = sheet_numbers(SHEET)
     groups = [(f'class {number}, {name}', job((*site[:-1], number), frame, weights, heights)) for number, name, _, _ in CLASSES]
-    return groups_of_shears('What the site class does to the base shear', 'The worked sheet on a hard, a normal and a soft site', 2_000_000, groups)
+    return groups_of_shears('What the site class does to the base shear', 'The worked sheet on a hard, a normal and a soft site',
+                            2_000_000, groups)
 
 
 def near_fault():
@@ -319,7 +320,8 @@ def basin():
     return picture.svg()
 
 
-DRAWN = {'spectrum': spectrum, 'factor': factor, 'modified': modified, 'storeys': storeys, 'classes': classes, 'near_fault': near_fault, 'basin': basin}
+DRAWN = {'spectrum': spectrum, 'factor': factor, 'modified': modified, 'storeys': storeys, 'classes': classes, 'near_fault': near_fault,
+         'basin': basin}
 
 
 def wrong():
