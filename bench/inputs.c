@@ -14,7 +14,7 @@ u64 drawn(u64 count)
 
 JobInput fixed_job(size_t levels)
 {
-    JobInput p = {{70, 40, 90, 50, 112, 123, 2}, {2, 700, 480, 125, 150}, levels, {0}, {0}};
+    JobInput p = {{70, 40, 90, 50, 112, 123, 112, 123, 2}, {2, 700, 480, 125, 150}, levels, {0}, {0}};
     for (size_t x = 0; x < levels; x++) p.weights[x] = 5000 + 10 * x, p.heights[x] = 38 * (x + 1);
     return p;
 }
@@ -22,11 +22,13 @@ JobInput fixed_job(size_t levels)
 /* from all that is allowed, storeys of up to 4.5 m */
 JobInput drawn_job(size_t levels)
 {
-    JobInput p = {{50 + 10 * drawn(4), 30 + 5 * drawn(4), 70 + 10 * drawn(4), 40 + 5 * drawn(4), 100 + drawn(51), 100 + drawn(101), 1 + drawn(3)},
+    JobInput p = {{50 + 10 * drawn(4), 30 + 5 * drawn(4), 70 + 10 * drawn(4), 40 + 5 * drawn(4), 100 + drawn(51), 100 + drawn(101), 100, 100,
+                   1 + drawn(3)},
                   {1 + drawn(4), drawn(2) ? 0 : 1 + drawn(3000), 100 + drawn(501), 100 + 25 * drawn(3), 100 + drawn(101)},
                   levels, {0}, {0}};
     u64 storey = 2000 / levels < 45 ? 2000 / levels : 45, height = 0;
     for (size_t x = 0; x < levels; x++) p.weights[x] = 1 + drawn(20000), p.heights[x] = height += 1 + drawn(storey);
+    p.site.nam = 250 - p.site.na, p.site.nvm = 300 - p.site.nv;
     return p;
 }
 
@@ -70,8 +72,9 @@ static size_t first_lines(const JobInput *p, char *out)
 {
     const Site *s = &p->site;
     const Frame *f = &p->frame;
-    return sprintf(out, "site\t%lu\t%lu\t%lu\t%lu\t%lu\t%lu\t%lu\nframe\t%lu\t%lu\t%lu\t%lu\t%lu\n", s->ssd, s->s1d, s->ssm, s->s1m, s->na,
-                   s->nv, s->class_number, f->kind, f->calculated, f->r, f->i, f->alpha_y);
+    size_t n = sprintf(out, "site\t%lu\t%lu\t%lu\t%lu\t%lu\t%lu", s->ssd, s->s1d, s->ssm, s->s1m, s->na, s->nv);
+    if (s->nam != s->na || s->nvm != s->nv) n += sprintf(out + n, "\t%lu\t%lu", s->nam, s->nvm);
+    return n + sprintf(out + n, "\t%lu\nframe\t%lu\t%lu\t%lu\t%lu\t%lu\n", s->class_number, f->kind, f->calculated, f->r, f->i, f->alpha_y);
 }
 
 size_t sheet_of(const JobInput *p, char *out)

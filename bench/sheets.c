@@ -47,9 +47,12 @@ u64 OF(sheet)(const char *s, u64 length, char *listing, SheetReply *reply)
 {
     const uint8_t *p = (const uint8_t *)s, *end = p + length;
     uint8_t *out = (uint8_t *)listing;
-    u64 site[7], frame[5], level[2], w[50], h[50], forces[50], shears[50], moments[50];
+    u64 site[9], frame[5], level[2], w[50], h[50], forces[50], shears[50], moments[50];
     if (length > 4096) REFUSED(17, 0);
-    if (!(p = line(p, end, "site", 7, site))) REFUSED(16, 1);
+    const uint8_t *second = line(p, end, "site", 7, site);
+    if (second) site[8] = site[6], site[6] = site[4], site[7] = site[5];
+    else second = line(p, end, "site", 9, site);
+    if (!(p = second)) REFUSED(16, 1);
     if (!(p = line(p, end, "frame", 5, frame))) REFUSED(16, 2);
     size_t n = 0;
     for (; p < end; n++) {
@@ -57,7 +60,7 @@ u64 OF(sheet)(const char *s, u64 length, char *listing, SheetReply *reply)
         if (n < 50) w[n] = level[0], h[n] = level[1];
     }
     if (n > 50) REFUSED(1, 0);
-    Site a = {site[0], site[1], site[2], site[3], site[4], site[5], site[6]};
+    Site a = {site[0], site[1], site[2], site[3], site[4], site[5], site[6], site[7], site[8]};
     Frame b = {frame[0], frame[1], frame[2], frame[3], frame[4]};
     JobReply j;
     u64 number = OF(job)(&a, &b, w, n, h, n, forces, n, shears, n, moments, n, &j);
