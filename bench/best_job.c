@@ -93,7 +93,7 @@ u64 OF(job)(const Site *s, const Frame *f, const u64 *w, u64 n, const u64 *h, u6
     }
     bad |= (s->ssd - 50 > 30) | (s->ssd % 10 != 0) | (s->s1d - 30 > 15) | (s->s1d % 5 != 0);
     bad |= (s->ssm - 70 > 30) | (s->ssm % 10 != 0) | (s->s1m - 40 > 15) | (s->s1m % 5 != 0);
-    bad |= (s->na - 100 > 50) | (s->nv - 100 > 100) | (s->nam - 100 > 50) | (s->nvm - 100 > 100) | (s->class_number - 1 > 2);
+    bad |= (s->nad - 100 > 50) | (s->nvd - 100 > 100) | (s->nam - 100 > 50) | (s->nvm - 100 > 100) | (s->class_number - 1 > 2);
     bad |= (f->r - 100 > 500) | ((f->i != 100) & (f->i != 125) & (f->i != 150)) | (f->alpha_y - 100 > 100) | (f->kind - 1 > 3);
     bad |= f->calculated > 60000;
     if (bad) {
@@ -101,7 +101,7 @@ u64 OF(job)(const Site *s, const Frame *f, const u64 *w, u64 n, const u64 *h, u6
         return refuse_job(reply, OF(judged)(s, f, w, n, h, m, room));
     }
     u64 T = period(f->kind, f->calculated, below), c = s->class_number - 1;
-    u64 a = fa(c, s->ssd * s->na), b = fv(c, s->s1d * s->nv), am = fa(c, s->ssm * s->nam), bm = fv(c, s->s1m * s->nvm);
+    u64 a = fa(c, s->ssd * s->nad), b = fv(c, s->s1d * s->nvd), am = fa(c, s->ssm * s->nam), bm = fv(c, s->s1m * s->nvm);
     u64 ap = fa(c, 100 * s->ssd), bp = fv(c, 100 * s->s1d), design = (2 * f->r + 100) * 10000, mce = 3 * f->r * 10000;
     u64 q = lower_q(a, b, T, design, 1000000000000 * (f->r - 25) / 75), qm = lower_q(am, bm, T, mce, 1000000000000 * (f->r - 50) / 50);
     u64 ta = T * ap, sa = spectrum(ap, bp, ta, T), uf;

@@ -49,7 +49,7 @@ u64 OF(job)(const Site *s, const Frame *f, const u64 *w, u64 n, const u64 *h, u6
     if (f->calculated) t = fmin(f->calculated, floor(1.4 * t));
     t /= 1000;
     const double *fa = FA[s->class_number - 1], *fv = FV[s->class_number - 1];
-    double ss = s->ssd * s->na / 1e4, s1 = s->s1d * s->nv / 1e4, ms = s->ssm * s->nam / 1e4, m1 = s->s1m * s->nvm / 1e4;
+    double ss = s->ssd * s->nad / 1e4, s1 = s->s1d * s->nvd / 1e4, ms = s->ssm * s->nam / 1e4, m1 = s->s1m * s->nvm / 1e4;
     double ps = s->ssd / 100.0, p1 = s->s1d / 100.0, r = f->r / 100.0, design = 1 + (r - 1) / 1.5;
     double a = between(COLUMNS_A, fa, ss) * ss, b = between(COLUMNS_V, fv, s1) * s1;
     double am = between(COLUMNS_A, fa, ms) * ms, bm = between(COLUMNS_V, fv, m1) * m1;

@@ -28,7 +28,7 @@ JobInput drawn_job(size_t levels)
                   levels, {0}, {0}};
     u64 storey = 2000 / levels < 45 ? 2000 / levels : 45, height = 0;
     for (size_t x = 0; x < levels; x++) p.weights[x] = 1 + drawn(20000), p.heights[x] = height += 1 + drawn(storey);
-    p.site.nam = 250 - p.site.na, p.site.nvm = 300 - p.site.nv;
+    p.site.nam = 250 - p.site.nad, p.site.nvm = 300 - p.site.nvd;
     return p;
 }
 
@@ -39,7 +39,7 @@ JobInput spoilt_job(size_t levels)
     case 0: p.weights[drawn(levels)] = 0; break;
     case 1: p.heights[drawn(levels)] = 0; break;
     case 2: p.site.ssm = 75; break;
-    case 3: p.site.nv = 201; break;
+    case 3: p.site.nvd = 201; break;
     case 4: p.frame.i = 110; break;
     default: p.frame.calculated = 60001;
     }
@@ -72,8 +72,8 @@ static size_t first_lines(const JobInput *p, char *out)
 {
     const Site *s = &p->site;
     const Frame *f = &p->frame;
-    size_t n = sprintf(out, "site\t%lu\t%lu\t%lu\t%lu\t%lu\t%lu", s->ssd, s->s1d, s->ssm, s->s1m, s->na, s->nv);
-    if (s->nam != s->na || s->nvm != s->nv) n += sprintf(out + n, "\t%lu\t%lu", s->nam, s->nvm);
+    size_t n = sprintf(out, "site\t%lu\t%lu\t%lu\t%lu\t%lu\t%lu", s->ssd, s->s1d, s->ssm, s->s1m, s->nad, s->nvd);
+    if (s->nam != s->nad || s->nvm != s->nvd) n += sprintf(out + n, "\t%lu\t%lu", s->nam, s->nvm);
     return n + sprintf(out + n, "\t%lu\nframe\t%lu\t%lu\t%lu\t%lu\t%lu\n", s->class_number, f->kind, f->calculated, f->r, f->i, f->alpha_y);
 }
 

@@ -96,7 +96,7 @@ u64 OF(job)(const Site *s, const Frame *f, const u64 *w, u64 n, const u64 *h, u6
     for (size_t x = 0; x < n; x++) W += w[x], P += w[x] * h[x];
     u64 T = period(f, h[n - 1]);
     const u64 *fa = FA[s->class_number - 1], *fv = FV[s->class_number - 1];
-    u64 ss = s->ssd * s->na, s1 = s->s1d * s->nv, ms = s->ssm * s->nam, m1 = s->s1m * s->nvm, ps = 100 * s->ssd, p1 = 100 * s->s1d;
+    u64 ss = s->ssd * s->nad, s1 = s->s1d * s->nvd, ms = s->ssm * s->nam, m1 = s->s1m * s->nvm, ps = 100 * s->ssd, p1 = 100 * s->s1d;
     u64 a = between(COLUMNS_A, fa, ss) * ss, b = between(COLUMNS_V, fv, s1) * s1;
     u64 am = between(COLUMNS_A, fa, ms) * ms, bm = between(COLUMNS_V, fv, m1) * m1;
     u64 ap = between(COLUMNS_A, fa, ps) * ps, bp = between(COLUMNS_V, fv, p1) * p1;

@@ -27,8 +27,8 @@ u64 OF(judged)(const Site *s, const Frame *f, const u64 *w, u64 n, const u64 *h,
     if (!among(s1d, 4, s->s1d)) return refusal(5, 2);
     if (!among(ssm, 4, s->ssm)) return refusal(5, 3);
     if (!among(s1m, 4, s->s1m)) return refusal(5, 4);
-    if (s->na < 100 || s->na > 150) return refusal(6, 1);
-    if (s->nv < 100 || s->nv > 200) return refusal(6, 2);
+    if (s->nad < 100 || s->nad > 150) return refusal(6, 1);
+    if (s->nvd < 100 || s->nvd > 200) return refusal(6, 2);
     if (s->nam < 100 || s->nam > 150) return refusal(6, 3);
     if (s->nvm < 100 || s->nvm > 200) return refusal(6, 4);
     if (s->class_number < 1 || s->class_number > 3) return refusal(7, 0);

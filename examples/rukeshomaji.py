@@ -13,7 +13,7 @@ import os
 import pathlib
 from collections import namedtuple
 
-Site = namedtuple('Site', 'ssd s1d ssm s1m na nv nam nvm class_number')
+Site = namedtuple('Site', 'ssd s1d ssm s1m nad nvd nam nvm class_number')
 Frame = namedtuple('Frame', 'kind calculated r i alpha_y')
 Figures = namedtuple('Figures', 'v vm star vd t')
 Job = namedtuple('Job', 'figures forces shears overturnings')

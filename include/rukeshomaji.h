@@ -26,9 +26,9 @@ extern "C" {
 #endif
 
 /* Three numbers name what you link; the functions at the end of this page give those of the library. Version: 1,000,000 times the major
- * number, 1,000 times the minor one, and the last; a struct or a declaration changes with the major number alone, so a program that was
- * compiled with a header of another major number must not call the library. Edition: the year of the code. Source: the state of the rules,
- * which goes up by one whenever any call answers differently. */
+ * number, 1,000 times the minor one, and the last. A struct or a declaration changes only when the major number changes: a program that was
+ * compiled with a header of another major number may call rukeshomaji_version, which never changes, and nothing else. Edition: the year of
+ * the code. Source: the state of the rules, which goes up by one whenever any call answers differently. */
 #define RUKESHOMAJI_VERSION 2000000
 #define RUKESHOMAJI_EDITION 2005
 #define RUKESHOMAJI_SOURCE 3
@@ -78,15 +78,15 @@ extern "C" {
 #define RUKESHOMAJI_COHESIVE 2            /* its value is N */
 #define RUKESHOMAJI_COHESIONLESS 3        /* its value is N */
 
-/* A site. V goes by na and nv, V_M by nam and nvm, V* by neither. With one pair for both levels, nam and nvm hold it again; far from a fault
- * all four are 100. The struct of the versions before 2 had seven fields: see RUKESHOMAJI_VERSION. */
+/* A site. V uses nad and nvd, V_M nam and nvm, V* none of them. With one pair for both hazard levels, set nam and nvm to the values of nad and
+ * nvd; far from a fault all four are 100. Before version 2 the struct had seven fields, na and nv for both levels. */
 typedef struct {
     uint64_t ssd;             /* S_S of the design level, 0.01 g: 50, 60, 70 or 80 */
     uint64_t s1d;             /* S_1 of the design level, 0.01 g: 30, 35, 40 or 45 */
     uint64_t ssm;             /* S_S of the MCE level, 0.01 g: 70, 80, 90 or 100 */
     uint64_t s1m;             /* S_1 of the MCE level, 0.01 g: 40, 45, 50 or 55 */
-    uint64_t na;              /* near-fault factor N_A of the design level, 0.01: 100 to 150 */
-    uint64_t nv;              /* near-fault factor N_V of the design level, 0.01: 100 to 200 */
+    uint64_t nad;             /* near-fault factor N_A of the design level, 0.01: 100 to 150 */
+    uint64_t nvd;             /* near-fault factor N_V of the design level, 0.01: 100 to 200 */
     uint64_t nam;             /* near-fault factor N_A of the MCE level, 0.01: 100 to 150 */
     uint64_t nvm;             /* near-fault factor N_V of the MCE level, 0.01: 100 to 200 */
     uint64_t class_number;    /* site class: 1 hard, 2 normal, 3 soft */

@@ -112,6 +112,9 @@ def bad_lines(worked):
     yield 'blanks for tabs', worked.replace(b'\t', b' '), 'a blank stands in it: fields are separated by one tab'
     yield 'no LF at the end', worked[:-1], 'no LF ends it'
     yield 'no LF after a NUL', worked + b'\0', 'no LF ends it'
+    yield 'eight numbers on line 1', worked.replace(b'\t100\t1\n', b'\t100\t100\t1\n', 1), 'a site line has 7 or 9 numbers, this one has 8 fields'
+    yield 'ten numbers and a CR on line 1', worked.replace(b'\t100\t1\n', b'\t100\t100\t100\t100\t1\r\n', 1), \
+        'a CR stands at its end, a site line has 7 or 9 numbers, this one has 10 fields'
     yield 'a byte order mark, blanks and CR', b'\xef\xbb\xbf' + worked.replace(b'\t', b' ').replace(b'\n', b'\r\n'), \
         'a byte order mark stands before it, a CR stands at its end, a blank stands in it: fields are separated by one tab'
     yield 'a blank at the end of the last line, and no LF', worked[:-1] + b' ', \

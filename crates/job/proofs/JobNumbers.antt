@@ -47,7 +47,7 @@ pub record Job : Type 0 where
 
 abbrev pub siteLine : ℕ → ℕ → ℕ → ℕ → ℕ → ℕ → ℕ → SiteValues
 siteLine ssd s1d ssm s1m na nv class =
-    record { ssd = ssd; s1d = s1d; ssm = ssm; s1m = s1m; na = na; nv = nv; nam = na; nvm = nv; class = class }
+    record { ssd = ssd; s1d = s1d; ssm = ssm; s1m = s1m; nad = na; nvd = nv; nam = na; nvm = nv; class = class }
 
 abbrev pub frameLine : ℕ → ℕ → ℕ → ℕ → ℕ → FrameValues
 frameLine kind calculated r i alpha = record { kind = kind; calculated = calculated; r = r; i = i; alpha = alpha }

@@ -31,7 +31,7 @@ module _ (site : Site) (R : ℕ) (a : AllowedSite site) (lo : 100 ≤ R) (hi : R
   design : Sized (hazardsOf site R .design)
   design =
       design-sized R lo hi (site .class) _ _ _ _
-      (record { s-s = omega (arith, a .ssd); s-1 = omega (arith, a .s1d); n-a = a .na; n-v = a .nv })
+      (record { s-s = omega (arith, a .ssd); s-1 = omega (arith, a .s1d); n-a = a .nad; n-v = a .nvd })
 
   mce : Sized (hazardsOf site R .mce)
   mce =

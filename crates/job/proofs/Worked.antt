@@ -23,7 +23,7 @@ use Rattle.base_shear.specs.Shears.{newtons, shear, star, base, figuresAt}
 use Rattle.storeys.specs.Storeys.{weightHeight, about}
 use Rattle.job.specs.Job.{jobOf}
 
-pub worked : jobOf (Site (record { ssd = 80; s1d = 45; ssm = 100; s1m = 55; na = 100; nv = 100; nam = 100; nvm = 100; class = 1 }))
+pub worked : jobOf (Site (record { ssd = 80; s1d = 45; ssm = 100; s1m = 55; nad = 100; nvd = 100; nam = 100; nvm = 100; class = 1 }))
     (record { kind = 2; calculated = 1000; r = 480; i = 100; alpha = 150 }) (5000 ∷ 5000 ∷ 5000 ∷ []) (100 ∷ 200 ∷ 300 ∷ []) 3
     ≡ accepted
     (record {

@@ -1,9 +1,11 @@
--- The worked sheet near a fault: with a pair of near-fault factors for each level, and with the larger of the two pairs for both levels.
--- Typed for both, it overstates V, and V_D with it, by 118,264 N. The definition, computed.
---   nearFault na nv nam nvm    the job of the worked sheet with these factors
+-- The worked sheet's building near a fault, at T = 500 ms: with a pair of near-fault factors for each level, with the larger of the two pairs
+-- for both levels, and with the smaller one for both. The larger overstates V by 111,971 N, and V_D by 51,078 N; the smaller understates
+-- V_M by 175,772 N, and V_D by 60,893 N. The definition, computed.
+--   nearFault nad nvd nam nvm    its job with these factors
+--   resulted ..                  V, V_M, V* and V_D at T = 500 ms; forces, shears and overturning moments, lowest level first
 -- Assumes nothing.
 use mathlib.Core.Path.{_≡_, refl}
-use mathlib.Core.List.{[], _∷_}
+use mathlib.Core.List.{List, [], _∷_}
 use Prim.Native.Nat.{ℕ}
 use Rattle.whole.specs.Cells.{cells, sum}
 use Rattle.whole.specs.Line.{between}
@@ -27,26 +29,27 @@ use Rattle.storeys.specs.Storeys.{weightHeight, about}
 use Rattle.job.specs.Job.{Results, jobOf}
 
 abbrev nearFault : ℕ → ℕ → ℕ → ℕ → Outcome Results
-nearFault na nv nam nvm =
-    jobOf (Site (record { ssd = 80; s1d = 45; ssm = 100; s1m = 55; na = na; nv = nv; nam = nam; nvm = nvm; class = 1 }))
-    (record { kind = 2; calculated = 1000; r = 480; i = 100; alpha = 150 }) (5000 ∷ 5000 ∷ 5000 ∷ []) (100 ∷ 200 ∷ 300 ∷ []) 3
+nearFault nad nvd nam nvm =
+    jobOf (Site (record { ssd = 80; s1d = 45; ssm = 100; s1m = 55; nad = nad; nvd = nvd; nam = nam; nvm = nvm; class = 1 }))
+    (record { kind = 2; calculated = 500; r = 480; i = 100; alpha = 150 }) (5000 ∷ 5000 ∷ 5000 ∷ []) (100 ∷ 200 ∷ 300 ∷ []) 3
 
-pub worked-near-fault : (nearFault 112 123 123 136
-    ≡ accepted (record {
-      figures = record { v = 1_118_936; vm = 1_113_100; star = 1_071_429; vd = 1_118_936; t = 1000 };
-      forces = 173_435 ∷ 346_870 ∷ 598_631 ∷ [];
-      shears = 1_118_936 ∷ 945_501 ∷ 598_631 ∷ [];
-      overturnings = 266_306_800 ∷ 154_413_200 ∷ 59_863_100 ∷ [];
-    }))
-    × (nearFault 123 136 123 136
-    ≡ accepted (record {
-      figures = record { v = 1_237_200; vm = 1_113_100; star = 1_071_429; vd = 1_237_200; t = 1000 };
-      forces = 191_766 ∷ 383_532 ∷ 661_902 ∷ [];
-      shears = 1_237_200 ∷ 1_045_434 ∷ 661_902 ∷ [];
-      overturnings = 294_453_600 ∷ 170_733_600 ∷ 66_190_200 ∷ [];
-    }))
+abbrev resulted : ℕ → ℕ → ℕ → ℕ → List ℕ → List ℕ → List ℕ → Outcome Results
+resulted v vm star vd fs us os =
+    accepted (record {
+      figures = record { v = v; vm = vm; star = star; vd = vd; t = 500 };
+      forces = fs;
+      shears = us;
+      overturnings = os;
+    })
+
+pub worked-near-fault : (nearFault 112 123 118 136 ≡ resulted 2_116_872 2_177_765 1_904_762 2_177_765 (350_257 ∷ 700_514 ∷ 1_126_994 ∷ [])
+    (2_177_765 ∷ 1_827_508 ∷ 1_126_994 ∷ []) (513_226_700 ∷ 295_450_200 ∷ 112_699_400 ∷ []))
+    × (nearFault 118 136 118 136 ≡ resulted 2_228_843 2_177_765 1_904_762 2_228_843 (358_472 ∷ 716_944 ∷ 1_153_427 ∷ [])
+    (2_228_843 ∷ 1_870_371 ∷ 1_153_427 ∷ []) (525_264_100 ∷ 302_379_800 ∷ 115_342_700 ∷ []))
+    × (nearFault 112 123 112 123 ≡ resulted 2_116_872 2_001_993 1_904_762 2_116_872 (340_463 ∷ 680_927 ∷ 1_095_482 ∷ [])
+    (2_116_872 ∷ 1_776_409 ∷ 1_095_482 ∷ []) (498_876_300 ∷ 287_189_100 ∷ 109_548_200 ∷ []))
 unfolding jobOf judgedJob judgedLevels weighed raised within inRange among listed judgedSite judgedMapped judgedNearFault
     judgedClass judgedFrame judgedKind judgedPeriod cells sum between lowerRoot upperRoot up down largest smallest bitsFrom factor
     lowerFactor upperFactor approximate inUse bent ratio modified blended exactSpectrum spectrum newtons shear star base figuresAt
     weightHeight about floor ceiling
-worked-near-fault = (refl, refl)
+worked-near-fault = (refl, refl, refl)

@@ -71,8 +71,8 @@ site-allowed v s e =
     let m1 = then-passed (listed (50 ∷ 60 ∷ 70 ∷ 80 ∷ []) (v .ssd) 5 1) _ (mapped .0) in
     let m2 = then-passed (listed (30 ∷ 35 ∷ 40 ∷ 45 ∷ []) (v .s1d) 5 2) _ (m1 .1) in
     let m3 = then-passed (listed (70 ∷ 80 ∷ 90 ∷ 100 ∷ []) (v .ssm) 5 3) _ (m2 .1) in
-    let n1 = then-passed (within 100 150 (v .na) 6 1) _ (near .0) in
-    let n2 = then-passed (within 100 200 (v .nv) 6 2) _ (n1 .1) in
+    let n1 = then-passed (within 100 150 (v .nad) 6 1) _ (near .0) in
+    let n2 = then-passed (within 100 200 (v .nvd) 6 2) _ (n1 .1) in
     let n3 = then-passed (within 100 150 (v .nam) 6 3) _ (n2 .1) in
     let same : siteOf v (class .0) ≡ s = one-value (class .2) in
     subst AllowedSite same
@@ -81,8 +81,8 @@ site-allowed v s e =
       s1d = listed-accepted 30 45 (v .s1d) 5 2 _ refl (m2 .0);
       ssm = listed-accepted 70 100 (v .ssm) 5 3 _ refl (m3 .0);
       s1m = listed-accepted 40 55 (v .s1m) 5 4 _ refl (m3 .1);
-      na = within-passed 100 150 (v .na) 6 1 (n1 .0);
-      nv = within-passed 100 200 (v .nv) 6 2 (n2 .0);
+      nad = within-passed 100 150 (v .nad) 6 1 (n1 .0);
+      nvd = within-passed 100 200 (v .nvd) 6 2 (n2 .0);
       nam = within-passed 100 150 (v .nam) 6 3 (n3 .0);
       nvm = within-passed 100 200 (v .nvm) 6 4 (n3 .1);
     })

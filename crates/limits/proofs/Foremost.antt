@@ -59,7 +59,7 @@ module _ (s : GroundValues) (f : FrameValues) (ws hs : List ℕ) (room : ℕ) wh
   accepted-none g n p e a = subst (Stops n p) e (stops n p a)
 
 -- on a site with one pair of near-fault factors for both levels, 6 is given at place 1 or 2
-pub one-pair-lowest : (s : SiteValues) (f : FrameValues) (ws hs : List ℕ) (room p : ℕ) → s .nam ≡ s .na → s .nvm ≡ s .nv
+pub one-pair-lowest : (s : SiteValues) (f : FrameValues) (ws hs : List ℕ) (room p : ℕ) → s .nam ≡ s .nad → s .nvm ≡ s .nvd
     → judgedJob (Site s) f ws hs room ≡ refused 6 p → p ≤ 2
 one-pair-lowest s f ws hs room p a b e =
     let q = one-pair-place s a b (refused-applies (Site s) f ws hs room 6 p e) in

@@ -9,7 +9,7 @@ use Rattle.limits.specs.declared.frame.FrameValues.{FrameValues}
 use Rattle.limits.specs.declared.ground.GroundValues.{GroundValues}
 use Rattle.limits.specs.declared.ground.GroundValues.the-variants.{Site, Basin}
 use Rattle.limits.specs.declared.site.SiteValues.{SiteValues}
-use Rattle.limits.specs.Applies.{OutOf, count, lists, buffer, weight, height, rising, LevelsApply, of-count, of-lengths, of-weights, of-heights, SiteApplies, ss-design, s1-design, ss-mce, s1-mce, na, nv, na-mce, nv-mce, class, ZoneApplies, zone, GroundApplies, FrameApplies, r, i, alpha, kind, period, Applies, of-levels, of-ground, of-frame}
+use Rattle.limits.specs.Applies.{OutOf, count, lists, buffer, weight, height, rising, LevelsApply, of-count, of-lengths, of-weights, of-heights, SiteApplies, ss-design, s1-design, ss-mce, s1-mce, na-design, nv-design, na-mce, nv-mce, class, ZoneApplies, zone, GroundApplies, FrameApplies, r, i, alpha, kind, period, Applies, of-levels, of-ground, of-frame}
 
 abbrev pub Named : ℕ → ℕ → Type 0
 Named n p = ((3 ≤ n) × (n ≤ 6) × (1 ≤ p)) ⊎ (((n < 3) ⊎ (6 < n)) × (p ≡ 0))
@@ -27,8 +27,8 @@ named-site (ss-design o) = inl (omega arith)
 named-site (s1-design o) = inl (omega arith)
 named-site (ss-mce o) = inl (omega arith)
 named-site (s1-mce o) = inl (omega arith)
-named-site (na o) = inl (omega arith)
-named-site (nv o) = inl (omega arith)
+named-site (na-design o) = inl (omega arith)
+named-site (nv-design o) = inl (omega arith)
 named-site (na-mce o) = inl (omega arith)
 named-site (nv-mce o) = inl (omega arith)
 named-site (class o) = inr (inr (omega arith), refl)
@@ -62,8 +62,8 @@ numbered-site (ss-design o) = omega arith
 numbered-site (s1-design o) = omega arith
 numbered-site (ss-mce o) = omega arith
 numbered-site (s1-mce o) = omega arith
-numbered-site (na o) = omega arith
-numbered-site (nv o) = omega arith
+numbered-site (na-design o) = omega arith
+numbered-site (nv-design o) = omega arith
 numbered-site (na-mce o) = omega arith
 numbered-site (nv-mce o) = omega arith
 numbered-site (class o) = omega arith
@@ -89,16 +89,16 @@ numbered-basin (of-ground (zone o)) = inr (inl refl)
 numbered-basin (of-frame a) = inr (inr (numbered-frame a))
 
 -- where both levels have the same pair of near-fault factors, 6 applies at place 1 or 2 wherever it applies
-module _ (s : SiteValues) (na-same : s .nam ≡ s .na) (nv-same : s .nvm ≡ s .nv) where
+module _ (s : SiteValues) (na-same : s .nam ≡ s .nad) (nv-same : s .nvm ≡ s .nvd) where
   site-pair : {n p : ℕ} → n ≡ 6 → SiteApplies s n p → (q : ℕ) × ((q ≤ 2) × SiteApplies s 6 q)
   site-pair e (ss-design o) = absurd (let z : ⊥ = omega arith in z)
   site-pair e (s1-design o) = absurd (let z : ⊥ = omega arith in z)
   site-pair e (ss-mce o) = absurd (let z : ⊥ = omega arith in z)
   site-pair e (s1-mce o) = absurd (let z : ⊥ = omega arith in z)
-  site-pair e (na o) = (1, (omega arith, na o))
-  site-pair e (nv o) = (2, (omega arith, nv o))
-  site-pair e (na-mce o) = (1, (omega arith, na (subst (OutOf 100 150) na-same o)))
-  site-pair e (nv-mce o) = (2, (omega arith, nv (subst (OutOf 100 200) nv-same o)))
+  site-pair e (na-design o) = (1, (omega arith, na-design o))
+  site-pair e (nv-design o) = (2, (omega arith, nv-design o))
+  site-pair e (na-mce o) = (1, (omega arith, na-design (subst (OutOf 100 150) na-same o)))
+  site-pair e (nv-mce o) = (2, (omega arith, nv-design (subst (OutOf 100 200) nv-same o)))
   site-pair e (class o) = absurd (let z : ⊥ = omega arith in z)
 
   pub one-pair-place : {f : FrameValues} {ws hs : List ℕ} {room p : ℕ} → Applies (Site s) f ws hs room 6 p

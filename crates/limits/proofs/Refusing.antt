@@ -16,7 +16,7 @@ use Rattle.limits.specs.declared.ground.GroundValues.{GroundValues}
 use Rattle.limits.specs.declared.ground.GroundValues.the-variants.{Site, Basin}
 use Rattle.limits.specs.declared.site.SiteValues.{SiteValues}
 use Rattle.whole.specs.Cells.{below}
-use Rattle.limits.specs.Applies.{OutOf, NotListed, count, lists, buffer, weight, height, rising, LevelsApply, of-count, of-lengths, of-weights, of-heights, SiteApplies, ss-design, s1-design, ss-mce, s1-mce, na, nv, na-mce, nv-mce, class, ZoneApplies, zone, GroundApplies, FrameApplies, r, i, alpha, kind, period, Applies, of-levels, of-ground, of-frame}
+use Rattle.limits.specs.Applies.{OutOf, NotListed, count, lists, buffer, weight, height, rising, LevelsApply, of-count, of-lengths, of-weights, of-heights, SiteApplies, ss-design, s1-design, ss-mce, s1-mce, na-design, nv-design, na-mce, nv-mce, class, ZoneApplies, zone, GroundApplies, FrameApplies, r, i, alpha, kind, period, Applies, of-levels, of-ground, of-frame}
 use Rattle.limits.specs.Frame.{judgedKind, judgedPeriod, judgedFrame}
 use Rattle.limits.specs.Ground.{judgedGround}
 use Rattle.limits.specs.Judging.{judgedJob}
@@ -98,8 +98,8 @@ module _ (s : SiteValues) where
       (λ _. then-told S (listed (70 ∷ 80 ∷ 90 ∷ 100 ∷ []) (s .ssm) 5 3) _ (listed-told S _ (s .ssm) 5 3 ss-mce)
       (λ _. listed-told S _ (s .s1m) 5 4 s1-mce))))
       (λ _. then-told S (judgedNearFault s) _
-      (then-told S (within 100 150 (s .na) 6 1) _ (within-told S 100 150 (s .na) 6 1 na)
-      (λ _. then-told S (within 100 200 (s .nv) 6 2) _ (within-told S 100 200 (s .nv) 6 2 nv)
+      (then-told S (within 100 150 (s .nad) 6 1) _ (within-told S 100 150 (s .nad) 6 1 na-design)
+      (λ _. then-told S (within 100 200 (s .nvd) 6 2) _ (within-told S 100 200 (s .nvd) 6 2 nv-design)
       (λ _. then-told S (within 100 150 (s .nam) 6 3) _ (within-told S 100 150 (s .nam) 6 3 na-mce)
       (λ _. within-told S 100 200 (s .nvm) 6 4 nv-mce))))
       (λ _. bind-told S (judgedClass (s .class)) _

@@ -9,7 +9,7 @@ use lib.Dec.{eqb}
 use borrow.Author.Tests.{ne-eqb}
 use Rattle.whole.proofs.Choice.{by-test}
 use Rattle.limits.specs.declared.site.SiteValues.{SiteValues}
-use Rattle.limits.specs.Applies.{OutOf, NotListed, SiteApplies, ss-design, s1-design, ss-mce, s1-mce, na, nv, na-mce, nv-mce, class}
+use Rattle.limits.specs.Applies.{OutOf, NotListed, SiteApplies, ss-design, s1-design, ss-mce, s1-mce, na-design, nv-design, na-mce, nv-mce, class}
 use Rattle.limits.specs.Order.{Before}
 use Rattle.limits.specs.Ranges.{within, listed}
 use Rattle.limits.specs.Site.{judgedClass, judgedMapped, judgedNearFault, judgedSite}
@@ -35,8 +35,8 @@ module _ (s : SiteValues) where
   near-fault-up-to : UpTo 6 (judgedNearFault s)
   unfolding judgedNearFault
   near-fault-up-to =
-      both-up-to 6 (within 100 150 (s .na) 6 1) _ (within-up-to 6 100 150 (s .na) 6 1 (omega arith))
-      (both-up-to 6 (within 100 200 (s .nv) 6 2) _ (within-up-to 6 100 200 (s .nv) 6 2 (omega arith))
+      both-up-to 6 (within 100 150 (s .nad) 6 1) _ (within-up-to 6 100 150 (s .nad) 6 1 (omega arith))
+      (both-up-to 6 (within 100 200 (s .nvd) 6 2) _ (within-up-to 6 100 200 (s .nvd) 6 2 (omega arith))
       (both-up-to 6 (within 100 150 (s .nam) 6 3) _ (within-up-to 6 100 150 (s .nam) 6 3 (omega arith))
       (within-up-to 6 100 200 (s .nvm) 6 4 (omega arith))))
 
@@ -96,33 +96,33 @@ module _ (s : SiteValues) where
       later-stops 6 q (judgedMapped s) _ (up-to-yields 5 6 q (judgedMapped s) mapped-up-to (omega arith))
       (λ _. first-stops 6 q (judgedNearFault s) _ t)
 
-  na-stops : OutOf 100 150 (s .na) → Stops 6 1 (judgedSite s)
+  na-design-stops : OutOf 100 150 (s .nad) → Stops 6 1 (judgedSite s)
   unfolding judgedNearFault
-  na-stops o =
+  na-design-stops o =
       near-fault-stops 1
-      (first-stops 6 1 (within 100 150 (s .na) 6 1) _ (range-stops 6 1 100 150 (s .na) 6 1 o (inr (refl, inr (omega arith)))))
+      (first-stops 6 1 (within 100 150 (s .nad) 6 1) _ (range-stops 6 1 100 150 (s .nad) 6 1 o (inr (refl, inr (omega arith)))))
 
-  nv-stops : OutOf 100 200 (s .nv) → Stops 6 2 (judgedSite s)
+  nv-design-stops : OutOf 100 200 (s .nvd) → Stops 6 2 (judgedSite s)
   unfolding judgedNearFault
-  nv-stops o =
+  nv-design-stops o =
       near-fault-stops 2
-      (later-stops 6 2 (within 100 150 (s .na) 6 1) _ (factor-before 100 150 (s .na) 2 1 (omega arith) (omega arith))
-      (λ _. first-stops 6 2 (within 100 200 (s .nv) 6 2) _ (range-stops 6 2 100 200 (s .nv) 6 2 o (inr (refl, inr (omega arith))))))
+      (later-stops 6 2 (within 100 150 (s .nad) 6 1) _ (factor-before 100 150 (s .nad) 2 1 (omega arith) (omega arith))
+      (λ _. first-stops 6 2 (within 100 200 (s .nvd) 6 2) _ (range-stops 6 2 100 200 (s .nvd) 6 2 o (inr (refl, inr (omega arith))))))
 
   na-mce-stops : OutOf 100 150 (s .nam) → Stops 6 3 (judgedSite s)
   unfolding judgedNearFault
   na-mce-stops o =
       near-fault-stops 3
-      (later-stops 6 3 (within 100 150 (s .na) 6 1) _ (factor-before 100 150 (s .na) 3 1 (omega arith) (omega arith))
-      (λ _. later-stops 6 3 (within 100 200 (s .nv) 6 2) _ (factor-before 100 200 (s .nv) 3 2 (omega arith) (omega arith))
+      (later-stops 6 3 (within 100 150 (s .nad) 6 1) _ (factor-before 100 150 (s .nad) 3 1 (omega arith) (omega arith))
+      (λ _. later-stops 6 3 (within 100 200 (s .nvd) 6 2) _ (factor-before 100 200 (s .nvd) 3 2 (omega arith) (omega arith))
       (λ _. first-stops 6 3 (within 100 150 (s .nam) 6 3) _ (range-stops 6 3 100 150 (s .nam) 6 3 o (inr (refl, inr (omega arith)))))))
 
   nv-mce-stops : OutOf 100 200 (s .nvm) → Stops 6 4 (judgedSite s)
   unfolding judgedNearFault
   nv-mce-stops o =
       near-fault-stops 4
-      (later-stops 6 4 (within 100 150 (s .na) 6 1) _ (factor-before 100 150 (s .na) 4 1 (omega arith) (omega arith))
-      (λ _. later-stops 6 4 (within 100 200 (s .nv) 6 2) _ (factor-before 100 200 (s .nv) 4 2 (omega arith) (omega arith))
+      (later-stops 6 4 (within 100 150 (s .nad) 6 1) _ (factor-before 100 150 (s .nad) 4 1 (omega arith) (omega arith))
+      (λ _. later-stops 6 4 (within 100 200 (s .nvd) 6 2) _ (factor-before 100 200 (s .nvd) 4 2 (omega arith) (omega arith))
       (λ _. later-stops 6 4 (within 100 150 (s .nam) 6 3) _ (factor-before 100 150 (s .nam) 4 3 (omega arith) (omega arith))
       (λ _. range-stops 6 4 100 200 (s .nvm) 6 4 o (inr (refl, inr (omega arith)))))))
 
@@ -141,8 +141,8 @@ module _ (s : SiteValues) where
   site-stops n q (s1-design o) = s1-design-stops o
   site-stops n q (ss-mce o) = ss-mce-stops o
   site-stops n q (s1-mce o) = s1-mce-stops o
-  site-stops n q (na o) = na-stops o
-  site-stops n q (nv o) = nv-stops o
+  site-stops n q (na-design o) = na-design-stops o
+  site-stops n q (nv-design o) = nv-design-stops o
   site-stops n q (na-mce o) = na-mce-stops o
   site-stops n q (nv-mce o) = nv-mce-stops o
   site-stops n q (class o) = class-stops o
@@ -152,8 +152,8 @@ module _ (s : SiteValues) where
   site-later n q (s1-design o) = omega arith
   site-later n q (ss-mce o) = omega arith
   site-later n q (s1-mce o) = omega arith
-  site-later n q (na o) = omega arith
-  site-later n q (nv o) = omega arith
+  site-later n q (na-design o) = omega arith
+  site-later n q (nv-design o) = omega arith
   site-later n q (na-mce o) = omega arith
   site-later n q (nv-mce o) = omega arith
   site-later n q (class o) = omega arith

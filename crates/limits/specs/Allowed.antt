@@ -21,8 +21,8 @@ pub record AllowedSite (s : Site) : Type 0 where
   pub s1d : (30 ≤ s .s1d) × (s .s1d ≤ 45)
   pub ssm : (70 ≤ s .ssm) × (s .ssm ≤ 100)
   pub s1m : (40 ≤ s .s1m) × (s .s1m ≤ 55)
-  pub na : (100 ≤ s .na) × (s .na ≤ 150)
-  pub nv : (100 ≤ s .nv) × (s .nv ≤ 200)
+  pub nad : (100 ≤ s .nad) × (s .nad ≤ 150)
+  pub nvd : (100 ≤ s .nvd) × (s .nvd ≤ 200)
   pub nam : (100 ≤ s .nam) × (s .nam ≤ 150)
   pub nvm : (100 ≤ s .nvm) × (s .nvm ≤ 200)
 

@@ -55,8 +55,8 @@ pub data SiteApplies (s : SiteValues) : ℕ → ℕ → Type 0 where
   s1-design : NotListed (30 ∷ 35 ∷ 40 ∷ 45 ∷ []) (s .s1d) → SiteApplies s 5 2
   ss-mce : NotListed (70 ∷ 80 ∷ 90 ∷ 100 ∷ []) (s .ssm) → SiteApplies s 5 3
   s1-mce : NotListed (40 ∷ 45 ∷ 50 ∷ 55 ∷ []) (s .s1m) → SiteApplies s 5 4
-  na : OutOf 100 150 (s .na) → SiteApplies s 6 1
-  nv : OutOf 100 200 (s .nv) → SiteApplies s 6 2
+  na-design : OutOf 100 150 (s .nad) → SiteApplies s 6 1
+  nv-design : OutOf 100 200 (s .nvd) → SiteApplies s 6 2
   na-mce : OutOf 100 150 (s .nam) → SiteApplies s 6 3
   nv-mce : OutOf 100 200 (s .nvm) → SiteApplies s 6 4
   class : NotListed (1 ∷ 2 ∷ 3 ∷ []) (s .class) → SiteApplies s 7 0

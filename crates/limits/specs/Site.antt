@@ -31,8 +31,8 @@ siteOf v c =
       s1d = v .s1d;
       ssm = v .ssm;
       s1m = v .s1m;
-      na = v .na;
-      nv = v .nv;
+      nad = v .nad;
+      nvd = v .nvd;
       nam = v .nam;
       nvm = v .nvm;
       class = c;
@@ -47,8 +47,8 @@ judgedMapped v = do
 
 unfoldable pub judgedNearFault : SiteValues → Outcome Done
 judgedNearFault v = do
-  within 100 150 (v .na) 6 1
-  within 100 200 (v .nv) 6 2
+  within 100 150 (v .nad) 6 1
+  within 100 200 (v .nvd) 6 2
   within 100 150 (v .nam) 6 3
   within 100 200 (v .nvm) 6 4
 

@@ -17,8 +17,8 @@ pub struct SiteValues {
     pub s1d: u64,
     pub ssm: u64,
     pub s1m: u64,
-    pub na: u64,
-    pub nv: u64,
+    pub nad: u64,
+    pub nvd: u64,
     pub nam: u64,
     pub nvm: u64,
     pub class: u64,
@@ -30,8 +30,8 @@ pub struct Site {
     pub s1d: u64,
     pub ssm: u64,
     pub s1m: u64,
-    pub na: u64,
-    pub nv: u64,
+    pub nad: u64,
+    pub nvd: u64,
     pub nam: u64,
     pub nvm: u64,
     pub class: Class,
@@ -80,9 +80,9 @@ impl Site {
 
     pub const AT_S1_MCE: u64 = 4;
 
-    pub const AT_NA: u64 = 1;
+    pub const AT_NA_DESIGN: u64 = 1;
 
-    pub const AT_NV: u64 = 2;
+    pub const AT_NV_DESIGN: u64 = 2;
 
     pub const AT_NA_MCE: u64 = 3;
 
@@ -117,11 +117,11 @@ impl Site {
     pub fn judged_near_fault(v: SiteValues) -> Verdict
         ensures { λ r. ⌜ verdictOutcome r ≡ judgedNearFault v ⌝ }
     {
-        let a = Self::judged_na(v.na, Self::AT_NA);
+        let a = Self::judged_na(v.nad, Self::AT_NA_DESIGN);
         let Verdict::Passed = a else {
             return a;
         };
-        let b = Self::judged_nv(v.nv, Self::AT_NV);
+        let b = Self::judged_nv(v.nvd, Self::AT_NV_DESIGN);
         let Verdict::Passed = b else {
             return b;
         };
@@ -177,8 +177,8 @@ impl Site {
             s1d: v.s1d,
             ssm: v.ssm,
             s1m: v.s1m,
-            na: v.na,
-            nv: v.nv,
+            nad: v.nad,
+            nvd: v.nvd,
             nam: v.nam,
             nvm: v.nvm,
             class,

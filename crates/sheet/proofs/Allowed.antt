@@ -82,8 +82,8 @@ site-short v s e =
           (
             omega (arith, a .s1m),
             (
-              omega (arith, a .na),
-              (omega (arith, a .nv), (omega (arith, a .nam), (omega (arith, a .nvm), (omega arith, tt)))),
+              omega (arith, a .nad),
+              (omega (arith, a .nvd), (omega (arith, a .nam), (omega (arith, a .nvm), (omega arith, tt)))),
             ),
           ),
         ),

@@ -20,22 +20,24 @@ use Rattle.sheet.specs.Lines.{lineIn, linesFrom}
 use Rattle.sheet.specs.Reading.{sheetLines, readSheet}
 use Rattle.sheet.specs.Sheet.{Sheet}
 
+abbrev levels : List ℕ
+levels = bytes "level\t5000\t100\n" ++ (bytes "level\t5000\t200\n" ++ bytes "level\t5000\t300\n")
+
 abbrev building : List ℕ
-building =
-    bytes "frame\t2\t1000\t480\t100\t150\n"
-    ++ (bytes "level\t5000\t100\n" ++ (bytes "level\t5000\t200\n" ++ bytes "level\t5000\t300\n"))
+building = bytes "frame\t2\t1000\t480\t100\t150\n" ++ levels
 
 abbrev office : List ℕ
 office = bytes "site\t80\t45\t100\t55\t100\t100\t1\n" ++ building
 
 abbrev nearFault : List ℕ
-nearFault = bytes "site\t80\t45\t100\t55\t112\t123\t123\t136\t1\n" ++ building
+nearFault =
+    bytes "site\t80\t45\t100\t55\t112\t123\t118\t136\t1\n" ++ (bytes "frame\t2\t500\t480\t100\t150\n" ++ levels)
 
 abbrev basin : List ℕ
 basin = bytes "basin\t1\n" ++ building
 
 pub office-read : readSheet office ≡ accepted (record {
-  ground = Site (record { ssd = 80; s1d = 45; ssm = 100; s1m = 55; na = 100; nv = 100; nam = 100; nvm = 100; class = 1 });
+  ground = Site (record { ssd = 80; s1d = 45; ssm = 100; s1m = 55; nad = 100; nvd = 100; nam = 100; nvm = 100; class = 1 });
   frame = record { kind = 2; calculated = 1_000; r = 480; i = 100; alpha = 150 };
   levels = record { weights = 5_000 ∷ 5_000 ∷ 5_000 ∷ []; heights = 100 ∷ 200 ∷ 300 ∷ [] };
 })
@@ -43,16 +45,16 @@ unfolding readSheet sheetLines lineIn linesFrom line fields field word starts nu
 office-read = refl
 
 pub near-fault-read : readSheet nearFault ≡ accepted (record {
-  ground = Site (record { ssd = 80; s1d = 45; ssm = 100; s1m = 55; na = 112; nv = 123; nam = 123; nvm = 136; class = 1 });
-  frame = record { kind = 2; calculated = 1_000; r = 480; i = 100; alpha = 150 };
+  ground = Site (record { ssd = 80; s1d = 45; ssm = 100; s1m = 55; nad = 112; nvd = 123; nam = 118; nvm = 136; class = 1 });
+  frame = record { kind = 2; calculated = 500; r = 480; i = 100; alpha = 150 };
   levels = record { weights = 5_000 ∷ 5_000 ∷ 5_000 ∷ []; heights = 100 ∷ 200 ∷ 300 ∷ [] };
 })
 unfolding readSheet sheetLines lineIn linesFrom line fields field word starts number digits wellMade inRange valueFrom
 near-fault-read = refl
 
 -- eight numbers, and ten
-pub site-otherwise : (readSheet (bytes "site\t80\t45\t100\t55\t112\t123\t123\t1\n" ++ building) ≡ refused 16 1)
-    × (readSheet (bytes "site\t80\t45\t100\t55\t112\t123\t123\t136\t1\t1\n" ++ building) ≡ refused 16 1)
+pub site-otherwise : (readSheet (bytes "site\t80\t45\t100\t55\t112\t123\t118\t1\n" ++ building) ≡ refused 16 1)
+    × (readSheet (bytes "site\t80\t45\t100\t55\t112\t123\t118\t136\t1\t1\n" ++ building) ≡ refused 16 1)
 unfolding readSheet sheetLines lineIn linesFrom line fields field word starts number digits wellMade inRange valueFrom
 site-otherwise = (refl, refl)
 
@@ -82,10 +84,10 @@ pub office-listed : resultsListing (record { v = 909_708; vm = 818_458; star = 1
 unfolding resultsListing roofFirst laidOut fieldsOf fieldOf decimal digitsOf
 office-listed = refl
 
-pub near-fault-listed : resultsListing (record { v = 1_118_936; vm = 1_113_100; star = 1_071_429; vd = 1_118_936; t = 1_000 })
-    (173_435 ∷ 346_870 ∷ 598_631 ∷ []) (1_118_936 ∷ 945_501 ∷ 598_631 ∷ []) (266_306_800 ∷ 154_413_200 ∷ 59_863_100 ∷ [])
-    ≡ bytes "base\t1118936\t1113100\t1071429\t1118936\t1000\n" ++ (bytes "level\t3\t598631\t598631\t59863100\n"
-    ++ (bytes "level\t2\t346870\t945501\t154413200\n" ++ bytes "level\t1\t173435\t1118936\t266306800\n"))
+pub near-fault-listed : resultsListing (record { v = 2_116_872; vm = 2_177_765; star = 1_904_762; vd = 2_177_765; t = 500 })
+    (350_257 ∷ 700_514 ∷ 1_126_994 ∷ []) (2_177_765 ∷ 1_827_508 ∷ 1_126_994 ∷ []) (513_226_700 ∷ 295_450_200 ∷ 112_699_400 ∷ [])
+    ≡ bytes "base\t2116872\t2177765\t1904762\t2177765\t500\n" ++ (bytes "level\t3\t1126994\t1126994\t112699400\n"
+    ++ (bytes "level\t2\t700514\t1827508\t295450200\n" ++ bytes "level\t1\t350257\t2177765\t513226700\n"))
 unfolding resultsListing roofFirst laidOut fieldsOf fieldOf decimal digitsOf
 near-fault-listed = refl
 
@@ -109,9 +111,9 @@ office-answered =
     ap (λ (o : Outcome Sheet). listing (o >>= jobOfSheet)) office-read ∙ ap listing worked ∙ office-listed
 
 -- and near a fault, with a pair for each level, this one
-pub near-fault-answered : sheetListing nearFault ≡ bytes "base\t1118936\t1113100\t1071429\t1118936\t1000\n"
-    ++ (bytes "level\t3\t598631\t598631\t59863100\n"
-    ++ (bytes "level\t2\t346870\t945501\t154413200\n" ++ bytes "level\t1\t173435\t1118936\t266306800\n"))
+pub near-fault-answered : sheetListing nearFault ≡ bytes "base\t2116872\t2177765\t1904762\t2177765\t500\n"
+    ++ (bytes "level\t3\t1126994\t1126994\t112699400\n"
+    ++ (bytes "level\t2\t700514\t1827508\t295450200\n" ++ bytes "level\t1\t350257\t2177765\t513226700\n"))
 unfolding sheetListing listing
 near-fault-answered =
     ap (λ (o : Outcome Sheet). listing (o >>= jobOfSheet)) near-fault-read ∙ ap listing (worked-near-fault .0) ∙ near-fault-listed

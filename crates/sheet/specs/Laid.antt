@@ -23,10 +23,10 @@ use Rattle.sheet.specs.Layouts.{Line, linesLaid}
 use Rattle.sheet.specs.Sheet.{Sheet}
 
 abbrev pub siteNumbers : SiteValues → List ℕ
-siteNumbers v = v .ssd ∷ v .s1d ∷ v .ssm ∷ v .s1m ∷ v .na ∷ v .nv ∷ v .nam ∷ v .nvm ∷ v .class ∷ []
+siteNumbers v = v .ssd ∷ v .s1d ∷ v .ssm ∷ v .s1m ∷ v .nad ∷ v .nvd ∷ v .nam ∷ v .nvm ∷ v .class ∷ []
 
 abbrev pub onePairNumbers : SiteValues → List ℕ
-onePairNumbers v = v .ssd ∷ v .s1d ∷ v .ssm ∷ v .s1m ∷ v .na ∷ v .nv ∷ v .class ∷ []
+onePairNumbers v = v .ssd ∷ v .s1d ∷ v .ssm ∷ v .s1m ∷ v .nad ∷ v .nvd ∷ v .class ∷ []
 
 abbrev pub frameNumbers : FrameValues → List ℕ
 frameNumbers v = v .kind ∷ v .calculated ∷ v .r ∷ v .i ∷ v .alpha ∷ []
@@ -36,7 +36,7 @@ siteLine ns = record { word = bytes "site"; numbers = ns }
 
 pub data GroundLine : GroundValues → Line → Type 0 where
   two-pairs : (v : SiteValues) → GroundLine (Site v) (siteLine (siteNumbers v))
-  one-pair : (v : SiteValues) → v .nam ≡ v .na → v .nvm ≡ v .nv → GroundLine (Site v) (siteLine (onePairNumbers v))
+  one-pair : (v : SiteValues) → v .nam ≡ v .nad → v .nvm ≡ v .nvd → GroundLine (Site v) (siteLine (onePairNumbers v))
   zone : (z : ℕ) → GroundLine (Basin z) (record { word = bytes "basin"; numbers = z ∷ [] })
 
 abbrev pub levelLinesOf : List ℕ → List ℕ → List Line

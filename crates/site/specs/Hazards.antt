@@ -48,7 +48,7 @@ lines = record { first = 300; second = 800; slope = 520; add = 144; last = 700 }
 abbrev pub hazardsOf : Site → ℕ → Hazards
 hazardsOf site R =
     record {
-      design = designHazard (site .class) (site .ssd) (site .s1d) (site .na) (site .nv) R;
+      design = designHazard (site .class) (site .ssd) (site .s1d) (site .nad) (site .nvd) R;
       mce = mceHazard (site .class) (site .ssm) (site .s1m) (site .nam) (site .nvm) R;
       star = designHazard (site .class) (site .ssd) (site .s1d) 100 100 R;
       lines = lines;

@@ -54,7 +54,7 @@ pub fn hazards_of(site: Site, r: u64) -> Hazards
     ensures { λ k. ⌜ k ≡ hazardsOf site r ⌝ }
 {
     let class = site.class;
-    let design = accelerations(class, site.ssd, site.s1d, site.na, site.nv);
+    let design = accelerations(class, site.ssd, site.s1d, site.nad, site.nvd);
     let mce = accelerations(class, site.ssm, site.s1m, site.nam, site.nvm);
     let plain = accelerations(class, site.ssd, site.s1d, NO_FACTOR, NO_FACTOR);
     let allowable = design_capacity(r);

@@ -46,8 +46,8 @@ pub record Vector : Type 0 where
 
 -- a pair of near-fault factors for each level
 abbrev pub siteOfPairs : ℕ → ℕ → ℕ → ℕ → ℕ → ℕ → ℕ → ℕ → Class → Site
-siteOfPairs ssd s1d ssm s1m na nv nam nvm c =
-    record { ssd = ssd; s1d = s1d; ssm = ssm; s1m = s1m; na = na; nv = nv; nam = nam; nvm = nvm; class = c }
+siteOfPairs ssd s1d ssm s1m nad nvd nam nvm c =
+    record { ssd = ssd; s1d = s1d; ssm = ssm; s1m = s1m; nad = nad; nvd = nvd; nam = nam; nvm = nvm; class = c }
 
 -- one pair for both
 abbrev pub siteOf : ℕ → ℕ → ℕ → ℕ → ℕ → ℕ → Class → Site
