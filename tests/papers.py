@@ -33,6 +33,7 @@ PLAIN = {
     'other programs, and functions of C': 'cc nm read write open close memcpy memset',
     'the sheet and the listing': 'site frame level base refused',
     'what the last line of the gate says': 'N passed, 0 failed',
+    'fields of version 1': 'na nv',
 }
 PLAIN_WORDS = {word for words in PLAIN.values() for word in words.split()}
 STRICT = ('definition', 'held by', 'theorem')       # heads of columns
