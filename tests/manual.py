@@ -32,9 +32,10 @@ NEAR_FAULT = (ROOT / 'examples' / 'near_fault.sheet').read_bytes()
 # what a filled page says in digits of its own: constants of the rules, powers of ten, equations, sections, tables and limits of 000,
 # numbers of kinds and refusals, and the exponent of a pocket calculator
 OWN = {
-    'worked.md': '0.01 0.75 1 1.4 2 4.2 5 7 16 17 19 25 50 75 100 300 1400 4200 10,000',
+    'worked.md': '0.01 0.07 0.75 1 1.4 2 4.2 5 7 10 16 17 19 25 50 75 100 300 1400 4200 10,000',
     'soft_ground.md': '0.75 2',
-    'near_fault.md': '1 1.0 1.00 2 2.2 2.4 3 4 6 7 8 9 10 13 16 19 100',
+    'near_fault.md': '0.01 0.07 0.2 0.4 0.6 0.75 1 1.0 1.00 1.4 2 2.2 2.4 2.5 3 4 4.2 5 6 7 9 10 13 14 16 17 19 25 50 75 100 300 400 600 1000 '
+                     '1400 4200 10,000',
     'basin.md': '0.01 0.2 0.4 0.6 0.8 1 1.0 1.4 1.5 2 2.0 2.3 2.4 2.5 3 3.5 4 4.2 6 7 10 11 15 16 17 18 19 50 100 200 1000 1400 2005 3500',
     'rounding.md': '1 3 1.4 1.5 4.2 10 15',
     'soil.md': '0.1 1 2 3 2.1 10 13 15 18 27 30 180 270 800 1000',
@@ -76,7 +77,7 @@ OF_MCE = ('N_A M', 'N_V M')      # what a site line of seven numbers leaves out
 SAID = {
     1: [f'more than {limits.LEVELS[-1]}', ranged(limits.LEVELS)], 3: [ranged(limits.WEIGHT) + ' kN'], 4: [ranged(limits.HEIGHT) + ' dm'],
     5: ['1 S_S D, 2 S_1 D, 3 S_S M, 4 S_1 M'],
-    6: ['1 N_A, 2 N_V, 3 N_A M, 4 N_V M', f'N_A {ranged(limits.N_A)}, N_V {ranged(limits.N_V)}, at both levels'],
+    6: ['1 N_A, 2 N_V, 3 N_A M, 4 N_V M', f'N_A {ranged(limits.N_A)}, N_V {ranged(limits.N_V)}, for design and MCE'],
     7: ['not ' + either(limits.CLASS)], 8: ['not ' + ranged(limits.R_RANGE)], 9: ['not ' + either(limits.I_VALUES)],
     10: ['not ' + ranged(limits.ALPHA_Y)], 11: ['not ' + either(limits.KIND)], 12: [f'above {comma(limits.CALCULATED_PERIOD[-1])} ms'],
     13: [f'more than {soil.LAYERS[-1]}'], 14: [],
@@ -156,7 +157,7 @@ def site_lines():
         yield row[:2] == [str(layout.groups), ', '.join(order)] and len(order) == layout.groups, f'{name}: {row}, wanted {order}'
     taken = [count for count in range(13) if with_line(1, 'site' + count * '\t100') != ['refused', '16', '1']]
     yield taken == [len(short), len(names)] == [7, 9], f'docs/manual/sheet.md: a site line may have {taken} numbers'
-    for words in ('These are nine numbers. A line may also have seven', 'With 8 numbers, or 10, the line is refused'):
+    for words in ('These are nine numbers. A line may also have seven', 'Any other count is [refusal](refusals.md) 16 at line 1.'):
         yield words in page('sheet.md').replace('\n', ' '), f'docs/manual/sheet.md: does not say: {words}'
     module = re.search(r"^Site = namedtuple\('Site', '([^']*)'\)$", (ROOT / 'examples' / 'rukeshomaji.py').read_text(), re.M)
     yield module[1].split() == near_fault.FIELDS, f'{name}: the fields in Python are {module[1]}'
@@ -171,7 +172,7 @@ def with_line(number, line):
 
 def answer(example):
     """What the model answers to the example of a refusal."""
-    line = re.match(r'line (\d+) `([^`]*)`$', example)
+    line = re.match(r'line (\d+) `([^`]*)`(?: \([^)]*\))?$', example)
     layers = re.match(r'log `([^`]*)`$', example)
     if line:
         return with_line(int(line[1]), line[2].replace(' ', '\t'))
@@ -206,8 +207,10 @@ def refusals():
         yield (place == '0') == (bool(said) and said[2].split()[2] == '0'), f'docs/manual/refusals.md: {number}: its place'
         for words in SAID.get(int(number), []):
             yield words in f'{place}; {wrong}; {to_do}', f'docs/manual/refusals.md: {number}: does not say: {words}'
-    by_seven = re.search(r'at place 1 or 2, never at 3 or 4: `(site [\d ]*)` gets `(refused 6 [12])`', text)
+    by_seven = re.search(r'On a `site` line of seven numbers, refusal 6 has place 1 or 2 only: `(site [\d ]*)` gets `(refused 6 [12])`', text)
     yield bool(by_seven) and answer(f'line 1 `{by_seven[1]}`') == by_seven[2].split(), 'docs/manual/refusals.md: 6 on seven numbers'
+    named = re.search(r'\(`./shear` calls these ([^)]*)\)', text)
+    yield bool(named) and f"'{named[1].replace(', ', ',')}'" in (ROOT / 'shear').read_text(), 'docs/manual/refusals.md: the places of 6 in ./shear'
     whole = ' '.join(row[2] for row in found if row[0] == '14')
     yield f'{comma(soil.THICKNESS_SUM)} cm' in whole, 'docs/manual/refusals.md: 14: the depth'
 
@@ -376,7 +379,10 @@ def shown():
         stored = (ROOT / 'examples' / f'{name}.listing').read_bytes()
         yield stored == sheet.shear(data), f'examples/{name}.listing: not the listing of its sheet'
     in_c = re.search(r'^ *(RukeshomajiSite site = .*;)$', (ROOT / 'examples' / 'office.c').read_text(), re.M)
-    yield f'\n{in_c[1]}\n' in (ROOT / 'README.md').read_text(), 'README.md: not the site of examples/office.c'
+    *numbers, _ = read(NEAR_FAULT).ground
+    near = f'RukeshomajiSite near_fault = {{{listed(numbers)}, RUKESHOMAJI_HARD}};'
+    for line, of in ((in_c[1], 'office.c'), (near, 'near_fault.sheet')):
+        yield f'\n{line}\n' in (ROOT / 'README.md').read_text(), f'README.md: not the site of examples/{of}'
     listing = (ROOT / 'examples' / 'office.listing').read_text()
     for paper in (ROOT / 'README.md', MANUAL / 'sheet.md', MANUAL / 'worked.md'):
         for name, text in (('sheet', OFFICE.decode()), ('listing', listing)):

@@ -284,7 +284,7 @@ def across(others, first, cells_of):
 
 
 def spectrum_rows(worked):
-    """T0, B, and the spectrum at both levels, of a zone."""
+    """T0, B, and the spectrum for design and MCE, of a zone."""
     T0, B, ends = corner_cells(basins.S_DS, worked.ground.zone, worked.design)
     _, B_M, _ = corner_cells(basins.S_MS, worked.ground.zone, worked.mce)
     (branch, Sa), (same_branch, Sa_M) = (spectrum_cells(figures, worked.T) for figures in (worked.design, worked.mce))

@@ -254,52 +254,57 @@ def sheet_numbers(path):
 
 
 def groups_of_shears(title, heading, most, groups):
-    """V, V_M and V* of some jobs, three bars a job, the one that governs in full colour; groups are (what stands below, the job)."""
-    picture = Picture(960, 600, title)
+    """V, V_M and V* of some jobs, three bars a job, the one that governs dark; groups are (what stands below in lines, the job)."""
+    width, below = 276, max(len(lines) for lines, _ in groups)
+    picture = Picture(150 + width * len(groups), 608 + 22 * (below - 1), title)
     picture.words(130, 36, heading, size=19, weight='bold')
-    axes = Axes(picture, (130, 70, 940, 520), len(groups), most)
+    picture.words(130, 64, 'The dark bar governs: V_D is the largest of V, V_M and V*.', size=16)
+    axes = Axes(picture, (130, 90, 130 + width * len(groups), 530), len(groups), most)
     axes.frame('', '', [], [(each, f'{each:,}') for each in range(0, most + 1, 500_000)])
-    picture.words(24, 295, 'base shear (N)', anchor='middle', turned=True)
-    for number, (words, result) in enumerate(groups, 1):
+    picture.words(24, 310, 'base shear (N)', anchor='middle', turned=True)
+    for number, (lines, result) in enumerate(groups, 1):
         figures = (('V', result.V, BLUE), ('V_M', result.V_M, GREEN), ('V*', result.V_star, RED))
         for place, (label, newtons, colour) in enumerate(figures):
             left, _ = axes.point(number - 1, 0)
-            x, (_, y) = left + 9 + 84 * place, axes.point(0, newtons)
+            x, (_, y) = left + 16 + 84 * place, axes.point(0, newtons)
             governs = newtons == result.V_D
-            picture.bar(x, y, 80, axes.bottom - y, colour, '' if governs else '0.35')
-            picture.words(x + 40, axes.bottom + 24, label, anchor='middle')
-            if governs and place == 0:      # above the number of the bar beside it
-                picture.words(x, y - 34, f'V_D = {newtons:,}', weight='bold')
-            elif governs:
-                picture.words(x + 80, y - 12, f'V_D = {newtons:,}', anchor='end', weight='bold')
-            else:
-                picture.words(x + 40, y - 10, f'{newtons:,}', size=15, anchor='middle')
+            picture.bar(x, y, 76, axes.bottom - y, colour, '' if governs else '0.35')
+            picture.words(x + 38, axes.bottom + 24, label, anchor='middle')
+            picture.words(x + 38, y - 8, f'{newtons:,}', size=15, anchor='middle', weight='bold' if governs else '')
+            if governs:
+                picture.words(x + 38, y - 26, f'{label} = V_D', size=15, anchor='middle', weight='bold')
         x, _ = axes.point(number - Fraction(1, 2), 0)
-        picture.words(x, axes.bottom + 54, words, anchor='middle', weight='bold')
+        for place, words in enumerate(lines):
+            picture.words(x, axes.bottom + 54 + 22 * place, words, anchor='middle', weight='' if place else 'bold', size=16 if place else 17)
     return picture.svg()
 
 
 def classes():
     """V, V_M, V* and V_D of the worked sheet, with the site class changed to 2 and 3."""
     site, frame, weights, heights = sheet_numbers(SHEET)
-    groups = [(f'class {number}, {name}', job((*site[:-1], number), frame, weights, heights)) for number, name, _, _ in CLASSES]
+    groups = [((f'class {number}, {name}',), job((*site[:-1], number), frame, weights, heights)) for number, name, _, _ in CLASSES]
     return groups_of_shears('What the site class does to the base shear', 'The worked sheet on a hard, a normal and a soft site',
                             2_000_000, groups)
 
 
 def near_fault():
-    """V, V_M, V* and V_D of the sheet near a fault without factors, with its own pairs, and with the larger pair for both levels."""
+    """V, V_M, V* and V_D of the sheet near a fault with its own pairs, with the larger and the smaller pair for both, and with no factors."""
     numbers, frame, weights, heights = sheet_numbers(NEAR_FAULT)
-    site, none = limits.Site(*numbers), sites.NO_NEAR_FAULT
-    groups = [(words, job(site._replace(**pairs), frame, weights, heights)) for words, pairs in (
-        ('no near-fault factors', {'NA': none, 'NV': none, 'NAM': none, 'NVM': none}), ('a pair for each level', {}),
-        ('the larger pair for both', {'NA': site.NAM, 'NV': site.NVM}))]
-    return groups_of_shears('What the near-fault factors do to the base shear',
-                            'The same building with three choices of near-fault factors', 1_500_000, groups)
+    site, none = limits.Site(*numbers), (sites.NO_NEAR_FAULT, sites.NO_NEAR_FAULT)
+    design, mce = (site.NA, site.NV), (site.NAM, site.NVM)
+    assert design[0] < mce[0] and design[1] < mce[1]
+    groups = []
+    for words, first, second in (('own pairs', design, mce), ('the larger pair for both', mce, mce), ('the smaller pair for both', design, design),
+                                 ('no near fault', none, none)):
+        result = job(site._replace(NA=first[0], NV=first[1], NAM=second[0], NVM=second[1]), frame, weights, heights)
+        pairs = [f'{name} {", ".join(decimal(Fraction(each, 100), 2) for each in pair)}' for name, pair in (('design', first), ('MCE', second))]
+        groups.append(((words, *pairs), result))
+    return groups_of_shears('What a pair of near-fault factors does to the base shear, at its own hazard level and at both',
+                            'The example near a fault, with N_A and N_V of each hazard level as named below', 2_500_000, groups)
 
 
 def basin():
-    """The design and the MCE spectrum of the four zones of the Taipei Basin, one field a level."""
+    """The design and the MCE spectrum of the four zones of the Taipei Basin, one field each."""
     picture = Picture(960, 980, 'The spectra of the four zones of the Taipei Basin')
     picture.words(90, 36, 'Taipei Basin, (10) and (15): dots at 0.2·T0, T0 and 2.5·T0', size=19, weight='bold')
     for top, name, letters, S in ((70, 'design', 'S_DS', basins.S_DS), (530, 'MCE', 'S_MS', basins.S_MS)):
