@@ -21,9 +21,10 @@ use Rattle.sheet.specs.declared.levels.LevelsRead.{LevelsRead}
 use Rattle.sheet.specs.declared.reader.SheetAnswer.the-variants.{Taken}
 use Rattle.sheet.specs.Layouts.{Line, firstOf, past}
 use Rattle.sheet.specs.Lines.{lineIn, readFrom}
-use Rattle.sheet.specs.Reading.{FirstLine, sheetLines, levelLines, kept, cellsOf, levelsRead, sheetRead, levelsOutcome}
+use Rattle.sheet.specs.Reading.{sheetLines, levelLines, kept, cellsOf, levelsRead, sheetRead, levelsOutcome}
 use Rattle.sheet.specs.Sheet.{frameLayout, sheetForm, levelForm, frameValues, Levels, levelsOf}
 use Rattle.sheet.proofs.Fitting.{front, line-fits, line-not, no-more}
+use Rattle.sheet.proofs.GroundLine.{FirstLine}
 use Rattle.sheet.proofs.LaidRead.{sheet-worded, frame-worded}
 use Rattle.sheet.proofs.Lines.{read-stop, read-on}
 use Rattle.sheet.proofs.Refused.{answer-refused, only}

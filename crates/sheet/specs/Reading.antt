@@ -4,19 +4,16 @@
 --   readSheet bytes        17 at 0 where there are over 4,096 bytes; else what the lines hold
 --   keptMost               how many levels are kept: one more than a job may have, so that the job can refuse the count
 --   kept l, cellsOf l      the first of a list, as many as are kept; in as many cells, zeros in the rest
---   FirstLine ks s g second    line 1 of the bytes s, by the first of the layouts ks that it fits, holds the ground g, and line 2 begins
---                          at `second`
---   GroundAnswers ks s a   so says the code's answer a; or that it fits none
+--   groundLineAnswer o     the code's answer to the reading o of line 1: the ground that it holds, and where line 2 begins; or it is otherwise
 --   levelLineAnswer c o        the code's answer to the reading o of a level line from c on: weight, height, where the next begins
 --   levelsRead o, sheetRead o          the code's answer to the outcome o, its weights and heights in cells
 --   levelsOutcome a, sheetOutcome a    what the code's answer a says: how many levels are kept, with ground and frame of a sheet;
 --                          or the refusal
 -- A sheet without level lines is read: 1 is refused by the job.
-use mathlib.Core.Path.{_≡_}
 use mathlib.Core.List.{List}
 use Prim.Native.Nat.{ℕ, _+_}
 use lib.Dec.{leb}
-use lib.ListN.{length, getD, drop, take}
+use lib.ListN.{length, getD, take}
 use Rattle.whole.specs.Cells.{laid}
 use Rattle.limits.specs.declared.frame.FrameValues.{FrameValues}
 use Rattle.limits.specs.declared.ground.GroundValues.{GroundValues}
@@ -33,8 +30,8 @@ use Rattle.sheet.specs.declared.levels.LevelsRead.{LevelsRead}
 use Rattle.sheet.specs.declared.reader.SheetAnswer.{SheetAnswer}
 use Rattle.sheet.specs.declared.reader.SheetAnswer.the-variants.{Taken, Refused}
 use Rattle.sheet.specs.declared.reader.SheetRead.{SheetRead}
-use Rattle.sheet.specs.Layouts.{Layout, Line, lineLaid}
-use Rattle.sheet.specs.Lines.{lineIn, readFrom}
+use Rattle.sheet.specs.Layouts.{lineLaid}
+use Rattle.sheet.specs.Lines.{Front, readFrom}
 use Rattle.sheet.specs.Sheet.{sheetForm, levelForm, groundOf, Levels, levelsOf, Sheet, sheetOf}
 
 unfoldable pub sheetLines : List ℕ → Outcome Sheet
@@ -61,15 +58,9 @@ kept l = take keptMost l
 abbrev pub cellsOf : List ℕ → List ℕ
 cellsOf l = laid (kept l) (zeros keptMost)
 
-pub record FirstLine (ks : List Layout) (s : List ℕ) (g : GroundValues) (second : Cursor) : Type 0 where
-  pub line : Line
-  pub at : lineIn 1 ks s ≡ accepted (record { line = line; rest = drop (second .at) s })
-  pub ends : second .at ≡ length (lineLaid line)
-  pub holds : groundOf line ≡ g
-
-abbrev pub GroundAnswers : List Layout → List ℕ → GroundLineAnswer → Type 0
-GroundAnswers ks s (FoundGround g second) = FirstLine ks s g second
-GroundAnswers ks s NoGround = lineIn 1 ks s ≡ refused 16 1
+unfoldable pub groundLineAnswer : Outcome Front → GroundLineAnswer
+groundLineAnswer (accepted x) = FoundGround (groundOf (x .line)) (record { at = length (lineLaid (x .line)) })
+groundLineAnswer (refused n p) = NoGround
 
 unfoldable pub levelLineAnswer : Cursor → Reading (List ℕ) → LevelLineAnswer
 levelLineAnswer c (found ns n) = Found (getD ns 0 0) (getD ns 1 0) (after c n)

@@ -20,7 +20,8 @@ ghost use mathlib.Core.Path.{_≡_};
 ghost use mathlib.Core.List.{[], _∷_};
 ghost use Rattle.limits.specs.Outcome.{refused, refusalOf};
 ghost use Rattle.sheet.specs.Layouts.{firstOf};
-ghost use Rattle.sheet.specs.Reading.{GroundAnswers, sheetLines, readSheet, sheetRead, sheetOutcome};
+ghost use Rattle.sheet.specs.Lines.{lineIn};
+ghost use Rattle.sheet.specs.Reading.{groundLineAnswer, sheetLines, readSheet, sheetRead, sheetOutcome};
 ghost use Rattle.sheet.specs.Sheet.{twoPairsLayout, basinLayout, sheetForm, siteValues, pairTwice, frameValues};
 
 // What line 1 holds, and where line 2 begins; or it is otherwise.
@@ -114,7 +115,7 @@ fn frame_values(n: [u64; 10]) -> FrameValues
 
 // Line 1, by the first of its layouts that it fits.
 fn ground_line(s: &[u8]) -> GroundLineAnswer
-    ensures { λ a. ⌜ GroundAnswers (firstOf sheetForm) (now (s .entry)) a ⌝ }
+    ensures { λ a. ⌜ a ≡ groundLineAnswer (lineIn 1 (firstOf sheetForm) (now (s .entry))) ⌝ }
 {
     let front = Cursor { at: 0 };
     let site = line(s, front, b"site", ONE_PAIR_NUMBERS);
@@ -126,8 +127,9 @@ fn ground_line(s: &[u8]) -> GroundLineAnswer
     GroundLineAnswer::Found(GroundValues::Site(one_pair(numbers)), second)
 }
 
+// Line 1, where it is no site line with one pair.
 fn two_pairs_line(s: &[u8]) -> GroundLineAnswer
-    ensures { λ a. ⌜ GroundAnswers (twoPairsLayout ∷ basinLayout ∷ []) (now (s .entry)) a ⌝ }
+    ensures { λ a. ⌜ a ≡ groundLineAnswer (lineIn 1 (twoPairsLayout ∷ basinLayout ∷ []) (now (s .entry))) ⌝ }
 {
     let front = Cursor { at: 0 };
     let site = line(s, front, b"site", TWO_PAIRS_NUMBERS);
@@ -139,8 +141,9 @@ fn two_pairs_line(s: &[u8]) -> GroundLineAnswer
     GroundLineAnswer::Found(GroundValues::Site(two_pairs(numbers)), second)
 }
 
+// Line 1, where it is no site line.
 fn basin_line(s: &[u8]) -> GroundLineAnswer
-    ensures { λ a. ⌜ GroundAnswers (basinLayout ∷ []) (now (s .entry)) a ⌝ }
+    ensures { λ a. ⌜ a ≡ groundLineAnswer (lineIn 1 (basinLayout ∷ []) (now (s .entry))) ⌝ }
 {
     let front = Cursor { at: 0 };
     let basin = line(s, front, b"basin", BASIN_NUMBERS);

@@ -4,7 +4,6 @@ use mathlib.Core.List.{[]}
 use Rattle.text.proofs.Readings.{line-missed, line-went}
 use Rattle.sheet.proofs.GroundLine.{start, others-left, none-left, basin-found}
 use Rattle.sheet.specs.Sheet.{basinLayout}
-use Rattle.sheet.specs.declared.reader.GroundLineAnswer.the-variants.{Otherwise}
 use Rattle.sheet.proofs.reader.basin_line.Statement.{statement}
 use Rattle.sheet.proofs.reader.basin_line.Tie as tie
 
@@ -22,7 +21,7 @@ enum-told c = search needs
 
 returns : tie.Need-returns
 returns c =
-    others-left basinLayout [] _ Otherwise (line-missed start _ _ (c .before .before .line .ensures) (c .enum-told .given .1)) (none-left _)
+    others-left basinLayout [] _ (line-missed start _ _ (c .before .before .line .ensures) (c .enum-told .given .1)) (none-left _)
 
 array-read-t12 : tie.Need-array-read-t12
 array-read-t12 c = search needs

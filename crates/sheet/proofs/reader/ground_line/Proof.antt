@@ -24,7 +24,7 @@ two-pairs-line-requires c κs = search needs
 
 returns : tie.Need-returns
 returns c =
-    others-left onePairLayout (twoPairsLayout ∷ basinLayout ∷ []) _ (c .two-pairs-line .result)
+    others-left onePairLayout (twoPairsLayout ∷ basinLayout ∷ []) _
     (line-missed start _ _ (c .before .before .before .line .ensures) (c .before .enum-told .given .1)) (c .two-pairs-line .ensures)
 
 one-pair-requires : tie.Need-one-pair-requires

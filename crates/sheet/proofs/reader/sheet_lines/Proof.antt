@@ -1,12 +1,13 @@
 -- `sheet::reader::sheet_lines` meets its contract: the stages of the code are the lines of `sheetLines`. Assumes nothing.
 use borrow.Author.Needs.{needs}
-use mathlib.Core.Path.{refl, sym, ap, subst, _∙_}
+use mathlib.Core.Path.{refl, sym, ap, _∙_}
 use Rattle.limits.specs.declared.refusal.Refusal.{Refusal}
 use Rattle.limits.specs.Outcome.{refused}
 use Rattle.limits.proofs.Stages.{yielded}
 use Rattle.text.proofs.Readings.{line-missed, line-went}
+use Rattle.sheet.proofs.GroundLine.{FirstLine, ground-found, ground-missed}
 use Rattle.sheet.proofs.Stages.{levels-refused, levels-taken, lines-first, lines-second, lines-later, lines-all}
-use Rattle.sheet.specs.Reading.{FirstLine, GroundAnswers, sheetRead, levelsOutcome}
+use Rattle.sheet.specs.Reading.{sheetRead, levelsOutcome}
 use Rattle.sheet.specs.Sheet.{sheetForm}
 use Rattle.sheet.specs.Layouts.{firstOf}
 use Rattle.sheet.proofs.reader.sheet_lines.Statement.{statement}
@@ -15,9 +16,7 @@ use Rattle.sheet.proofs.reader.sheet_lines.Tie as tie
 -- what line 1 holds, and where line 2 begins
 after-first : (c : tie.After-first)
     → FirstLine (firstOf sheetForm) (c .before .before .before .before .args .s .now) (c .first .given .0 .0) (c .first .given .0 .1 .0)
-after-first c =
-    subst (GroundAnswers (firstOf sheetForm) (c .before .before .before .before .args .s .now)) (c .first .given .1)
-    (c .before .before .ground-line .ensures)
+after-first c = ground-found _ _ (sym (c .before .before .ground-line .ensures) ∙ c .first .given .1)
 
 ground-line-requires : tie.Need-ground-line-requires
 ground-line-requires c κs = search needs
@@ -34,7 +33,7 @@ stopped-requires c κs = search needs
 returns : tie.Need-returns
 returns c =
     let s = c .before .before .before .before .before .args .s .now in
-    let none = subst (GroundAnswers (firstOf sheetForm) s) (c .before .enum-told .given .1) (c .before .before .before .ground-line .ensures) in
+    let none = ground-missed _ _ (sym (c .before .before .before .ground-line .ensures) ∙ c .before .enum-told .given .1) in
     c .stopped .ensures ∙ ap sheetRead (sym (lines-first s none))
 
 slice-aggregate-line : tie.Need-slice-aggregate-line

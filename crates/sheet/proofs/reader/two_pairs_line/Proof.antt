@@ -24,7 +24,7 @@ basin-line-requires c κs = search needs
 
 returns : tie.Need-returns
 returns c =
-    others-left twoPairsLayout (basinLayout ∷ []) _ (c .basin-line .result)
+    others-left twoPairsLayout (basinLayout ∷ []) _
     (line-missed start _ _ (c .before .before .before .line .ensures) (c .before .enum-told .given .1)) (c .basin-line .ensures)
 
 two-pairs-requires : tie.Need-two-pairs-requires
