@@ -64,10 +64,11 @@ u64 OF(sheet)(const char *s, u64 length, char *listing, SheetReply *reply)
     u64 site[9], frame[5], level[2], w[50], h[50], forces[50], shears[50], moments[50];
     if (length > 4096) REFUSED(17, 0);
     if (length < 4 || memcmp(p, "site", 4)) REFUSED(16, 1);
-    const uint8_t *second = numbers(p + 4, end, 7, site);
-    if (second) site[8] = site[6], site[6] = site[4], site[7] = site[5];
-    else second = numbers(p + 4, end, 9, site);
-    if (!(p = second)) REFUSED(16, 1);
+    p += 4;
+    for (int i = 0; i < 7; i++)
+        if (!(p = digits(p, end, site + i))) REFUSED(16, 1);
+    if (p < end && *p == '\n') site[8] = site[6], site[6] = site[4], site[7] = site[5], p++;
+    else if (!(p = numbers(p, end, 2, site + 7))) REFUSED(16, 1);
     if (end - p < 5 || memcmp(p, "frame", 5) || !(p = numbers(p + 5, end, 5, frame))) REFUSED(16, 2);
     size_t n = 0;
     for (; p < end; n++) {

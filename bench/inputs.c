@@ -19,7 +19,8 @@ JobInput fixed_job(size_t levels)
     return p;
 }
 
-/* from all that is allowed, storeys of up to 4.5 m */
+/* from all that is allowed, storeys of up to 4.5 m; half of the sites have one pair for both levels, the others a second one that is made
+ * from the first */
 JobInput drawn_job(size_t levels)
 {
     JobInput p = {{50 + 10 * drawn(4), 30 + 5 * drawn(4), 70 + 10 * drawn(4), 40 + 5 * drawn(4), 100 + drawn(51), 100 + drawn(101), 100, 100,
@@ -28,7 +29,7 @@ JobInput drawn_job(size_t levels)
                   levels, {0}, {0}};
     u64 storey = 2000 / levels < 45 ? 2000 / levels : 45, height = 0;
     for (size_t x = 0; x < levels; x++) p.weights[x] = 1 + drawn(20000), p.heights[x] = height += 1 + drawn(storey);
-    p.site.nam = 250 - p.site.nad, p.site.nvm = 300 - p.site.nvd;
+    p.site.nam = p.site.nad % 2 ? 250 - p.site.nad : p.site.nad, p.site.nvm = p.site.nad % 2 ? 300 - p.site.nvd : p.site.nvd;
     return p;
 }
 
@@ -39,7 +40,7 @@ JobInput spoilt_job(size_t levels)
     case 0: p.weights[drawn(levels)] = 0; break;
     case 1: p.heights[drawn(levels)] = 0; break;
     case 2: p.site.ssm = 75; break;
-    case 3: p.site.nvd = 201; break;
+    case 3: *(p.site.nad % 2 ? &p.site.nvm : &p.site.nvd) = 201; break;
     case 4: p.frame.i = 110; break;
     default: p.frame.calculated = 60001;
     }

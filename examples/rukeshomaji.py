@@ -41,7 +41,7 @@ TEXTS = {
     18: 'zone not 1 to 4',
 }
 PLACES = {
-    3: 'level', 4: 'level', 5: ('S_S design', 'S_1 design', 'S_S MCE', 'S_1 MCE'), 6: ('N_A design', 'N_V design', 'N_A MCE', 'N_V MCE'),
+    3: 'level', 4: 'level', 5: ('S_S design', 'S_1 design', 'S_S MCE', 'S_1 MCE'), 6: ('N_A', 'N_V', 'N_A MCE', 'N_V MCE'),
     14: 'layer', 15: 'layer', 16: 'line',
 }
 

@@ -79,7 +79,7 @@ extern "C" {
 #define RUKESHOMAJI_COHESIONLESS 3        /* its value is N */
 
 /* A site. V uses nad and nvd, V_M nam and nvm, V* none of them. With one pair for both hazard levels, set nam and nvm to the values of nad and
- * nvd; far from a fault all four are 100. Before version 2 the struct had seven fields, na and nv for both levels. */
+ * nvd; far from a fault all four are 100. */
 typedef struct {
     uint64_t ssd;             /* S_S of the design level, 0.01 g: 50, 60, 70 or 80 */
     uint64_t s1d;             /* S_1 of the design level, 0.01 g: 30, 35, 40 or 45 */

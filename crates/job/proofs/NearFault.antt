@@ -1,10 +1,11 @@
--- Which near-fault factors move which shear: those of the design level V, those of the MCE level V_M, neither pair V*. Of two answers of
--- `job` to site lines that differ in one pair alone the other two shears are the same.
---   designPair na nv v, mcePair na nv v    the site line v with these as its pair of the one level or of the other
+-- 'V uses the first pair, V_M the second, V* neither': of two answers of `job` to sites of one class, with one frame line, weights and heights,
+-- V is the same where the mapped values and the pair of the design level are, V_M where those of the MCE level are, and V* where the mapped
+-- values of the design level are.
 -- Assumes nothing.
-use mathlib.Core.Path.{_≡_, refl, sym, ap, _∙_}
+use mathlib.Core.Path.{_≡_, sym, ap, _∙_}
 use mathlib.Core.List.{List}
 use Prim.Native.Nat.{ℕ}
+use Rattle.whole.specs.Cells.{sum}
 use Rattle.limits.specs.declared.class.Class.{Class}
 use Rattle.limits.specs.declared.frame.Frame.{Frame}
 use Rattle.limits.specs.declared.frame.FrameValues.{FrameValues}
@@ -16,43 +17,18 @@ use Rattle.limits.specs.declared.site.SiteValues.{SiteValues}
 use Rattle.limits.specs.Frame.{judgedFrame}
 use Rattle.limits.specs.Ground.{judgedGround}
 use Rattle.limits.specs.Judging.{judgedJob}
-use Rattle.limits.specs.Levels.{judgedLevels}
+use Rattle.limits.specs.Levels.{topHeight, judgedLevels}
 use Rattle.limits.specs.Outcome.{accepted}
 use Rattle.limits.specs.Site.{siteOf, judgedClass, judgedMapped, judgedNearFault, judgedSite}
 use Rattle.limits.proofs.Passed.{one-value, then-passed, bind-passed}
 use Rattle.base_shear.specs.declared.Figures.{Figures}
-use Rattle.base_shear.specs.Shears.{shear, star, figuresAt}
+use Rattle.site.specs.Hazards.{designHazard, mceHazard, lines}
+use Rattle.response.specs.Period.{periodOf}
+use Rattle.response.specs.Unit.{unit}
+use Rattle.base_shear.specs.Shears.{newtons, modifiedAt, blendedAt, shear, star, figuresAt}
 use Rattle.job.specs.declared.JobAnswer.the-variants.{Taken}
 use Rattle.job.specs.Job.{givenFigures, Buffers, shortest, Answers}
 use Rattle.job.proofs.Answered.{taken-accepted}
-
-abbrev pub designPair : ℕ → ℕ → SiteValues → SiteValues
-designPair na nv v =
-    record {
-      ssd = v .ssd;
-      s1d = v .s1d;
-      ssm = v .ssm;
-      s1m = v .s1m;
-      nad = na;
-      nvd = nv;
-      nam = v .nam;
-      nvm = v .nvm;
-      class = v .class;
-    }
-
-abbrev pub mcePair : ℕ → ℕ → SiteValues → SiteValues
-mcePair na nv v =
-    record {
-      ssd = v .ssd;
-      s1d = v .s1d;
-      ssm = v .ssm;
-      s1m = v .s1m;
-      nad = v .nad;
-      nvd = v .nvd;
-      nam = na;
-      nvm = nv;
-      class = v .class;
-    }
 
 -- ---- what is given of an accepted job on a site
 record OnLine (v : SiteValues) (f : FrameValues) (g : Given) : Type 0 where
@@ -108,24 +84,33 @@ module _ (f : FrameValues) (ws hs : List ℕ) (b c : Buffers) (n m : Figures) (b
         second = y .figures ∙ ap (λ (g : Given). givenFigures g ws hs) (sym given);
       }
 
-module _ (v : SiteValues) (f : FrameValues) (ws hs : List ℕ) (na nv : ℕ) (b c : Buffers) (n m : Figures) (b′ c′ : Buffers)
-    (p : Answers (Site v) f ws hs b (Taken n) b′) where
-  pub design-pair-moves-v : Answers (Site (designPair na nv v)) f ws hs c (Taken m) c′
-      → (n .vm ≡ m .vm) × (n .star ≡ m .star) × (n .t ≡ m .t)
-  unfolding shear star figuresAt
-  design-pair-moves-v q =
-      let o = one-frame f ws hs b c n m b′ c′ v (designPair na nv v) refl p q in (
-        ap (λ (k : Figures). k .vm) (o .first) ∙ sym (ap (λ (k : Figures). k .vm) (o .second)),
-        ap (λ (k : Figures). k .star) (o .first) ∙ sym (ap (λ (k : Figures). k .star) (o .second)),
-        ap (λ (k : Figures). k .t) (o .first) ∙ sym (ap (λ (k : Figures). k .t) (o .second)),
-      )
+  -- the total weight, T, and the hazard of mapped values and a pair at each level
+  abbrev W : ℕ
+  W = sum ws
 
-  pub mce-pair-moves-v-m : Answers (Site (mcePair na nv v)) f ws hs c (Taken m) c′
-      → (n .v ≡ m .v) × (n .star ≡ m .star) × (n .t ≡ m .t)
-  unfolding shear star figuresAt
-  mce-pair-moves-v-m q =
-      let o = one-frame f ws hs b c n m b′ c′ v (mcePair na nv v) refl p q in (
-        ap (λ (k : Figures). k .v) (o .first) ∙ sym (ap (λ (k : Figures). k .v) (o .second)),
-        ap (λ (k : Figures). k .star) (o .first) ∙ sym (ap (λ (k : Figures). k .star) (o .second)),
-        ap (λ (k : Figures). k .t) (o .first) ∙ sym (ap (λ (k : Figures). k .t) (o .second)),
-      )
+  abbrev T : ℕ
+  T = periodOf (one-frame .frame .kind) (one-frame .frame .calculated) (topHeight hs)
+
+  abbrev R : ℕ
+  R = one-frame .frame .r
+
+  pub v-by-first-pair : v .ssd ≡ u .ssd → v .s1d ≡ u .s1d → v .nad ≡ u .nad → v .nvd ≡ u .nvd → n .v ≡ m .v
+  unfolding shear figuresAt
+  v-by-first-pair ss s1 na nv =
+      ap (λ (k : Figures). k .v) (one-frame .first)
+      ∙ (λ i. newtons unit 14 (one-frame .frame) W (modifiedAt unit lines (designHazard (one-frame .class) (ss i) (s1 i) (na i) (nv i) R) T))
+      ∙ sym (ap (λ (k : Figures). k .v) (one-frame .second))
+
+  pub v-m-by-second-pair : v .ssm ≡ u .ssm → v .s1m ≡ u .s1m → v .nam ≡ u .nam → v .nvm ≡ u .nvm → n .vm ≡ m .vm
+  unfolding shear figuresAt
+  v-m-by-second-pair ss s1 na nv =
+      ap (λ (k : Figures). k .vm) (one-frame .first)
+      ∙ (λ i. newtons unit 14 (one-frame .frame) W (modifiedAt unit lines (mceHazard (one-frame .class) (ss i) (s1 i) (na i) (nv i) R) T))
+      ∙ sym (ap (λ (k : Figures). k .vm) (one-frame .second))
+
+  pub star-by-neither-pair : v .ssd ≡ u .ssd → v .s1d ≡ u .s1d → n .star ≡ m .star
+  unfolding star figuresAt
+  star-by-neither-pair ss s1 =
+      ap (λ (k : Figures). k .star) (one-frame .first)
+      ∙ (λ i. newtons unit 42 (one-frame .frame) W (blendedAt unit lines (designHazard (one-frame .class) (ss i) (s1 i) 100 100 R) T))
+      ∙ sym (ap (λ (k : Figures). k .star) (one-frame .second))

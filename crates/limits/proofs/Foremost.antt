@@ -1,5 +1,6 @@
 -- The refusal that a job is given is the first that applies, in the order in which they are judged (`order`), and so 'the lowest number
--- that applies .., at its lowest place'. An accepted job is one to which none applies.
+-- that applies .., at its lowest place'. An accepted job is one to which none applies. Where both levels have one pair of near-fault
+-- factors, 6 is at place 1 or 2.
 -- Assumes nothing.
 use mathlib.Core.Path.{_≡_, ap, subst}
 use mathlib.Core.List.{List}
@@ -11,7 +12,7 @@ use Rattle.limits.specs.declared.judging.Given.{Given}
 use Rattle.limits.specs.declared.ground.GroundValues.{GroundValues}
 use Rattle.limits.specs.declared.ground.GroundValues.the-variants.{Site, Basin}
 use Rattle.limits.specs.declared.site.SiteValues.{SiteValues}
-use Rattle.limits.specs.Applies.{Applies, of-levels, of-ground, of-frame}
+use Rattle.limits.specs.Applies.{OutOf, na-design, Applies, of-levels, of-ground, of-frame}
 use Rattle.limits.specs.Frame.{judgedFrame}
 use Rattle.limits.specs.Ground.{judgedGround}
 use Rattle.limits.specs.Judging.{judgedJob}
@@ -58,12 +59,21 @@ module _ (s : GroundValues) (f : FrameValues) (ws hs : List ℕ) (room : ℕ) wh
   pub accepted-none : (g : Given) (n p : ℕ) → judgedJob s f ws hs room ≡ accepted g → Applies s f ws hs room n p → ⊥
   accepted-none g n p e a = subst (Stops n p) e (stops n p a)
 
--- on a site with one pair of near-fault factors for both levels, 6 is given at place 1 or 2
-pub one-pair-lowest : (s : SiteValues) (f : FrameValues) (ws hs : List ℕ) (room p : ℕ) → s .nam ≡ s .nad → s .nvm ≡ s .nvd
-    → judgedJob (Site s) f ws hs room ≡ refused 6 p → p ≤ 2
-one-pair-lowest s f ws hs room p a b e =
-    let q = one-pair-place s a b (refused-applies (Site s) f ws hs room 6 p e) in
-    omega (arith, lowest-place (Site s) f ws hs room 6 p (q .0) e (q .1 .1), q .1 .0)
+-- on a site with one pair of near-fault factors for both levels, 6 is given at place 1 or 2; where N_A is out of its range, at 1
+module _ (s : SiteValues) (f : FrameValues) (ws hs : List ℕ) (room p : ℕ) (e : judgedJob (Site s) f ws hs room ≡ refused 6 p) where
+  near-fault-place : 1 ≤ p
+  near-fault-place =
+      ⊎-elim (λ h. h .2) (λ h. absurd (⊎-elim (λ l. let z : ⊥ = omega arith in z) (λ l. let z : ⊥ = omega arith in z) (h .0)))
+      (named (refused-applies (Site s) f ws hs room 6 p e))
+
+  pub one-pair-lowest : s .nam ≡ s .nad → s .nvm ≡ s .nvd → (1 ≤ p) × (p ≤ 2)
+  one-pair-lowest a b =
+      let q = one-pair-place s a b (refused-applies (Site s) f ws hs room 6 p e) in
+      let l = lowest-place (Site s) f ws hs room 6 p (q .0) e (q .1 .1) in
+      (near-fault-place, omega (arith, l, q .1 .0))
+
+  pub na-lowest : OutOf 100 150 (s .nad) → p ≡ 1
+  na-lowest o = omega (arith, near-fault-place, lowest-place (Site s) f ws hs room 6 p 1 e (of-ground (na-design o)))
 
 -- every number that applies stands in the order
 pub applies-in-order : (s : GroundValues) (f : FrameValues) (ws hs : List ℕ) (room n p : ℕ) → Applies s f ws hs room n p → InOrder n

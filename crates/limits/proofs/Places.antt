@@ -1,4 +1,5 @@
--- The refusals of a job are 1 to 12, and 18 in place of 5 to 7; which of them name a place: 3 to 6 do, the others have place 0.
+-- The refusals of a job are 1 to 12, and 18 in place of 5 to 7; which of them name a place: 3 to 6 do, the others have place 0. Where both
+-- levels have one pair of near-fault factors, 6 applies at place 1 or 2 wherever it applies.
 -- Assumes nothing.
 use mathlib.Core.Path.{_≡_, refl, subst}
 use mathlib.Core.List.{List}
@@ -88,7 +89,7 @@ numbered-basin (of-levels a) = inl (numbered-levels a)
 numbered-basin (of-ground (zone o)) = inr (inl refl)
 numbered-basin (of-frame a) = inr (inr (numbered-frame a))
 
--- where both levels have the same pair of near-fault factors, 6 applies at place 1 or 2 wherever it applies
+-- where both levels have one pair of near-fault factors
 module _ (s : SiteValues) (na-same : s .nam ≡ s .nad) (nv-same : s .nvm ≡ s .nvd) where
   site-pair : {n p : ℕ} → n ≡ 6 → SiteApplies s n p → (q : ℕ) × ((q ≤ 2) × SiteApplies s 6 q)
   site-pair e (ss-design o) = absurd (let z : ⊥ = omega arith in z)

@@ -1,4 +1,5 @@
--- What is replied is what the core answered to the ground and the frame line; and no second reply meets the contracts.
+-- What is replied is what the core answered to the ground and the frame line; and no second reply meets the contracts. A site line of seven
+-- numbers that is accepted gets the reply of nine with the pair repeated.
 -- Assumes nothing.
 use mathlib.Core.Path.{_≡_, refl, sym, ap, ap₂, subst, _∙_}
 use mathlib.Core.List.{List, [], _∷_}
@@ -116,8 +117,9 @@ accepted-zero s e = go (outcomeOf s) refl
         let stands : InOrder 0 = subst InOrder none (applies-in-order s k p (refused-applies s k p q)) in
         absurd (let z : ⊥ = omega (arith, stands) in z)
 
--- a site line of seven numbers that is accepted gets the reply of nine with the pair repeated, byte for byte
-pub repeated-sheet-reply : (ns x : List ℕ) → LaidLine (onePairLayout ∷ []) (siteLine ns) → {old : List ℕ} {n n′ : ℕ} {held held′ r r′ : List ℕ}
+-- seven numbers, and nine: byte for byte
+pub repeated-sheet-reply : (ns x : List ℕ) → LaidLine (onePairLayout ∷ []) (siteLine ns)
+    → {old : List ℕ} {n n′ : ℕ} {held held′ r r′ : List ℕ}
     → SheetReplies (siteSheet ns x) old n held r → n ≡ 0 → SheetReplies (siteSheet (pairTwice ns) x) old n′ held′ r′
     → (n ≡ n′) × (held ≡ held′) × (r ≡ r′)
 unfolding sheetListing

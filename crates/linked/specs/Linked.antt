@@ -1,7 +1,7 @@
 -- What the entries reply to a program in C: the number is returned, 0 on success; what else there is goes into what the caller lends.
 --   Replies f k o n r             n is the number of the outcome o; r is its place, then the values f, k zeros where data is refused
 --   FiguresReply o, ClassReply o  of figures: V, V_M, V*, V_D and T; of a class: its number
---   onSite l, inBasin z           the ground of a site line l, and of a zone z
+--   onSite l, inBasin z           the ground of the nine numbers l of a site, and of a zone z
 --   JobReplies g m ws hs b n r b′   so for the job of a ground g and a frame line m; b′ is what the buffers hold that held b
 --   FiguresReplies, LogReplies    so for the five figures alone, and for a soil log
 --   SheetReplies s old n held r   n is the number of the outcome of a sheet s; an array that held old holds its listing in the first bytes, the

@@ -17,7 +17,7 @@ pub mod Length
 pub mod Unique
 pub mod Allowed
 pub mod Listable
-pub mod OnePair
 pub mod Cut
 pub mod Examples
 pub mod Demands
+pub mod OnePair

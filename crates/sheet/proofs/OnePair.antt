@@ -1,8 +1,10 @@
--- A sheet whose site line has seven numbers, one pair of near-fault factors for both levels: it gets what the sheet of nine numbers with the
--- pair repeated gets, byte for byte; and 6 at place 1 or 2, never at 3 or 4.
+-- A sheet whose site line has seven numbers, one pair of near-fault factors for both levels: where it is accepted, or both have at most 4,096
+-- bytes, it gets what the sheet of nine numbers with the pair repeated gets, byte for byte; and 6 at place 1 or 2, never at 3 or 4. A site
+-- line of another count of numbers is 16 at line 1.
+--   siteSheet ns x    the line `site` with the numbers ns, and the bytes x after it
 -- Assumes nothing.
 use mathlib.Core.Path.{_≡_, refl, sym, ap, subst, _∙_}
-use mathlib.Core.List.{List, [], _∷_, _++_, List·Memᴰ·head, List·Memᴰ·tail, List·Memᴰ·eq-of-singleton}
+use mathlib.Core.List.{List, [], _∷_, _++_, List·Memᴰ·head, List·Memᴰ·tail, List·Memᴰ·cases-cons, List·Memᴰ·eq-of-singleton}
 use mathlib.Core.Logic.{⊎-elim}
 use Prim.Native.Nat.{ℕ, zero, suc, _≤_}
 use native.Mathlib.Omega.{arith}
@@ -10,25 +12,31 @@ use lib.ListN.{length, getD}
 use Rattle.limits.specs.declared.ground.GroundValues.{GroundValues}
 use Rattle.limits.specs.declared.ground.GroundValues.the-variants.{Site}
 use Rattle.limits.specs.declared.judging.Given.{Given}
+use Rattle.limits.specs.Applies.{OutOf}
 use Rattle.limits.specs.Judging.{judgedJob}
 use Rattle.limits.specs.Outcome.{Outcome, accepted, refused, _>>=_}
-use Rattle.limits.proofs.Foremost.{one-pair-lowest}
+use Rattle.limits.proofs.Foremost.{one-pair-lowest, na-lowest}
 use Rattle.limits.proofs.Passed.{one-value, bind-passed}
 use Rattle.job.specs.Job.{Results, resultsOf, jobOf}
+use Rattle.job.proofs.Stages.{job-accepted}
 use Rattle.text.specs.Reading.{starts}
 use Rattle.text.specs.Writing.{Short, AllShort}
+use Rattle.text.proofs.OneWay.{laid-once}
+use Rattle.sheet.proofs.Demands.{SheetKept}
 use Rattle.sheet.proofs.Allowed.{judgedSheet, allowed-laid}
 use Rattle.sheet.proofs.Foremost.{judged}
-use Rattle.sheet.proofs.LaidRead.{sheet-lines, sheet-worded}
+use Rattle.sheet.proofs.LaidRead.{sheet-lines, sheet-worded, laid-read}
+use Rattle.sheet.proofs.Listable.{read-listed}
 use Rattle.sheet.proofs.Lines.{read-on, read-lines-laid}
 use Rattle.sheet.proofs.OneLine.{standing-line}
-use Rattle.sheet.proofs.Otherwise.{read-refused}
+use Rattle.sheet.proofs.Otherwise.{read-refused, otherwise-refused}
 use Rattle.sheet.proofs.ReadLaid.{read-lines, lines-back}
 use Rattle.sheet.proofs.Refused.{bind-refused}
-use Rattle.sheet.specs.Laid.{siteLine}
+use Rattle.sheet.specs.Laid.{siteLine, GroundLine, sheetLaid}
 use Rattle.sheet.specs.Layouts.{Layout, Line, layoutOf, firstOf, past, lineLaid, LaidLine}
 use Rattle.sheet.specs.Lines.{readFrom}
 use Rattle.sheet.specs.Listing.{listing, jobOfSheet, outcomeOf, sheetListing}
+use Rattle.sheet.specs.Otherwise.{here}
 use Rattle.sheet.specs.Reading.{sheetLines, readSheet}
 use Rattle.sheet.specs.Sheet.{onePairLayout, sheetForm, siteValues, pairTwice, groundOf, Sheet, sheetOf}
 
@@ -54,7 +62,6 @@ twice-short ns s =
     let at : (i : ℕ) → Short (getD ns i 0) = λ i. at-short ns i s in
     (at 0, (at 1, (at 2, (at 3, (at 4, (at 5, (at 4, (at 5, (at 6, tt)))))))))
 
--- the site line with these numbers, and the bytes x after it
 abbrev pub siteSheet : List ℕ → List ℕ → List ℕ
 siteSheet ns x = lineLaid (siteLine ns) ++ x
 
@@ -135,13 +142,57 @@ module _ (ns x : List ℕ) (one : LaidLine (onePairLayout ∷ []) (siteLine ns))
       (sym seven-begun ∙ sym (sheet-lines (siteSheet ns x) fits) ∙ e) in
       ap (λ (y : Sheet). y .ground) (sym (one-value (b .2))) ∙ seven-held
 
-  pub places-1-2 : (p : ℕ) → outcomeOf (siteSheet ns x) ≡ refused 6 p → p ≤ 2
-  places-1-2 p e =
-      ⊎-elim
-      (λ u. absurd (⊎-elim (λ h. let z : ⊥ = omega (arith, h .0) in z) (λ h. let z : ⊥ = omega (arith, h .1) in z) (read-refused _ 6 p u)))
-      (λ u.
-      let r = u .0 in
-      one-pair-lowest (siteValues (pairTwice ns)) (r .frame) (r .levels .weights) (r .levels .heights) _ p refl refl
-      (subst (λ (g : GroundValues). judgedJob g (r .frame) (r .levels .weights) (r .levels .heights) (length (r .levels .weights)) ≡ refused 6 p)
-      (on-line r (u .1)) (judged r 6 p (u .2))))
-      (bind-refused (readSheet (siteSheet ns x)) jobOfSheet e)
+  module _ (p : ℕ) (e : outcomeOf (siteSheet ns x) ≡ refused 6 p) where
+    record Given6 : Type 0 where
+      pub sheet : Sheet
+      pub is : judgedJob (Site (siteValues (pairTwice ns))) (sheet .frame) (sheet .levels .weights) (sheet .levels .heights)
+          (length (sheet .levels .weights)) ≡ refused 6 p
+
+    given-6 : Given6
+    given-6 =
+        ⊎-elim
+        (λ u. absurd (⊎-elim (λ h. let z : ⊥ = omega (arith, h .0) in z) (λ h. let z : ⊥ = omega (arith, h .1) in z) (read-refused _ 6 p u)))
+        (λ u.
+        let r = u .0 in
+        record {
+          sheet = r;
+          is =
+              subst
+              (λ (g : GroundValues).
+              judgedJob g (r .frame) (r .levels .weights) (r .levels .heights) (length (r .levels .weights)) ≡ refused 6 p)
+              (on-line r (u .1)) (judged r 6 p (u .2));
+        })
+        (bind-refused (readSheet (siteSheet ns x)) jobOfSheet e)
+
+    pub places-1-2 : (1 ≤ p) × (p ≤ 2)
+    places-1-2 = one-pair-lowest _ _ _ _ _ p (given-6 .is) refl refl
+
+    pub bad-na-first : OutOf 100 150 (getD ns 4 0) → p ≡ 1
+    bad-na-first o = na-lowest _ _ _ _ _ p (given-6 .is) o
+
+-- ---- another count of numbers: no line that line 1 may be stands there
+module _ (ns x : List ℕ) (short : AllShort ns) (not-seven : length ns ≡ 7 → ⊥) (not-nine : length ns ≡ 9 → ⊥) where
+  none-stands : (l : Line) (y : List ℕ) → LaidLine (firstOf sheetForm) l → siteSheet ns x ≡ lineLaid l ++ y → ⊥
+  none-stands l y t is =
+      let once =
+      laid-once (siteLine ns .word) (l .word) ns (l .numbers) x y (omega arith) (sheet-worded 0 (layoutOf l) (t .layout)) short (t .short) is in
+      let same : siteLine ns ≡ l = λ i. record { word = once .0 i; numbers = once .1 i } in
+      let layout = ap layoutOf same in
+      ⊎-elim (λ e. not-seven (ap (λ (k : Layout). k .numbers) (layout ∙ e)))
+      (λ m. ⊎-elim (λ e. not-nine (ap (λ (k : Layout). k .numbers) (layout ∙ e)))
+      (λ m′. let z : ⊥ = omega (arith, ap (λ (k : Layout). getD (k .word) 0 0) (layout ∙ List·Memᴰ·eq-of-singleton m′)) in z)
+      (List·Memᴰ·cases-cons m))
+      (List·Memᴰ·cases-cons (t .layout))
+
+  pub other-counts : length (siteSheet ns x) ≤ 4_096 → outcomeOf (siteSheet ns x) ≡ refused 16 1
+  other-counts fits =
+      ap (λ (o : Outcome Sheet). o >>= jobOfSheet) (otherwise-refused (siteSheet ns x) 1 fits (here refl none-stands))
+
+-- ---- an accepted sheet, with any other line 1 that holds the same ground
+pub either-line : (s : List ℕ) (k : SheetKept s) (l : Line) → GroundLine (k .sheet .ground) l
+    → sheetListing (sheetLaid l (k .sheet)) ≡ sheetListing s
+either-line s k l holds =
+    let laid = allowed-laid l (k .sheet) _ (k .given) holds (k .judged) in
+    read-listed (sheetLaid l (k .sheet)) (k .sheet) (laid-read l (k .sheet) laid)
+    ∙ ap listing (job-accepted (k .sheet .ground) (k .sheet .frame) (k .sheet .levels .weights) (k .sheet .levels .heights) _ (k .judged))
+    ∙ sym (k .printed)

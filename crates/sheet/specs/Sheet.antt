@@ -1,12 +1,12 @@
 -- 'Sheet and listing': the lines of a sheet, and what they hold.
 --   onePairLayout, twoPairsLayout    the layouts of a site line: one pair of near-fault factors for both levels, or one for each
 --   basinLayout, frameLayout, levelLayout    of the other lines
---   sheetForm          'Line 1 is `site`', or `basin` with the zone in its place; 'Line 2 is `frame`', 'All later lines are
---                      `level`'
+--   sheetForm          'Line 1 is `site`', with seven numbers or nine, or `basin` with the zone in its place; 'Line 2 is `frame`', 'All
+--                      later lines are `level`'
 --   levelForm          the form of the lines after these two
 --   siteValues ns      S_S D, S_1 D, S_S M, S_1 M, N_A, N_V, N_A M, N_V M, class
 --   pairTwice ns       the nine numbers that seven stand for: 'A sheet with the old seven fields still means one pair for both'
---   siteOf ns          what the numbers of a site line hold, be they seven or nine
+--   heldSite ns        what the numbers of a site line hold, be they seven or nine
 --   isWord w v         v is the word w
 --   groundOf l         what line 1 holds: the zone where its word is `basin`, else the site
 --   frameValues ns     kind, calculated period, R, I, alpha-y
@@ -77,14 +77,14 @@ pairTwice ns =
     ∷ getD ns 6 0
     ∷ []
 
-abbrev pub siteOf : List ℕ → SiteValues
-siteOf ns = siteValues (pick (eqb (length ns) (onePairLayout .numbers)) (pairTwice ns) ns)
+abbrev pub heldSite : List ℕ → SiteValues
+heldSite ns = siteValues (pick (eqb (length ns) (onePairLayout .numbers)) (pairTwice ns) ns)
 
 abbrev pub isWord : List ℕ → List ℕ → Bool
 isWord w v = starts w v && starts v w
 
 abbrev pub groundOf : Line → GroundValues
-groundOf l = pick (isWord (basinLayout .word) (l .word)) (Basin (getD (l .numbers) 0 0)) (Site (siteOf (l .numbers)))
+groundOf l = pick (isWord (basinLayout .word) (l .word)) (Basin (getD (l .numbers) 0 0)) (Site (heldSite (l .numbers)))
 
 abbrev pub frameValues : List ℕ → FrameValues
 frameValues ns =
