@@ -104,13 +104,14 @@ def tall_building(site):
 
 
 def low_building(site):
-    """A building so low that a larger N_V lowers V_D."""
-    frame, weights, heights, N_V = limits.Frame(4, 0, 100, 100, 150), [2_963], [30], (100, 120)
-    first, second = (job(site._replace(NA=100, NV=each, NAM=100, NVM=each), frame, weights, heights) for each in N_V)
-    assert first.V_D > second.V_D and first.V_D == first.V_M and second.V_D == second.V_M
-    assert first.mce.T0 / 5 < first.T == second.T < second.mce.T0 / 5
-    return {'low_sheet': code(sheet.write(second.ground, frame, weights, heights).decode().splitlines()), 'low_T': comma(first.T),
-            'low_small': hundredths(N_V[0]), 'low_large': hundredths(N_V[1]), 'low_first': comma(first.V_D), 'low_second': comma(second.V_D)}
+    """A building so low that V_D falls where the larger N_V, which is that of the design pair, is typed for both."""
+    frame, weights, heights, least, most = limits.Frame(4, 0, 100, 100, 150), [2_963], [30], 100, 120
+    own, both = (job(site._replace(NA=100, NV=most, NAM=100, NVM=each), frame, weights, heights) for each in (least, most))
+    assert own.V_D > both.V_D and own.V_D == own.V_M and both.V_D == both.V_M
+    assert own.mce.T0 / 5 < own.T == both.T < both.mce.T0 / 5
+    return {'low_sheet': code(sheet.write(own.ground, frame, weights, heights).decode().splitlines()), 'low_T': comma(own.T),
+            'low_large': hundredths(most), 'low_own': comma(own.V_D), 'low_both': comma(both.V_D), 'low_less': comma(own.V_D - both.V_D),
+            'low_percent': f'{float(100 * Fraction(own.V_D - both.V_D, own.V_D)):.1f}'}
 
 
 def ductile_building(own):
