@@ -14,14 +14,12 @@ from tests.draws.strata import CORNERS, SIDES, Stratum, at_corner, at_ratio, gov
 from tests.model import limits, response, site as sites
 
 ORDER = {1: 'larger for design', 0: 'the same for both', -1: 'larger for MCE'}
-FACTORS = {'NA': limits.N_A, 'NV': limits.N_V, 'NAM': limits.N_A, 'NVM': limits.N_V}
 # each mapped value, what it may be, its level's own factor, and the columns that S is looked up in
 MAPPED = (('SSD', limits.S_S_DESIGN, 'NA', sites.S_S_COLUMNS), ('S1D', limits.S_1_DESIGN, 'NV', sites.S_1_COLUMNS),
           ('SSM', limits.S_S_MCE, 'NAM', sites.S_S_COLUMNS), ('S1M', limits.S_1_MCE, 'NVM', sites.S_1_COLUMNS))
-MARKS = (('design', 300_000), ('design', 800_000), ('mce', 300_000), ('mce', 800_000))
 SMALLEST = {'design': {'NAM': limits.N_A[0], 'NVM': limits.N_V[0]}, 'MCE': {'NA': limits.N_A[0], 'NV': limits.N_V[0]}}
 SITE = limits.Site(80, 45, 100, 55, 120, 130, 140, 150, 1)
-FACTOR_PLACES = tuple(limits.Site._fields.index(name) for name in FACTORS)
+FACTOR_PLACES = tuple(limits.Site._fields.index(name) for name in limits.FACTORS)
 
 
 def named(stratum):
@@ -61,7 +59,7 @@ def order_strata():
 
 def end_strata():
     """Each factor of each level at its ends, and one inside of them."""
-    yield from (with_number('ground', name, value) for name, allowed in FACTORS.items()
+    yield from (with_number('ground', name, value) for name, allowed in limits.FACTORS.items()
                 for value in (allowed[0], allowed[1], allowed[-2], allowed[-1]))
 
 
@@ -87,7 +85,7 @@ def column_strata():
     for field, values, factor, columns in MAPPED:
         for column, side in itertools.product(columns, SIDES):
             met = [(value, factor_at(value, column, side)) for value in values]
-            met = [each for each in met if each[1] in FACTORS[factor]]
+            met = [each for each in met if each[1] in limits.FACTORS[factor]]
             if met:
                 yield at_column(field, factor, column, side, met)
 
@@ -146,7 +144,7 @@ def pair_strata(each):
     """Each with how many jobs the comparison draws for it; `each` for the plain ones."""
     yield from ((stratum, each) for stratum in plain_strata())
     yield from ((named(rare.tied(names)), 100) for names in rare.TIES)
-    yield from ((named(rare.at_mark(hazard, threshold, offset)), 50) for hazard, threshold in MARKS for offset in (-1, 0, 1))
+    yield from ((named(rare.at_mark(hazard, threshold, offset)), 50) for hazard, threshold in RATIOS for offset in (-1, 0, 1))
     yield from ((named(largest(level)), 500) for level in SMALLEST)
     yield named(rare.heavy()), 5_000
     yield named(rare.light()), 5_000

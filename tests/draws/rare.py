@@ -1,12 +1,12 @@
 """Strata that a plain draw almost never meets: ties between shears, ratios at a threshold to the millionth, and jobs with a large excess."""
 
 from tests.draws.plain_jobs import Inputs
+from tests.draws.sample import RATIOS
 from tests.draws.strata import Stratum, ratio_of
 from tests.model import limits, response, shears, site as sites
 from tests.model.job import HAZARDS, made_by
 
 TIES = (('V', 'V_M'), ('V', 'V_star'), ('V_M', 'V_star'), ('V', 'V_M', 'V_star'))
-MARKS = (('design', 300_000), ('design', 800_000), ('mce', 300_000), ('mce', 800_000), ('star', 300_000))
 
 
 def crossing(low, high, passed):
@@ -105,7 +105,7 @@ def light():
 def rare_strata():
     """Each with how many jobs the comparison draws for it."""
     yield from ((tied(names), 100) for names in TIES)
-    yield from ((at_mark(hazard, threshold, offset), 50) for hazard, threshold in MARKS for offset in (-1, 0, 1))
+    yield from ((at_mark(hazard, threshold, offset), 50) for hazard, threshold in RATIOS for offset in (-1, 0, 1))
     yield star_at_800000(), 50
     yield largest(), 500
     yield heavy(), 10_000

@@ -11,6 +11,7 @@ S_S_MCE = (70, 80, 90, 100)
 S_1_MCE = (40, 45, 50, 55)
 N_A = range(100, 150 + 1)
 N_V = range(100, 200 + 1)
+FACTORS = {'NA': N_A, 'NV': N_V, 'NAM': N_A, 'NVM': N_V}      # those of a `Site`, in the order of their places
 CLASS = (1, 2, 3)
 ZONE = (1, 2, 3, 4)
 R_RANGE = range(100, 600 + 1)
@@ -82,9 +83,8 @@ def site_refusals(site):
     for place, (value, listed) in enumerate(zip(site[:4], mapped), 1):
         if value not in listed:
             yield 5, place
-    factors = ((site.NA, N_A), (site.NV, N_V), (site.NAM, N_A), (site.NVM, N_V))
-    for place, (value, allowed) in enumerate(factors, 1):
-        if value not in allowed:
+    for place, (name, allowed) in enumerate(FACTORS.items(), 1):
+        if getattr(site, name) not in allowed:
             yield 6, place
     if site.cls not in CLASS:
         yield 7, 0

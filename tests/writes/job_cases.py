@@ -63,7 +63,7 @@ def answer(result):
 
 WORKED = Case((80, 45, 100, 55, 100, 100, 1), (2, 1000, 480, 100, 150), [5000] * 3, [100, 200, 300], (3, 3, 3))
 NEAR, TURNED = (80, 45, 100, 55, 120, 150, 110, 130, 1), (80, 45, 100, 55, 110, 130, 120, 150, 1)
-FACTORS = {4: limits.N_A, 5: limits.N_V, 6: limits.N_A, 7: limits.N_V}
+FACTORS = {limits.Site._fields.index(name): allowed for name, allowed in limits.FACTORS.items()}
 OTHER = Case((60, 35, 80, 45, 142, 179, 3), (4, 0, 250, 150, 100), [900, 1, 20_000, 44], [1, 2, 1999, 2000], (4, 5, 6))
 
 

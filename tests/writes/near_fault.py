@@ -14,7 +14,7 @@ from tests.writes import by_hand
 from tests.writes.by_hand import code, comma, decimal, hundredths, table
 
 FIELDS = header.fields('RukeshomajiSite')       # in C and in Python, in the model's order
-FACTORS = ('NA', 'NV', 'NAM', 'NVM')
+FACTORS = tuple(limits.FACTORS)
 # up to which multiple of T0 a stretch goes, and which factors the shear depends on there
 STRETCHES = ((Fraction(1, 5), 'both'), (Fraction(3, 5), 'N_A'), (Fraction(1), 'both'), (Fraction(5, 2), 'N_V'), (None, 'N_A'))
 PERIODS = (10, 60, 113, 200, 340, 500, 700, 1_000, 1_700, 2_900, 4_520)

@@ -17,7 +17,6 @@ LINES = sheet.write(NEAR, FRAME, *LEVELS).splitlines(keepends=True)
 SITE, FRAME_LINE, LEVEL = LINES[:3]
 REST = b''.join(LINES[1:])
 NUMBERS = SITE[:-1].split(b'\t')[1:]
-FACTORS = {'NA': limits.N_A, 'NV': limits.N_V, 'NAM': limits.N_A, 'NVM': limits.N_V}
 
 
 def line_of(numbers, word=b'site'):
@@ -59,12 +58,12 @@ def out_of_range():
     for place, name in enumerate(limits.Site._fields):
         yield f'{name}_0', put(place, b'0') + REST
         yield f'{name}_nine_digits', put(place, b'999999999') + REST
-    for name, allowed in FACTORS.items():
+    for name, allowed in limits.FACTORS.items():
         place = limits.Site._fields.index(name)
         yield from ((f'{name}_{value}', put(place, value) + REST) for value in (allowed[0] - 1, allowed[0], allowed[-1], allowed[-1] + 1))
-    bad = {f'{one}_and_{other}': {one: 99, other: 201} for one in FACTORS for other in FACTORS if one < other}
+    bad = {f'{one}_and_{other}': {one: 99, other: 201} for one in limits.FACTORS for other in limits.FACTORS if one < other}
     bad |= {'SSM_and_NAM': {'SSM': 60, 'NAM': 99}, 'NVM_and_class': {'NVM': 99, 'cls': 4}, 'NA_160_NV_160': {'NA': 160, 'NV': 160},
-            'NAM_160_NVM_160': {'NAM': 160, 'NVM': 160}, 'every_factor': dict.fromkeys(FACTORS, 99)}
+            'NAM_160_NVM_160': {'NAM': 160, 'NVM': 160}, 'every_factor': dict.fromkeys(limits.FACTORS, 99)}
     yield from ((f'bad_{name}', line_of(NEAR._replace(**changes)) + REST) for name, changes in bad.items())
     for name, pair in (('NA', (99, 100)), ('NV', (100, 99)), ('NA_151', (151, 100)), ('NV_201', (100, 201)), ('both', (99, 99)),
                        ('160', (160, 160))):

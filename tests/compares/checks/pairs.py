@@ -7,7 +7,7 @@ Sa = 0.715 g.
 
 from fractions import Fraction
 
-from tests.compares.checks.sheets import cut_and_spoilt
+from tests.compares.checks.sheets import LISTING, cut_and_spoilt
 from tests.draws.sample import accepted_jobs
 from tests.model import exact, limits, sheet, site as sites
 from tests.model.job import job
@@ -44,8 +44,6 @@ REST = b'frame\t2\t1000\t480\t100\t150\nlevel\t5000\t100\nlevel\t5000\t200\nleve
 NEAR_SHEET = NINE % (120, 150, 110, 130) + REST
 NEAR_LISTING = (b'base\t1364558\t1063993\t1071429\t1364558\t1000\nlevel\t3\t730039\t730039\t73003900\n'
                 b'level\t2\t423013\t1153052\t188309100\nlevel\t1\t211506\t1364558\t324764900\n')
-FAR_LISTING = (b'base\t909708\t818458\t1071429\t1071429\t1000\nlevel\t3\t573215\t573215\t57321500\n'
-               b'level\t2\t332143\t905358\t147857300\nlevel\t1\t166071\t1071429\t255000200\n')
 LINES_1 = {
     SEVEN % (99, 100): (6, 1), SEVEN % (100, 99): (6, 2), SEVEN % (151, 201): (6, 1), SEVEN % (160, 160): (6, 1),
     NINE % (99, 100, 100, 100): (6, 1), NINE % (100, 99, 100, 100): (6, 2), NINE % (100, 100, 99, 100): (6, 3),
@@ -113,8 +111,8 @@ def places():
 
 def same_twice():
     """One pair for both is that pair twice: the listing of seven numbers and of nine."""
-    yield 'the worked sheet by seven', lambda: sheet.shear(SEVEN % (100, 100) + REST), FAR_LISTING
-    yield 'the worked sheet by nine', lambda: sheet.shear(NINE % (100, 100, 100, 100) + REST), FAR_LISTING
+    yield 'the worked sheet by seven', lambda: sheet.shear(SEVEN % (100, 100) + REST), LISTING
+    yield 'the worked sheet by nine', lambda: sheet.shear(NINE % (100, 100, 100, 100) + REST), LISTING
     yield 'seven numbers', lambda: limits.one_pair(80, 45, 100, 55, 120, 150, 1), FAR._replace(NA=120, NV=150, NAM=120, NVM=150)
     for name, *inputs in accepted_jobs(SEED, COUNT):
         yield f'by nine: {name}', lambda i=inputs: sheet.shear(sheet.write(*i, in_full=True)), sheet.shear(sheet.write(*inputs))
