@@ -17,7 +17,7 @@ from tests.compares import core
 from tests.compares.compare_sheets import run_both_ways, run_sheets, run_stored_sheets
 from tests.compares.excess import SHARP
 from tests.compares.tally import Tally, kind_of, label, refusal_words
-from tests.draws import faults, pairs, soil_logs
+from tests.draws import faults, pair_faults, pairs, soil_logs
 from tests.draws.basin import basin_strata
 from tests.draws.plain_jobs import draw, draw_basin, draw_pairs, draw_site
 from tests.draws.rare import rare_strata
@@ -138,7 +138,7 @@ def run_basin_bad(library, tally, seed, count):
 def run_pairs_bad(library, tally, seed, count):
     """Random bad calls with two pairs."""
     rng = random.Random(seed)
-    run_faults(library, tally, (pairs.random_call(rng) for _ in range(count)))
+    run_faults(library, tally, (pair_faults.random_call(rng) for _ in range(count)))
 
 
 def run_systematic(library, tally, seed, count):
@@ -154,7 +154,7 @@ def run_systematic_basin(library, tally, seed, count):
 
 def run_systematic_pairs(library, tally, seed, count):
     """The same with two pairs, two numbers of the site at once, and each bad factor with another number out of range."""
-    run_faults(library, tally, pairs.systematic())
+    run_faults(library, tally, pair_faults.systematic())
 
 
 def compare_log(tally, library, name, lists):

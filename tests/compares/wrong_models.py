@@ -14,7 +14,7 @@ from unittest import mock
 from tests.compares import core
 from tests.compares.compare import expected_job, got_job, lengths
 from tests.compares.tally import NEAR_FAULT
-from tests.draws import faults, pairs
+from tests.draws import faults, pair_faults
 from tests.draws.plain_jobs import draw, draw_basin, draw_pairs
 from tests.model import basin as basins, limits, response, site as sites, storeys
 
@@ -151,7 +151,7 @@ def basin_calls(rng, count):
 
 def pair_calls(rng, count):
     """Jobs with two pairs."""
-    return mixed_calls(rng, count, draw_pairs, pairs.random_call)
+    return mixed_calls(rng, count, draw_pairs, pair_faults.random_call)
 
 
 def unseen(library, calls, where, errors):

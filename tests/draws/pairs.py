@@ -1,4 +1,4 @@
-"""Strata of jobs on sites with two pairs of near-fault factors, one for the design level and one for the MCE level; bad jobs of such sites.
+"""Strata of jobs on sites with two pairs of near-fault factors, one for the design level and one for the MCE level.
 
 In every stratum the pairs differ in one factor or in both. S of a level is on, below or above a column of Table 2 by that level's own
 factor, and T is beside a corner that no other pair gives.
@@ -7,8 +7,8 @@ factor, and T is beside a corner that no other pair gives.
 import itertools
 import random
 
-from tests.draws import faults, rare
-from tests.draws.plain_jobs import draw, draw_pairs
+from tests.draws import rare
+from tests.draws.plain_jobs import draw_pairs
 from tests.draws.sample import RATIOS, draw_in
 from tests.draws.strata import CORNERS, SIDES, Stratum, at_corner, at_ratio, governed_by, with_number
 from tests.model import limits, response, site as sites
@@ -18,8 +18,6 @@ ORDER = {1: 'larger for design', 0: 'the same for both', -1: 'larger for MCE'}
 MAPPED = (('SSD', limits.S_S_DESIGN, 'NA', sites.S_S_COLUMNS), ('S1D', limits.S_1_DESIGN, 'NV', sites.S_1_COLUMNS),
           ('SSM', limits.S_S_MCE, 'NAM', sites.S_S_COLUMNS), ('S1M', limits.S_1_MCE, 'NVM', sites.S_1_COLUMNS))
 SMALLEST = {'design': {'NAM': limits.N_A[0], 'NVM': limits.N_V[0]}, 'MCE': {'NA': limits.N_A[0], 'NV': limits.N_V[0]}}
-SITE = limits.Site(80, 45, 100, 55, 120, 130, 140, 150, 1)
-FACTOR_PLACES = tuple(limits.Site._fields.index(name) for name in limits.FACTORS)
 
 
 def named(stratum):
@@ -148,35 +146,3 @@ def pair_strata(each):
     yield from ((named(largest(level)), 500) for level in SMALLEST)
     yield named(rare.heavy()), 5_000
     yield named(rare.light()), 5_000
-
-
-def wrong(allowed):
-    """Numbers that are not allowed, those beside a limit among them."""
-    return [value for value in faults.beside(allowed) if value not in allowed]
-
-
-def two_places():
-    """Every two numbers of a site wrong at once: 5 before 6 before 7, and the lower place of either."""
-    weights, heights = faults.TALL
-    for one, other in itertools.combinations(range(len(SITE)), 2):
-        for values in itertools.product(wrong(faults.LIMITS['site'][one]), wrong(faults.LIMITS['site'][other])):
-            site = faults.put(faults.put(SITE, one, values[0]), other, values[1])
-            yield site, faults.FRAME, weights, heights, faults.ROOM
-
-
-def systematic():
-    """Both sides of every limit of a site with two pairs; two numbers at once; each bad factor with another number beside its limits."""
-    yield from faults.systematic(SITE)
-    yield from two_places()
-    yield from faults.with_another([faults.put(SITE, place, value) for place in FACTOR_PLACES for value in (0, 99, 201)])
-
-
-def random_call(rng):
-    """A drawn job with two pairs, changed as any other; every second time at one to three numbers of the site, the factors most often."""
-    if rng.random() < 0.5:
-        return faults.random_call(rng, draw_pairs)
-    ground, frame, weights, heights = draw(rng, draw_pairs)
-    for _ in range(rng.choice((1, 1, 2, 3))):
-        place = rng.choice((*range(len(SITE)), *FACTOR_PLACES, *FACTOR_PLACES))
-        ground = faults.put(ground, place, faults.wrong_value(rng, faults.LIMITS['site'][place]))
-    return ground, tuple(frame), weights, heights, (len(weights),) * 3
