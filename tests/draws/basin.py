@@ -7,12 +7,11 @@ I*W/(1.4*alpha-y), which is 8 N or more; and the largest and the smallest of the
 """
 
 import functools
-import random
 from bisect import bisect_left
 
 from tests.draws import rare
 from tests.draws.plain_jobs import Inputs, draw_basin
-from tests.draws.sample import draw_in, frame_strata, level_strata
+from tests.draws.sample import frame_strata, in_turn, level_strata
 from tests.draws.strata import CORNERS, SIDES, Stratum, at_corner, at_ratio, governed_by, ratio_of, with_number
 from tests.model import basin, limits, response
 
@@ -124,11 +123,8 @@ def plain_strata():
 
 
 def accepted_basin_jobs(seed, count):
-    """Yield (stratum name, ground, frame, weights, heights) `count` times, the plain strata in turn."""
-    rng, strata = random.Random(seed), plain_strata()
-    for number in range(count):
-        stratum = strata[number % len(strata)]
-        yield (stratum.name, *draw_in(rng, stratum, draw_basin))
+    """Jobs of the Basin, the plain strata in turn."""
+    return in_turn(seed, count, plain_strata(), draw_basin)
 
 
 def basin_strata(each):

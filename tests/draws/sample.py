@@ -8,7 +8,7 @@ import sys
 from collections import Counter
 
 from tests.draws.plain_jobs import draw, draw_site
-from tests.draws.strata import CORNERS, SIDES, Stratum, at_corner, at_ratio, governed_by, in_table, kept, with_number
+from tests.draws.strata import CORNERS, SIDES, Stratum, at_corner, at_ratio, governed_by, in_table, with_levels, with_number
 from tests.model import limits, site as sites
 from tests.model.job import job
 
@@ -48,8 +48,7 @@ def frame_strata():
 
 def level_strata():
     """The ends of the count of levels, of weight and of the top height."""
-    yield from (kept(f'levels {count}', lambda job, count=count: len(job.weights) == count)
-                for count in (1, 2, 49, 50))
+    yield from (with_levels(count) for count in (1, 2, 49, 50))
     yield from (Stratum(f'every weight {weight}',
                         lambda inputs, weight=weight: inputs._replace(weights=[weight] * len(inputs.weights)),
                         lambda job, weight=weight: set(job.weights) == {weight}) for weight in (1, 20_000))
@@ -76,13 +75,17 @@ def draw_in(rng, stratum, draw_ground=draw_site):
     raise LookupError(f'not reached: {stratum.name}')
 
 
-def accepted_jobs(seed, count):
-    """Yield (stratum name, site, frame, weights, heights) `count` times, the strata in turn."""
+def in_turn(seed, count, strata, draw_ground):
+    """Yield (stratum name, ground, frame, weights, heights) `count` times, the strata in turn."""
     rng = random.Random(seed)
-    strata = all_strata()
     for number in range(count):
         stratum = strata[number % len(strata)]
-        yield (stratum.name, *draw_in(rng, stratum))
+        yield (stratum.name, *draw_in(rng, stratum, draw_ground))
+
+
+def accepted_jobs(seed, count):
+    """Jobs on sites with one pair of near-fault factors for both levels."""
+    return in_turn(seed, count, all_strata(), draw_site)
 
 
 def main(seed=SEED, count=COUNT):

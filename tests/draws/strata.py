@@ -77,6 +77,16 @@ def kept(name, holds):
     return Stratum(name, lambda inputs: inputs if holds(inputs) else None, holds)
 
 
+def with_levels(count):
+    """So many levels, as drawn."""
+    return kept(f'levels {count}', lambda job: len(job.weights) == count)
+
+
+def about_levels(name):
+    """The stratum of this name is one of levels: all of them must stay."""
+    return name.rpartition(': ')[2].startswith(('levels', 'every weight', 'one level', 'top at'))
+
+
 def in_table(field, factor, columns, place):
     """S = mapped value times near-fault factor, on, between or beyond the columns of Table 2."""
     def holds(job):

@@ -14,7 +14,7 @@ from tests.draws import pairs
 from tests.draws.basin import corner_strata, named
 from tests.draws.plain_jobs import draw_basin, draw_pairs
 from tests.draws.sample import all_strata, draw_in
-from tests.draws.strata import governed_by
+from tests.draws.strata import about_levels, governed_by
 from tests.model import limits
 from tests.model.job import job
 
@@ -191,12 +191,12 @@ def wrong_pair_cases():
 
 
 def drawn_pair_cases():
-    """A job of every stratum of two pairs, its two highest levels, with buffers as long as the lists."""
+    """A job of every stratum of two pairs, its two highest levels, all where the stratum is about levels; buffers as long as the lists."""
     rng = random.Random(SEED)
     for stratum in pairs.plain_strata():
         drawn = draw_in(rng, stratum, draw_pairs)
-        weights, heights = drawn.weights[-2:], drawn.heights[-2:]
-        yield Case(tuple(drawn.ground), tuple(drawn.frame), weights, heights, (len(weights),) * 3)
+        count = len(drawn.weights) if about_levels(stratum.name) else min(len(drawn.weights), 2)
+        yield Case(tuple(drawn.ground), tuple(drawn.frame), drawn.weights[-count:], drawn.heights[-count:], (count,) * 3)
 
 
 def main():

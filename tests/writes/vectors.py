@@ -10,14 +10,15 @@ import sys
 from fractions import Fraction
 
 from tests.draws.basin import accepted_basin_jobs
-from tests.draws.pairs import accepted_pair_jobs
+from tests.draws.pairs import accepted_pair_jobs, plain_strata
 from tests.draws.sample import accepted_jobs
+from tests.draws.strata import about_levels
 from tests.model import exact, limits
 from tests.model.job import job
 from tests.model.response import UNIT
 from tests.model.sheet import first_line
 
-SEED, COUNT, BASIN, PAIRS = 2005, 520, 100, 80
+SEED, COUNT, BASIN, PAIRS = 2005, 520, 100, len(plain_strata())     # with two pairs a job of each stratum
 FINER = 10  # every so many rows the unit is ten-millionths
 FEW_LEVELS = 4
 CLASSES = {1: 'Hard', 2: 'Normal', 3: 'Soft'}
@@ -40,7 +41,7 @@ rows ="""
 
 def fewer(rng, stratum, weights, heights):
     """The upper levels only, which keep the period; all of them where the stratum is about levels."""
-    if stratum.removeprefix('Basin: ').startswith(('levels', 'every weight', 'one level', 'top at')):
+    if about_levels(stratum):
         return weights, heights
     count = rng.randint(1, FEW_LEVELS)
     return weights[-count:], heights[-count:]
