@@ -111,14 +111,14 @@ def several():
     yield 'bad_and_51_levels', bad + FRAME_LINE + b''.join(b'level\t1\t%d\n' % (2 * number) for number in range(1, 52))
 
 
-def filled(length, cut=False):
-    """A sheet of so many bytes, every line of it as laid out, or its last one cut off."""
+def filled(length, first=SITE, cut=False):
+    """A sheet of so many bytes with this line 1, every line of it as laid out, or its last one cut off."""
     line = b'level\t1\t1\n'
-    count, more = divmod(length - len(SITE + FRAME_LINE), len(line))
+    count, more = divmod(length - len(first + FRAME_LINE), len(line))
     if cut:
-        return (SITE + FRAME_LINE + line * (count + 1))[:length]
+        return (first + FRAME_LINE + line * (count + 1))[:length]
     last = b'level\t%s\t%s\n' % (b'1' * (1 + min(more, 8)), b'1' * (1 + max(more - 8, 0)))
-    return SITE + FRAME_LINE + line * (count - 1) + last
+    return first + FRAME_LINE + line * (count - 1) + last
 
 
 def long_sheets():
@@ -148,7 +148,20 @@ def drawn():
         yield f'drawn_{number:02}', sheet.write(*draw_in(rng, stratum, draw_pairs))
 
 
+def long_both_ways():
+    """One pair for both levels by seven numbers and by nine: 4,096 bytes, as many as a sheet may have, which by nine are more; 50 levels, which
+    are accepted."""
+    seven, nine = line_of((*MAPPED, *FIRST, CLASS)), line_of((*MAPPED, *FIRST, *FIRST, CLASS))
+    full = filled(sheet.MOST_BYTES, seven)
+    assert len(full) == sheet.MOST_BYTES
+    yield 'most_bytes_by_seven', full
+    yield 'most_bytes_by_nine', full.replace(seven, nine)
+    tall = FRAME_LINE + b''.join(b'level\t20000\t%d\n' % height for height in range(1_951, 2_001))
+    yield 'tall_by_seven', seven + tall
+    yield 'tall_by_nine', nine + tall
+
+
 def pair_sheets():
     """All of them."""
-    for part in (both_ways, counts, out_of_range, lines_otherwise, elsewhere, several, long_sheets, damaged, drawn):
+    for part in (both_ways, counts, out_of_range, lines_otherwise, elsewhere, several, long_sheets, damaged, drawn, long_both_ways):
         yield from ((f'pairs_{name.lower()}', data) for name, data in part())

@@ -7,7 +7,7 @@ Sa = 0.715 g.
 
 from fractions import Fraction
 
-from tests.compares.checks.sheets import LISTING, cut_and_spoilt
+from tests.compares.checks.sheets import LISTING, cut_and_spoilt, padded
 from tests.draws.sample import accepted_jobs
 from tests.model import exact, limits, sheet, site as sites
 from tests.model.job import job
@@ -116,6 +116,9 @@ def same_twice():
     yield 'seven numbers', lambda: limits.one_pair(80, 45, 100, 55, 120, 150, 1), FAR._replace(NA=120, NV=150, NAM=120, NVM=150)
     for name, *inputs in accepted_jobs(SEED, COUNT):
         yield f'by nine: {name}', lambda i=inputs: sheet.shear(sheet.write(*i, in_full=True)), sheet.shear(sheet.write(*inputs))
+    full = padded(sheet.MOST_BYTES)
+    yield '4,096 bytes by seven', lambda: sheet.shear(full), sheet.refused(1, 0)
+    yield '4,096 bytes by seven, by nine', lambda: sheet.shear(full.replace(SEVEN % (100, 100), NINE % (100, 100, 100, 100))), sheet.refused(17, 0)
     yield 'written by seven', lambda: sheet.write(FAR, FRAME, *LEVELS), SEVEN % (100, 100) + REST
     yield 'written by nine', lambda: sheet.write(FAR, FRAME, *LEVELS, in_full=True), NINE % (100, 100, 100, 100) + REST
     yield 'written with two pairs', lambda: sheet.write(NEAR, FRAME, *LEVELS), NEAR_SHEET
