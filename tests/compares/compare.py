@@ -2,10 +2,11 @@
 
 usage: python3 -m tests.compares.compare [JOBS [BAD [LOGS [SHEETS [SEED [BASIN [BASIN_BAD [PAIRS [PAIRS_BAD]]]]]]]]]
 
-JOBS and BAD are on sites with one pair of near-fault factors for both levels, PAIRS and PAIRS_BAD on sites with a pair for each; a quarter
-of the SHEETS is of the Basin, and a quarter has two pairs. It prints the count of each stratum, the largest excess over the exact figure of
-demand 3 on sites, in the Basin and with two pairs, and the number of differences; on standard error it says how far it is. It needs x86-64,
-or RUKESHOMAJI_LIBRARY, a shared library of the core for the machine at hand.
+JOBS are on sites with one pair of near-fault factors for both levels, PAIRS on sites with a pair for each. BAD, BASIN_BAD and PAIRS_BAD are drawn
+likewise and then changed; they are counted by what was drawn, though a changed factor can make two pairs of one. A quarter of the SHEETS is of
+the Basin, and a quarter has two pairs; jobs by seven numbers and by nine come on top of them. It prints the count of each stratum, the largest
+excess over the exact figure of demand 3 on sites, in the Basin and with two pairs, and the number of differences; on standard error it says how
+far it is. It needs x86-64, or RUKESHOMAJI_LIBRARY, a shared library of the core for the machine at hand.
 """
 
 import random
@@ -16,7 +17,7 @@ from concurrent import futures
 from tests.compares import core
 from tests.compares.compare_sheets import run_both_ways, run_sheets, run_stored_sheets
 from tests.compares.excess import SHARP
-from tests.compares.tally import Tally, kind_of, label, refusal_words
+from tests.compares.tally import PREFIX, Tally, kind_of, label, refusal_words
 from tests.draws import faults, pair_faults, pairs, soil_logs
 from tests.draws.basin import basin_strata
 from tests.draws.plain_jobs import draw, draw_basin, draw_pairs, draw_site
@@ -28,7 +29,7 @@ from tests.writes import log_cases
 JOBS, BAD, LOGS, SHEETS, SEED = 1_000_000, 120_000, 100_000, 120_000, 1
 BASIN, BASIN_BAD, PAIRS, PAIRS_BAD = 200_000, 24_000, 200_000, 24_000
 A_STRATUM, CHUNK, SHOWN = 500, 2_500, 5
-BOTH_WAYS = 20          # one in so many of the count of sheets is of jobs that are written by seven numbers and by nine
+BOTH_WAYS = 20          # for every so many SHEETS a job on top, by seven numbers and by nine, and each with a number more: four sheets
 SAID_EACH = 10          # seconds
 WITHOUT = 'the same without buffers'
 MEASURED_EACH = 10      # of the jobs drawn from all that is allowed, the exact figure of every tenth is worked out
@@ -113,48 +114,48 @@ def run_pairs(library, tally, seed, count):
     run_plain(library, tally, seed, count, draw_pairs)
 
 
-def run_faults(library, tally, calls):
-    """Bad calls, with and without buffers; counted by the refusal that the model gives."""
+def run_faults(library, tally, kind, calls):
+    """Bad calls, with and without buffers; counted by the kind of ground that was drawn and the refusal that the model gives."""
     for call in calls:
         expected = expected_job(*call)
         stratum = f'refusal {refusal_words(*expected[0][:2])}' if expected[0][0] else 'changed, and accepted'
-        tally.compare(label(call, stratum), call, got_job(library, *call), expected)
+        tally.compare(PREFIX[kind] + stratum, call, got_job(library, *call), expected)
         plain = expected_job(*call[:4], (len(call[2]),) * 3)[0]
-        tally.compare(label(call, WITHOUT), call, core.figures(library, *call[:4]), plain)
+        tally.compare(PREFIX[kind] + WITHOUT, call, core.figures(library, *call[:4]), plain)
 
 
 def run_bad(library, tally, seed, count):
     """Random bad calls."""
     rng = random.Random(seed)
-    run_faults(library, tally, (faults.random_call(rng) for _ in range(count)))
+    run_faults(library, tally, 'site', (faults.random_call(rng) for _ in range(count)))
 
 
 def run_basin_bad(library, tally, seed, count):
     """Random bad calls of the Basin."""
     rng = random.Random(seed)
-    run_faults(library, tally, (faults.random_call(rng, draw_basin) for _ in range(count)))
+    run_faults(library, tally, 'basin', (faults.random_call(rng, draw_basin) for _ in range(count)))
 
 
 def run_pairs_bad(library, tally, seed, count):
     """Random bad calls with two pairs."""
     rng = random.Random(seed)
-    run_faults(library, tally, (pair_faults.random_call(rng) for _ in range(count)))
+    run_faults(library, tally, 'pairs', (pair_faults.random_call(rng) for _ in range(count)))
 
 
 def run_systematic(library, tally, seed, count):
     """Both sides of every limit at every place."""
-    run_faults(library, tally, faults.systematic())
+    run_faults(library, tally, 'site', faults.systematic())
 
 
 def run_systematic_basin(library, tally, seed, count):
     """The same in the Basin, and every zone that is judged with another number out of range."""
-    run_faults(library, tally, faults.systematic(faults.BASIN))
-    run_faults(library, tally, faults.with_another(faults.zones()))
+    run_faults(library, tally, 'basin', faults.systematic(faults.BASIN))
+    run_faults(library, tally, 'basin', faults.with_another(faults.zones()))
 
 
 def run_systematic_pairs(library, tally, seed, count):
     """The same with two pairs, two numbers of the site at once, and each bad factor with another number out of range."""
-    run_faults(library, tally, pair_faults.systematic())
+    run_faults(library, tally, 'pairs', pair_faults.systematic())
 
 
 def compare_log(tally, library, name, lists):

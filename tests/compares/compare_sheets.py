@@ -8,7 +8,7 @@ from tests.draws import damage
 from tests.draws.plain_jobs import draw
 from tests.model import sheet
 
-NAMED = (8, 9, 10)      # counts of numbers on a site line that are said
+NAMED = (7, 8, 9, 10)       # counts of numbers on a site line that are said
 
 
 def numbers_on_line_1(data):
