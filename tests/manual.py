@@ -209,8 +209,10 @@ def refusals():
             yield words in f'{place}; {wrong}; {to_do}', f'docs/manual/refusals.md: {number}: does not say: {words}'
     by_seven = re.search(r'On a `site` line of seven numbers, refusal 6 has place 1 or 2 only: `(site [\d ]*)` gets `(refused 6 [12])`', text)
     yield bool(by_seven) and answer(f'line 1 `{by_seven[1]}`') == by_seven[2].split(), 'docs/manual/refusals.md: 6 on seven numbers'
-    named = re.search(r'\(`./shear` calls these ([^)]*)\)', text)
-    yield bool(named) and f"'{named[1].replace(', ', ',')}'" in (ROOT / 'shear').read_text(), 'docs/manual/refusals.md: the places of 6 in ./shear'
+    named = re.search(r'\(`./shear` calls 3 and 4 (N_A \w+) and (N_V \w+)\)', text)
+    places = ('N_A', 'N_V', *named.groups()) if named else ()
+    for file, words in (('shear', f"'{','.join(places)}'"), ('examples/rukeshomaji.py', f'6: {places}')):
+        yield words in (ROOT / file).read_text(), f'docs/manual/refusals.md: the places of 6 in {file}: wanted {words}'
     whole = ' '.join(row[2] for row in found if row[0] == '14')
     yield f'{comma(soil.THICKNESS_SUM)} cm' in whole, 'docs/manual/refusals.md: 14: the depth'
 
