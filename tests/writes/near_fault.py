@@ -104,14 +104,14 @@ def tall_building(site):
 
 
 def low_building(site):
-    """A building so low that V_D falls where the larger N_V, which is that of the design pair, is typed for both."""
-    frame, weights, heights, least, most = limits.Frame(4, 0, 100, 100, 150), [2_963], [30], 100, 120
-    own, both = (job(site._replace(NA=100, NV=most, NAM=100, NVM=each), frame, weights, heights) for each in (least, most))
-    assert own.V_D > both.V_D and own.V_D == own.V_M and both.V_D == both.V_M
-    assert own.mce.T0 / 5 < own.T == both.T < both.mce.T0 / 5
-    return {'low_sheet': code(sheet.write(own.ground, frame, weights, heights).decode().splitlines()), 'low_T': comma(own.T),
-            'low_large': hundredths(most), 'low_own': comma(own.V_D), 'low_both': comma(both.V_D), 'low_less': comma(own.V_D - both.V_D),
-            'low_percent': f'{float(100 * Fraction(own.V_D - both.V_D, own.V_D)):.1f}'}
+    """A building so low that the larger pair for both hazard levels lowers V_D: the larger N_V brings T onto the rising branch of V_M."""
+    pair, smaller = (100, 120), (100, 100)
+    own = with_pairs(job(site, limits.Frame(4, 0, 100, 100, 150), [2_963], [30]), pair, smaller)
+    larger = with_pairs(own, pair, pair)
+    assert own.V_D == own.V_M > larger.V_D == larger.V_M > own.V == larger.V
+    assert own.mce.T0 / 5 < own.T == larger.T < larger.mce.T0 / 5
+    return {'low_sheet': code(sheet.write(*own[:4]).decode().splitlines()), 'low_T': comma(own.T), 'low_NA': hundredths(pair[0]),
+            'low_NV': hundredths(pair[1]), 'low_own': comma(own.V_D), 'low_larger': comma(larger.V_D), 'low_off': off(larger, own, 'V_D')}
 
 
 def ductile_building(own):

@@ -33,6 +33,9 @@ A_AND_B = {
     (60, 40, 90, 50, 108, 112, 100, 100, 2): ((10520 * 6480, 12040 * 4480), (10000 * 9000, 11000 * 5000), (11000 * 6000, 13000 * 4000)),
     (60, 40, 70, 40, 100, 100, 101, 113, 2): ((11000 * 6000, 13000 * 4000), (10000 * 7070, 11960 * 4520), (11000 * 6000, 13000 * 4000)),
 }
+# on 2,963 kN at 30 dm the larger pair for both levels lowers V_D
+LOW = limits.Frame(4, 0, 100, 100, 150), [2_963], [30]
+LOW_V_D = {FAR._replace(NV=120): 987667, FAR._replace(NV=120, NVM=120): 902369}
 PAIRS = ((100, 101), (101, 100), (150, 100), (100, 200), (133, 177), (150, 200))
 # factors that are wrong, and where 6 is given
 PLACES = {
@@ -65,6 +68,8 @@ def figures():
     for site, wanted_figures in WORKED.items():
         for name, wanted in zip(NAMES, wanted_figures):
             yield f'{name} of {tuple(site)}', lambda s=site, n=name: getattr(job(s, FRAME, *LEVELS), n), wanted
+    for site, wanted in LOW_V_D.items():
+        yield f'V_D of {tuple(site)} and a low frame', lambda s=site: job(s, *LOW).V_D, wanted
     for site, wanted in A_AND_B.items():
         of_site = limits.Site(*site)
         yield f'A and B of {tuple(site)}', lambda s=of_site: (sites.design(s), sites.mce(s), sites.star(s)), wanted
