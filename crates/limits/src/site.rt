@@ -135,25 +135,13 @@ impl Site {
     fn judged_na(x: u64, place: u64) -> Verdict
         ensures { λ r. ⌜ verdictOutcome r ≡ within 100 150 x 6 place ⌝ }
     {
-        within(
-            Self::NA_LEAST,
-            Self::NA_MOST,
-            x,
-            Refusal::NEAR_FAULT,
-            place,
-        )
+        within(Self::NA_LEAST, Self::NA_MOST, x, Refusal::NEAR_FAULT, place)
     }
 
     fn judged_nv(x: u64, place: u64) -> Verdict
         ensures { λ r. ⌜ verdictOutcome r ≡ within 100 200 x 6 place ⌝ }
     {
-        within(
-            Self::NV_LEAST,
-            Self::NV_MOST,
-            x,
-            Refusal::NEAR_FAULT,
-            place,
-        )
+        within(Self::NV_LEAST, Self::NV_MOST, x, Refusal::NEAR_FAULT, place)
     }
 
     // 5, 6, 7 in turn.
