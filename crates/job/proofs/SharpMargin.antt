@@ -1,7 +1,7 @@
 -- Three accepted jobs that show how sharp demand 3 is, worked out by the checker: its margins cannot be much smaller, and its
 -- fractions cannot stand the other way round.
 --   heavy     a million kN: the base shear is above the exact one by more than four s-ths and a newton
---   tall      2,000 dm: the shear under the roof is above the exact one by more than six s-ths and two newtons
+--   tall      2,000 dm, T just below 3,572 ms: the shear under the roof is above the exact one by more than six s-ths and two newtons
 --   stiff     with a low fraction in V the chain is above the printed base shear
 -- Assumes nothing.
 use mathlib.Core.Path.{refl}
@@ -42,8 +42,7 @@ heavy =
 
 abbrev pub tall : Job
 tall =
-    jobOn (siteLine 70 30 70 40 149 135 1) Hard (frameLine 1 6246 244 125 199) Steel (12 ∷ 1 ∷ 1 ∷ 1 ∷ 2 ∷ 1 ∷ [])
-    (207 ∷ 630 ∷ 1464 ∷ 1481 ∷ 1657 ∷ 2000 ∷ [])
+    jobOn (siteLine 80 30 80 50 126 196 1) Hard (frameLine 1 3568 280 150 138) Steel (6 ∷ 1 ∷ []) (1471 ∷ 2000 ∷ [])
 
 abbrev pub stiff : Job
 stiff =
@@ -86,10 +85,10 @@ tall-raising =
       star = record { sound = lit< tt; one = lit≤ tt; high = lit≤ tt };
     }
 
--- printed 924 N, exact 921.74 N; six millionths are 0.05 N. The margin plus two newtons is six millionths plus three newtons
+-- printed 389 N, exact 386.82 N; six millionths are 0.03 N. The margin plus two newtons is six millionths plus three newtons
 pub over-two-newtons :
-    AtMost (plus (exactUnder tall tallRoots 5) (plus (margin 6 tall) (over 1 1))) (over (printedUnder tall 5) 1)
-    × LessBy (printedUnder tall 5) (exactUnder tall tallRoots 5) (allowedUnder unit (hazards tall) (tall .given .frame) (sum (tall .weights)))
+    AtMost (plus (exactUnder tall tallRoots 1) (plus (margin 6 tall) (over 1 1))) (over (printedUnder tall 1) 1)
+    × LessBy (printedUnder tall 1) (exactUnder tall tallRoots 1) (allowedUnder unit (hazards tall) (tall .given .frame) (sum (tall .weights)))
 unfolding sum between up down largest smallest bitsFrom lowerRoot upperRoot floor ceiling approximate inUse spectrum exactSpectrum
     factor lowerFactor upperFactor ratio modified blended bent newtons shear star base weightHeight
 over-two-newtons = (lit≤ tt, lit< tt)

@@ -65,9 +65,12 @@ pub allowed-is : (s : ℕ) (k : Hazards) (f : Frame) (W : ℕ)
     (over 1 1))
 allowed-is s k f W = omega arith
 
--- V − F_t, as the storeys have it: what is left of V beside F_t
+-- V − F_t, as the storeys have it: what is left of V beside F_t, whatever part of V it is
+rest-beside : (t v : Fraction) → t .num ≤ t .den → Same (plus (times t v) (times (rest t) v)) v
+rest-beside t v h =
+    let e : t .num + (t .den - t .num) ≡ t .den = omega arith in
+    omega (arith, ap (λ (z : ℕ). z * (t .den * (v .num * (v .den * v .den)))) e)
+
 pub rest-beside-roof-force : (T : ℕ) (v : Fraction) → RoofAtMostOne T
     → Same (plus (exactRoofForce T v) (times (rest (roofPart T)) v)) v
-rest-beside-roof-force T v h =
-    let e : 7 * T + (100_000 - 7 * T) ≡ 100_000 = omega arith in
-    omega (arith, ap (λ (z : ℕ). z * (100_000 * (v .num * (v .den * v .den)))) e)
+rest-beside-roof-force T v h = rest-beside (roofPart T) v h

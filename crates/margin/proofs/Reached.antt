@@ -12,6 +12,7 @@ use Rattle.response.specs.Unit.{unit}
 use Rattle.base_shear.specs.Ready.{Reached}
 use Rattle.base_shear.specs.Shears.{base}
 use Rattle.storeys.specs.Storeys.{weightHeight, shearUnder}
+use Rattle.storeys.proofs.Roof.{roof-at-most-one}
 use Rattle.margin.specs.Demand3.{Demand3}
 use Rattle.margin.proofs.Demand3.{demand3}
 
@@ -19,4 +20,4 @@ pub demand3-reached : (k : Hazards) (f : Frame) (ws hs : List ℕ) (T : ℕ) →
     → 0 < weightHeight ws hs
     → let v = base unit k f (sum ws) T in Demand3 unit k f ws hs T v (shearUnder T v ws hs)
 demand3-reached k f ws hs T c b t p =
-    demand3 unit k f ws hs T (c .shearing T t) (c .meeting) (omega (arith, b .alpha)) (c .star-least) (omega arith) p
+    demand3 unit k f ws hs T (c .shearing T t) (c .meeting) (omega (arith, b .alpha)) (c .star-least) (roof-at-most-one T) p

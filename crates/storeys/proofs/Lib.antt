@@ -1,4 +1,5 @@
 pub mod Roof
+pub mod RoofRule
 pub mod Sums
 pub mod Telescope
 pub mod Turning

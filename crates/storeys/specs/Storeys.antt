@@ -1,7 +1,7 @@
 -- Storeys (21). V in N, T in ms, weights in kN, heights in dm, lowest level first; level x is counted from 0.
---   roofPart T            0.07·(T in s)
+--   roofPart T            the part of V at the roof: 0 for T up to 700 ms, above that the smaller of 0.07·(T in s) and a quarter
 --   RoofAtMostOne T       the roof part is at most one, so that F_t is a part of V
---   roofForce T v         F_t = 0.07·(T in s)·V, up
+--   roofForce T v         F_t, that part of V, up: one rounding
 --   weightHeight ws hs    P, the sum of weight times height; P_x is that of what stands from level x to the roof
 --   shearUnder T v ws hs x    the shear under level x: F_t + (V − F_t)·P_x/P, quotient up
 --   shears T v ws hs      those of all levels
@@ -16,16 +16,19 @@
 -- ℕ's subtraction stops at 0; that no difference here goes below it: `roof-most`, `force-whole`, `bottom-below` of proofs/.
 use mathlib.Core.Path.{_≡_}
 use mathlib.Core.List.{List, [], _∷_}
-use Prim.Native.Nat.{ℕ, zero, suc, _+_, _-_, _*_, _≤_}
+use Prim.Native.Nat.{ℕ, zero, suc, _+_, _-_, _*_, _≤_, min}
+use lib.Dec.{leb}
 use lib.ListN.{length, drop, getD}
 use Rattle.whole.specs.declared.Fraction.{Fraction}
+use Rattle.whole.specs.Choice.{pick}
 use Rattle.whole.specs.Rounding.{up}
 use Rattle.whole.specs.Fraction.{over}
 use Rattle.whole.specs.Cells.{cells, sum, below, laid}
 use Rattle.storeys.specs.declared.overturning.Borne.{Borne}
 
+-- 0.07·(T in s) is 7·T in 100,000, a quarter 25,000 of them
 abbrev pub roofPart : ℕ → Fraction
-roofPart T = over (7 * T) 100_000
+roofPart T = over (pick (leb T 700) 0 (min (7 * T) 25_000)) 100_000
 
 abbrev pub RoofAtMostOne : ℕ → Type 0
 RoofAtMostOne T = roofPart T .num ≤ roofPart T .den

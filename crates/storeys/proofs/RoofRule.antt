@@ -1,0 +1,76 @@
+-- The rule of the roof force in document 02's own numbers, and the T from which each piece of it counts.
+--   rising T    0.07·(T in s)
+-- Assumes nothing.
+use mathlib.Core.Path.{_≡_, refl, sym, ap, _∙_}
+use Prim.Native.Nat.{ℕ, _*_, _≤_, _<_, min}
+use native.Mathlib.Decide.{decLe}
+use native.Mathlib.Nat.{min-eq-left, min-eq-right, mul-le-mul-right}
+use native.Mathlib.Omega.{arith}
+use Rattle.whole.specs.declared.Fraction.{Fraction}
+use Rattle.whole.specs.Fraction.{over, times, Same, AtMost, Less}
+use Rattle.whole.specs.Rounding.{up}
+use Rattle.whole.proofs.Choice.{by-leb}
+use Rattle.whole.proofs.Rounding.{up-law, up-mono, up-scale}
+use Rattle.storeys.specs.Storeys.{roofPart, roofForce}
+
+abbrev pub rising : ℕ → Fraction
+rising T = times (over 7 100) (over T 1000)
+
+-- ---- the part, in 100,000
+pub part-none : (T : ℕ) → T ≤ 700 → roofPart T .num ≡ 0
+part-none T h = by-leb (λ (n : ℕ). n ≡ 0) T 700 0 (min (7 * T) 25_000) (λ _. refl) (λ k. absurd (let b : ⊥ = omega arith in b))
+
+pub part-rising : (T : ℕ) → 700 < T → 7 * T ≤ 25_000 → roofPart T .num ≡ 7 * T
+part-rising T h q =
+    by-leb (λ (n : ℕ). n ≡ 7 * T) T 700 0 (min (7 * T) 25_000) (λ k. absurd (let b : ⊥ = omega arith in b)) (λ _. min-eq-left q)
+
+pub part-quarter : (T : ℕ) → 25_000 ≤ 7 * T → roofPart T .num ≡ 25_000
+part-quarter T q =
+    by-leb (λ (n : ℕ). n ≡ 25_000) T 700 0 (min (7 * T) 25_000) (λ k. absurd (let b : ⊥ = omega arith in b)) (λ _. min-eq-right q)
+
+-- ---- 'F_t becomes 0 up to 700 ms, and above that the smaller of 0.07·T·V_D and V_D/4': of the part, which the exact figure takes too
+pub none-up-to-700 : (T : ℕ) → T ≤ 700 → Same (roofPart T) (over 0 1)
+none-up-to-700 T h = omega (arith, part-none T h)
+
+pub rising-where-smaller : (T : ℕ) → 700 < T → AtMost (rising T) (over 1 4) → Same (roofPart T) (rising T)
+rising-where-smaller T h q = omega (arith, part-rising T h (omega arith))
+
+pub quarter-where-smaller : (T : ℕ) → 700 < T → AtMost (over 1 4) (rising T) → Same (roofPart T) (over 1 4)
+quarter-where-smaller T h q = omega (arith, part-quarter T (omega arith))
+
+-- ---- the quarter begins to count at 3,572 ms: 0.07·3.571 = 0.24997, 0.07·3.572 = 0.25004
+pub rising-up-to-3571 : (T : ℕ) → T ≤ 3_571 → Less (rising T) (over 1 4)
+rising-up-to-3571 T h = omega arith
+
+pub quarter-from-3572 : (T : ℕ) → 3_572 ≤ T → Less (over 1 4) (rising T)
+quarter-from-3572 T h = omega arith
+
+-- ---- 'rounded up'
+pub no-roof-force : (T v : ℕ) → T ≤ 700 → roofForce T v ≡ 0
+no-roof-force T v h =
+    let e = part-none T h in
+    omega (arith, up-law (roofPart T .num * v) 100_000 (omega arith) .1, ap (λ (n : ℕ). n * v) e)
+
+pub rising-roof-force : (T v : ℕ) → 700 < T → T ≤ 3_571 → roofForce T v ≡ up (7 * T * v) 100_000
+rising-roof-force T v h k = ap (λ (n : ℕ). up (n * v) 100_000) (part-rising T h (omega arith))
+
+pub quarter-roof-force : (T v : ℕ) → 3_572 ≤ T → roofForce T v ≡ up v 4
+quarter-roof-force T v h =
+    ap (λ (n : ℕ). up (n * v) 100_000) (part-quarter T (omega arith)) ∙ up-scale 25_000 v 4 (omega arith) (omega arith)
+
+-- to round both and then take the smaller gives the same number
+pub smaller-of-both : (T v : ℕ) → 700 < T → roofForce T v ≡ min (up (7 * T * v) 100_000) (up v 4)
+smaller-of-both T v h = go (decLe T 3_571)
+  where
+    scaled : up (25_000 * v) 100_000 ≡ up v 4
+    scaled = up-scale 25_000 v 4 (omega arith) (omega arith)
+
+    go : Dec (T ≤ 3_571) → roofForce T v ≡ min (up (7 * T * v) 100_000) (up v 4)
+    go (yes k) =
+        let q : 7 * T ≤ 25_000 = omega arith in
+        let less = up-mono (7 * T * v) 100_000 (25_000 * v) 100_000 (omega arith) (omega arith) (mul-le-mul-right v q) in
+        rising-roof-force T v h k ∙ sym (min-eq-left (omega (arith, less, scaled)))
+    go (no k) =
+        let q : 25_000 ≤ 7 * T = omega arith in
+        let less = up-mono (25_000 * v) 100_000 (7 * T * v) 100_000 (omega arith) (omega arith) (mul-le-mul-right v q) in
+        quarter-roof-force T v (omega arith) ∙ sym (min-eq-right (omega (arith, less, scaled)))
