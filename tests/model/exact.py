@@ -88,6 +88,11 @@ def capacity_and_star(ground, R):
     return Fraction(2 * R + 100, 300), Fraction(1, 3)
 
 
+def roof_part(T):
+    """The part of V_D at the roof by "the same rule", T in ms: none up to 0.7 s; then 0.07 a second, which comes to a quarter at 25/7 s."""
+    return Fraction(7 * min(T, Fraction(25_000, 7)), 100_000) if 10 * T > 7_000 else Fraction(0)
+
+
 def chain(job, roots):
     """The exact shears of an accepted job at its T, with a root fraction for each of V, V_M, V*."""
     R, T, unit = job.frame.R, job.T, shear_unit(job)
@@ -98,7 +103,7 @@ def chain(job, roots):
     F = factor(*star, T, design_capacity, roots[2])
     V_star = unit * modified(spectrum(*star, T) / F) * F * part
     V_D = max(V, V_M, V_star)
-    F_t = V_D * 7 * T / 100_000
+    F_t = roof_part(T) * V_D
     products = [weight * height for weight, height in zip(job.weights, job.heights)]
     parts = [Fraction(sum(products[x:]), sum(products)) for x in range(len(products))]
     return Shears(V, V_M, V_star, V_D, [F_t + (V_D - F_t) * part for part in parts])

@@ -4,9 +4,14 @@ from fractions import Fraction
 from math import ceil
 
 
+NO_ROOF_FORCE = 700         # ms
+
+
 def F_t(T, V_D):
-    """The part at the top: "F_t = 0.07*(T in s)*V_D, up"."""
-    return ceil(Fraction(7, 100) * Fraction(T, 1000) * V_D)
+    """At the roof: "0 up to 700 ms, and above that the smaller of 0.07*T*V_D and V_D/4, rounded up"."""
+    if T <= NO_ROOF_FORCE:
+        return 0
+    return ceil(min(Fraction(7, 100) * Fraction(T, 1000) * V_D, Fraction(V_D, 4)))
 
 
 def products_above(weights, heights):
