@@ -79,6 +79,9 @@ static inline __attribute__((always_inline)) u64 lower_q(u64 a, u64 b, u64 t, u6
     return up(sa * 1000000, f);
 }
 
+/* the part of V_D at the roof, in 100,000: none up to 700 ms, then 0.07 a second, at most a quarter */
+static u64 roof_part(u64 T) { return T <= 700 ? 0 : 7 * T <= 25000 ? 7 * T : 25000; }
+
 u64 OF(job)(const Site *s, const Frame *f, const u64 *w, u64 n, const u64 *h, u64 m, u64 *restrict forces, u64 nf,
             u64 *restrict shears, u64 ns, u64 *restrict moments, u64 nm, JobReply *reply)
 {
@@ -116,7 +119,7 @@ u64 OF(job)(const Site *s, const Frame *f, const u64 *w, u64 n, const u64 *h, u6
     u64 iw = f->i * W, d = 1400 * f->alpha_y;
     u64 v = up(iw * modified(q), d), vm = up(iw * modified(qm), d), star = up(iw * p, 3 * d), vd = v > vm ? v : vm;
     vd = star > vd ? star : vd;
-    u64 ft = up(7 * T * vd, 100000), px = 0, above = 0, moment = 0, part = vd - ft;
+    u64 ft = up(roof_part(T) * vd, 100000), px = 0, above = 0, moment = 0, part = vd - ft;
     double inv = 1.0 / (double)(i64)P;
     u64 top = h[n - 1];
     for (size_t x = n; x-- > 0;) {

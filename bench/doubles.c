@@ -58,7 +58,7 @@ u64 OF(job)(const Site *s, const Frame *f, const u64 *w, u64 n, const u64 *h, u6
     double v = share * modified(spectrum(a, b, t) / factor(a, b, t, design));
     double vm = share * modified(spectrum(am, bm, t) / factor(am, bm, t, r));
     double star = share / 3 * fs * modified(spectrum(ap, bp, t) / fs), vd = fmax(fmax(v, vm), star);
-    double ft = 0.07 * t * vd, px = 0, above = 0, moment = 0;
+    double ft = t <= 0.7 ? 0 : fmin(0.07 * t, 0.25) * vd, px = 0, above = 0, moment = 0;
     for (size_t x = n; x-- > 0;) {
         px += (double)w[x] * h[x];
         double under = ceil(ft + (vd - ft) * px / P);

@@ -86,6 +86,9 @@ static u64 blended(u64 sa, u64 f)
     return up(7 * sa, 10);
 }
 
+/* the part of V_D at the roof, in 100,000: none up to 700 ms, then 0.07 a second, at most a quarter */
+static u64 roof_part(u64 T) { return T <= 700 ? 0 : 7 * T <= 25000 ? 7 * T : 25000; }
+
 u64 OF(job)(const Site *s, const Frame *f, const u64 *w, u64 n, const u64 *h, u64 m, u64 *forces, u64 nf, u64 *shears, u64 ns,
             u64 *moments, u64 nm, JobReply *reply)
 {
@@ -107,7 +110,7 @@ u64 OF(job)(const Site *s, const Frame *f, const u64 *w, u64 n, const u64 *h, u6
     u64 v = up(f->i * modified(q) * W, 1400 * f->alpha_y), vm = up(f->i * modified(qm) * W, 1400 * f->alpha_y);
     u64 star = up(f->i * p * W, 4200 * f->alpha_y), vd = v > vm ? v : vm;
     if (star > vd) vd = star;
-    u64 ft = up(7 * T * vd, 100000), px = 0, above = 0;
+    u64 ft = up(roof_part(T) * vd, 100000), px = 0, above = 0;
     for (size_t x = n; x-- > 0;) {
         px += w[x] * h[x];
         shears[x] = ft + up((vd - ft) * px, P);

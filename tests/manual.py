@@ -32,11 +32,12 @@ NEAR_FAULT = (ROOT / 'examples' / 'near_fault.sheet').read_bytes()
 # what a filled page says in digits of its own: constants of the rules, powers of ten, equations, sections, tables and limits of 000,
 # numbers of kinds and refusals, and the exponent of a pocket calculator
 OWN = {
-    'worked.md': '0.01 0.07 0.75 1 1.4 2 4.2 5 7 10 16 17 19 25 50 75 100 300 1400 4200 10,000',
+    'worked.md': '0.01 0.07 0.75 1 1.4 2 4 4.2 5 7 10 16 17 19 25 50 75 100 300 700 1400 4200 10,000',
     'soft_ground.md': '0.75 2',
-    'near_fault.md': '0.01 0.07 0.2 0.4 0.6 0.75 1 1.0 1.00 1.4 2 2.2 2.4 2.5 3 4 4.2 5 6 7 9 10 13 14 16 17 19 25 50 75 100 300 400 600 1000 '
+    'near_fault.md': '0.01 0.2 0.4 0.6 0.75 1 1.0 1.00 1.4 2 2.2 2.4 2.5 3 4 4.2 5 6 7 9 10 13 14 16 17 19 25 50 75 100 300 400 600 700 1000 '
                      '1400 4200 10,000',
     'basin.md': '0.01 0.2 0.4 0.6 0.8 1 1.0 1.4 1.5 2 2.0 2.3 2.4 2.5 3 3.5 4 4.2 6 7 10 11 15 16 17 18 19 50 100 200 1000 1400 2005 3500',
+    'roof_force.md': '0 0.07 0.7 2.0.0 21 700',
     'rounding.md': '1 3 1.4 1.5 4.2 10 15',
     'soil.md': '0.1 1 2 3 2.1 10 13 15 18 27 30 180 270 800 1000',
 }
@@ -251,7 +252,8 @@ def sides():
     yield 'V, V_M', side([(per * 292_321, shears.V(frame, 292_321, 9_001))])
     yield 'p', side([(Fraction(52 * 720_001, 100) + Fraction(144 * 1_463_061, 1000), response.p_of_star(720_001, 1_463_061))])
     yield 'V*', side([(per * 720_001 / 3, shears.V_star(frame, 720_001, 9_001))])
-    yield 'F_t', side([(Fraction(7 * T * 1_566_001, 100_000), storeys.F_t(T, 1_566_001))])
+    yield 'F_t', side([(Fraction(7 * each * 1_566_001, 100_000), storeys.F_t(each, 1_566_001)) for each in (701, 3_571)]
+                      + [(Fraction(1_566_001, 4), storeys.F_t(3_572, 1_566_001))])
     yield 'shear under level x', side([(Fraction((10_001 - 30) * part, parts[0]), whole - 30)
                                        for part, whole in zip(parts, storeys.shears(10_001, 30, weights, heights))])
 
@@ -311,7 +313,11 @@ def written_rules(rule):
     names = {'I': Fraction(frame.I, 100), 'alpha_y': Fraction(frame.alphay, 100), 'W': W * 1000, 'm': Fraction(292_321, 10**6)}
     yield 'V, V_M', ceil(value(rule['V, V_M'], **names)), shears.V(frame, 292_321, W)
     yield 'V*', ceil(value(rule['V*'], p=names['m'], **names)), shears.V_star(frame, 292_321, W)
-    yield 'F_t', ceil(value(rule['F_t'], T_s=Fraction(421, 1000), V_D=1_566_001)), storeys.F_t(421, 1_566_001)
+    none, roof = (piece.split(': ') for piece in rule['F_t'].split('; '))
+    for T in range(1, 6_329):
+        names = {'T': T, 'T_s': Fraction(T, 1000), 'V_D': 1_566_001}
+        both = [value(each, **names) for each in roof[1].removeprefix('the smaller of ').split(' and ')]
+        yield f'F_t at {T}', ceil(value(none[1], **names) if value(none[0], **names) else min(both)), storeys.F_t(T, 1_566_001)
     shear = rule['shear under level x'].split(';')[0].removeprefix('F_t + ')
     parts = storeys.products_above([3, 5, 7], [11, 13, 17])
     got = [30 + ceil(value(shear, V_D=10_001, F_t=30, P_x=part, P=Fraction(parts[0]))) for part in parts]

@@ -22,6 +22,7 @@ from tests.draws import faults, pair_faults, pairs, soil_logs
 from tests.draws.basin import basin_strata
 from tests.draws.plain_jobs import draw, draw_basin, draw_pairs, draw_site
 from tests.draws.rare import rare_strata
+from tests.draws.roof import roof_strata
 from tests.draws.sample import all_strata, draw_in
 from tests.model import job as jobs, soil
 from tests.writes import log_cases
@@ -196,10 +197,11 @@ def chunks(function, seed, count):
 
 
 def strata(draw_ground=draw_site):
-    """Every stratum of sites, of the Basin or of two pairs, with the jobs drawn for it."""
+    """Every stratum of sites, of the Basin or of two pairs, with the jobs drawn for it; those of the roof force are on each of them."""
+    roof = roof_strata(draw_ground, A_STRATUM)
     if draw_ground is draw_site:
-        return [*((each, A_STRATUM) for each in all_strata()), *rare_strata()]
-    return list((basin_strata if draw_ground is draw_basin else pairs.pair_strata)(A_STRATUM))
+        return [*((each, A_STRATUM) for each in all_strata()), *rare_strata(), *roof]
+    return [*(basin_strata if draw_ground is draw_basin else pairs.pair_strata)(A_STRATUM), *roof]
 
 
 def job_tasks(seed, draw_ground, plain, count):

@@ -15,8 +15,7 @@ NEWTONS = {'base': 1, 'storey': 3}
 # the jobs `heavy` and `tall` of crates/job/proofs/SharpMargin.antt
 SHARP = (
     Inputs(limits.one_pair(50, 30, 100, 45, 144, 134, 3), limits.Frame(1, 115, 102, 150, 100), [20_000] * 50, list(range(1, 51))),
-    Inputs(limits.one_pair(70, 30, 70, 40, 149, 135, 1), limits.Frame(1, 6_246, 244, 125, 199), [12, 1, 1, 1, 2, 1],
-          [207, 630, 1_464, 1_481, 1_657, 2_000]),
+    Inputs(limits.one_pair(80, 30, 80, 50, 126, 196, 1), limits.Frame(1, 3_568, 280, 150, 138), [6, 1], [1_471, 2_000]),
 )
 
 

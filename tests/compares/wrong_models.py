@@ -1,5 +1,5 @@
-"""01's 'Errors that look right', some of the Basin and some of two pairs of near-fault factors, each put into the model: how many of the
-comparisons with the compiled core show it.
+"""01's 'Errors that look right', some of the Basin, some of two pairs of near-fault factors and some of the roof force, each put into the model:
+how many of the comparisons with the compiled core show it.
 
 usage: python3 -m tests.compares.wrong_models [JOBS [SEED]]        after tests/compares/compare.py has built the archive
 """
@@ -15,7 +15,9 @@ from tests.compares import core
 from tests.compares.compare import expected_job, got_job, lengths
 from tests.compares.tally import NEAR_FAULT
 from tests.draws import faults, pair_faults
-from tests.draws.plain_jobs import draw, draw_basin, draw_pairs
+from tests.draws.plain_jobs import draw, draw_basin, draw_pairs, draw_site
+from tests.draws.roof import period_strata
+from tests.draws.sample import draw_in
 from tests.model import basin as basins, limits, response, site as sites, storeys
 
 JOBS, SEED = 10_000, 1
@@ -98,6 +100,31 @@ def places_3_and_4_exchanged(site, judged=limits.site_refusals):
         yield number, {3: 4, 4: 3}.get(place, place) if number == NEAR_FAULT else place
 
 
+def at_every_period(T, V_D):
+    """0.07*T*V_D at every T, as the short English text has it."""
+    return ceil(Fraction(7 * T * V_D, 100_000))
+
+
+def force_at_700(T, V_D, right=storeys.F_t):
+    """0 below 700 ms only."""
+    return at_every_period(T, V_D) if T == 700 else right(T, V_D)
+
+
+def without_quarter(T, V_D):
+    """No upper end."""
+    return 0 if T <= 700 else at_every_period(T, V_D)
+
+
+def quarter_of_the_rest(T, V_D):
+    """A quarter of what is left beside F_t, which is a fifth of V_D."""
+    return 0 if T <= 700 else ceil(min(Fraction(7 * T * V_D, 100_000), Fraction(V_D, 5)))
+
+
+def two_roundings(T, V_D):
+    """The part rounded up to hundredths before it is taken of V_D."""
+    return 0 if T <= 700 else ceil(min(Fraction(ceil(Fraction(7 * T, 1_000)), 100), Fraction(1, 4)) * V_D)
+
+
 ERRORS = {
     'the lower factor used in V*': [(response, 'upper_factor', response.lower_factor)],
     'near-fault factors left in V*': [(sites, 'star', sites.design)],
@@ -123,6 +150,15 @@ PAIR_ERRORS = {
     'N_V M read before N_A M': [(limits, 'ground_of', with_exchanged('NAM', 'NVM'))],
     'N_A M read before N_V': [(limits, 'ground_of', with_exchanged('NAM', 'NV'))],
     'places 3 and 4 of 6 exchanged': [(limits, 'site_refusals', places_3_and_4_exchanged)],
+}
+
+
+ROOF_ERRORS = {
+    'a roof force at every T': [(storeys, 'F_t', at_every_period)],
+    '0 below 700 ms only': [(storeys, 'F_t', force_at_700)],
+    'no quarter': [(storeys, 'F_t', without_quarter)],
+    'the quarter taken of what is left': [(storeys, 'F_t', quarter_of_the_rest)],
+    'two roundings': [(storeys, 'F_t', two_roundings)],
 }
 
 
@@ -166,6 +202,14 @@ def pair_calls(rng, count):
     return mixed_calls(rng, count, draw_pairs, pair_faults.random_call)
 
 
+def roof_calls(rng, count):
+    """Jobs at the ends of the rule of the roof force, sites, the Basin and two pairs by turns."""
+    strata = [(stratum, draw_ground) for draw_ground in (draw_site, draw_basin, draw_pairs) for stratum in period_strata(draw_ground)]
+    for number in range(count):
+        inputs = draw_in(rng, *strata[number % len(strata)])
+        yield (*inputs, lengths(rng, inputs.weights))
+
+
 def unseen(library, calls, where, errors):
     """Print how many calls show each error; how many errors are not seen at all."""
     count, answers = 0, [got_job(library, *call) for call in calls]
@@ -178,11 +222,12 @@ def unseen(library, calls, where, errors):
 
 
 def main(jobs=JOBS, seed=SEED):
-    """Try the errors on sites, those of the Basin and those of two pairs; 1 where one is not seen at all."""
+    """Try the errors on sites, those of the Basin, of two pairs and of the roof force; 1 where one is not seen at all."""
     rng, library = random.Random(seed), core.load()
     count = unseen(library, list(site_calls(rng, jobs)), 'on sites', ERRORS)
     count += unseen(library, list(basin_calls(rng, jobs)), 'in the Basin', BASIN_ERRORS)
     count += unseen(library, list(pair_calls(rng, jobs)), 'with two pairs', PAIR_ERRORS)
+    count += unseen(library, list(roof_calls(rng, jobs)), 'at the ends of the roof force', ROOF_ERRORS)
     return 1 if count else 0
 
 

@@ -89,8 +89,9 @@ def capacity_and_star(ground, R):
 
 
 def roof_part(T):
-    """The part of V_D at the roof by "the same rule", T in ms: none up to 0.7 s; then 0.07 a second, which comes to a quarter at 25/7 s."""
-    return Fraction(7 * min(T, Fraction(25_000, 7)), 100_000) if 10 * T > 7_000 else Fraction(0)
+    """The part of V_D at the roof by "the same rule", T in ms: none up to 0.7 s; above that 0.07 a second, and never more than a quarter."""
+    seconds = Fraction(T, 1000)
+    return Fraction(0) if seconds <= Fraction(7, 10) else min(seconds * 7 / 100, Fraction(1, 4))
 
 
 def chain(job, roots):

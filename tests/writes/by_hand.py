@@ -264,14 +264,31 @@ def response_table(worked):
     return table(('', *(BASIN_COLUMNS if in_basin(worked) else COLUMNS)), rows)
 
 
+def rising_part(worked):
+    """0.07*T of a job whose roof force it makes: T above 700 ms, and the part below a quarter; text and number."""
+    seconds = Fraction(worked.T, 1000)
+    part = Fraction(7, 100) * seconds
+    assert worked.T > 700 and part < Fraction(1, 4)
+    return f'0.07 · {decimal(seconds)}', part
+
+
+def roof_force_lines(worked):
+    """F_t, by its rule."""
+    V_D, T, F_t = worked.V_D, worked.T, worked.F_t
+    if T <= 700:
+        return [f'T = {comma(T)} ms is not above 700 ms: F_t = {same(0, F_t)} N']
+    text, part = rising_part(worked)
+    exact = part * V_D
+    return [f'T = {comma(T)} ms is above 700 ms, and {text} = {decimal(part, 5)} is below 0.25:',
+            f'F_t = {text} · {comma(V_D)} = {decimal(exact)}, up: {same(ceil(exact), F_t)} N']
+
+
 def roof_force(worked):
     """V_D and F_t."""
-    V_D, T, F_t = worked.V_D, worked.T, worked.F_t
-    exact = Fraction(7 * T * V_D, 100_000)
+    V_D, F_t = worked.V_D, worked.F_t
     named = (worked.V, worked.V_M, worked.V_star)
     return code([f'V_D = the largest of {comma(named[0])}, {comma(named[1])} and {comma(named[2])} = {same(max(named), V_D)} N',
-                 f'F_t = 0.07 · {decimal(Fraction(T, 1000))} · {comma(V_D)} = {decimal(exact)}, up: {same(ceil(exact), F_t)} N',
-                 f'V_D − F_t = {comma(V_D - F_t)} N'])
+                 *roof_force_lines(worked), f'V_D − F_t = {comma(V_D - F_t)} N'])
 
 
 def across(others, first, cells_of):
@@ -313,12 +330,12 @@ def shear_rows(worked):
 
 def storey_rows(worked):
     """V_D, F_t, shears, forces and moments of a zone, roof first."""
-    V_D, T, F_t, count = worked.V_D, worked.T, worked.F_t, len(worked.heights)
-    exact = Fraction(7 * T * V_D, 100_000)
+    V_D, F_t, count = worked.V_D, worked.F_t, len(worked.heights)
+    text, part = rising_part(worked)
     named = {'V': worked.V, 'V_M': worked.V_M, 'V*': worked.V_star}
     governs = max(named, key=named.get)
     rows = [('V_D, the largest of the three, N', f'{governs}: **{same(named[governs], V_D)}**'),
-            ('F_t, N', f'0.07 · {decimal(Fraction(T, 1000))} · {comma(V_D)} = {rounded(exact, "up", F_t)}'),
+            ('F_t, N', f'{text} · {comma(V_D)} = {rounded(part * V_D, "up", F_t)}'),
             ('V_D − F_t, N', comma(V_D - F_t))]
     parts = storeys.products_above(worked.weights, worked.heights)
     for place in reversed(range(count)):

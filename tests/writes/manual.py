@@ -13,7 +13,7 @@ from math import ceil
 
 from tests.model import exact, limits, soil, storeys
 from tests.model.sheet import listing
-from tests.writes import by_hand, near_fault
+from tests.writes import by_hand, near_fault, roof
 from tests.writes.by_hand import code, comma, decimal, table
 
 ROOT = pathlib.Path(__file__).resolve().parents[2]
@@ -150,7 +150,7 @@ def written():
     """Each page that is filled, by its name."""
     pages = {'worked.md': by_hand.names(example('office')), 'soft_ground.md': by_hand.names(example('soft_ground')),
              'near_fault.md': near_fault.names(example('near_fault')), 'basin.md': by_hand.names(example('basin')),
-             'rounding.md': rounding_names(), 'soil.md': soil_names()}
+             'roof_force.md': roof.names(example('soft_ground'), example('tower')), 'rounding.md': rounding_names(), 'soil.md': soil_names()}
     assert {path.name for path in PAGES.iterdir()} == pages.keys()
     return {page: filled(page, names) for page, names in pages.items()}
 

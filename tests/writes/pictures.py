@@ -9,7 +9,7 @@ import sys
 from fractions import Fraction
 from xml.sax.saxutils import escape
 
-from tests.model import basin as basins, limits, response, site as sites
+from tests.model import basin as basins, exact, limits, response, site as sites
 from tests.model.job import job
 
 ROOT = pathlib.Path(__file__).resolve().parents[2]
@@ -247,6 +247,29 @@ def storeys():
     return picture.svg()
 
 
+def roof_force():
+    """The roof force as a part of V_D over T, and the line of (21) beside it."""
+    picture = Picture(960, 600, 'The roof force as a part of V_D over the period')
+    axes = Axes(picture, (110, 70, 930, 520), Fraction(65, 10), Fraction(5, 10))
+    axes.frame('period T (s)', 'F_t / V_D', tenths(65, 5), [(Fraction(each, 100), decimal(Fraction(each, 100), 2)) for each in range(0, 51, 5)])
+    longest = 6_328
+    axes.curve([(0, 0), (Fraction(longest, 1000), Fraction(7 * longest, 100_000))], GREY, '2 6', 2)
+    bends = (700, 701, 3_571, 3_572, longest)
+    parts = [(Fraction(T, 1000), exact.roof_part(T)) for T in bends]
+    axes.curve([(0, 0), parts[0]], BLUE, width=4)
+    axes.curve(parts[1:], BLUE, width=4)
+    axes.curve(parts[:2], BLUE, '2 4', 2)
+    for x, y in (parts[0], parts[1], parts[3]):
+        axes.dot(x, y, BLUE)
+    axes.words(*parts[0], 'up to 700 ms: none', right=16, down=-12, colour=BLUE)
+    axes.words(*parts[1], '701 ms: 0.04907', right=-14, down=-16, colour=BLUE, anchor='end')
+    axes.words(Fraction(21, 10), Fraction(147, 1000), '0.07·(T in s)', right=22, down=26, colour=BLUE)
+    axes.words(*parts[3], 'from 3,572 ms on: 1/4', right=10, down=30, colour=BLUE)
+    axes.words(Fraction(5), Fraction(35, 100), '(21) at every T', right=-16, down=-10, colour=GREY, anchor='end')
+    picture.words(110, 36, 'Roof force: none up to 0.7 s, and at most a quarter of V_D', size=19, weight='bold')
+    return picture.svg()
+
+
 def sheet_numbers(path):
     """The numbers of a sheet's site line, of its frame line, and its weights and heights."""
     site, frame, *levels = [tuple(map(int, line.split('\t')[1:])) for line in path.read_text().splitlines()]
@@ -326,7 +349,7 @@ def basin():
 
 
 DRAWN = {'spectrum': spectrum, 'factor': factor, 'modified': modified, 'storeys': storeys, 'classes': classes, 'near_fault': near_fault,
-         'basin': basin}
+         'basin': basin, 'roof_force': roof_force}
 
 
 def wrong():

@@ -2,7 +2,8 @@
 
 usage: python3 -m tests.writes.vectors [SEED [COUNT [BASIN [PAIRS]]]] > crates/vectors/specs/Rows.antt
 
-COUNT jobs are on sites with one pair of near-fault factors for both levels, BASIN in the Basin, PAIRS on sites with a pair for each level.
+COUNT jobs are on sites with one pair of near-fault factors for both levels, BASIN in the Basin, PAIRS on sites with a pair for each level. At each
+end of the rule of the roof force there is one more of each kind of ground.
 """
 
 import random
@@ -11,6 +12,8 @@ from fractions import Fraction
 
 from tests.draws.basin import accepted_basin_jobs
 from tests.draws.pairs import accepted_pair_jobs, plain_strata
+from tests.draws.plain_jobs import draw_basin, draw_pairs, draw_site
+from tests.draws.roof import ENDS, accepted_roof_jobs
 from tests.draws.sample import accepted_jobs
 from tests.draws.strata import about_levels
 from tests.model import exact, limits
@@ -21,13 +24,15 @@ from tests.model.sheet import first_line
 SEED, COUNT, BASIN, PAIRS = 2005, 520, 100, len(plain_strata())     # with two pairs a job of each stratum
 FINER = 10  # every so many rows the unit is ten-millionths
 FEW_LEVELS = 4
+KINDS_OF_GROUND = (draw_site, draw_basin, draw_pairs)
 CLASSES = {1: 'Hard', 2: 'Normal', 3: 'Soft'}
 ZONES = {1: 'One', 2: 'Two', 3: 'Three', 4: 'Four'}
 KINDS = {1: 'Steel', 2: 'Concrete', 3: 'Braced', 4: 'Other'}
 
-HEAD = """-- {count} jobs on sites, {basin} in the Basin and {pairs} on sites with two pairs of near-fault factors, with what the model of
--- tests/ makes of them: data. `python3 -m tests.writes.vectors {seed} {count} {basin} {pairs}` writes it. A line a row: the unit; the site
--- or the zone; the frame; weights; heights; three fractions for the roots; the printed stages; the exact figures.
+HEAD = """-- {count} jobs on sites, {basin} in the Basin, {pairs} on sites with two pairs of near-fault factors and {roof} at the ends of the rule of
+-- the roof force, with what the model of tests/ makes of them: data. `python3 -m tests.writes.vectors {seed} {count} {basin} {pairs}` writes
+-- it. A line a row: the unit; the site or the zone; the frame; weights; heights; three fractions for the roots; the printed stages; the exact
+-- figures.
 use mathlib.Core.List.{{List, [], _∷_}}
 use Rattle.whole.specs.Fraction.{{over}}
 use Rattle.limits.specs.declared.class.Class.the-variants.{{Hard, Normal, Soft}}
@@ -96,10 +101,12 @@ def worked(seed, jobs):
 
 
 def all_worked(seed=SEED, count=COUNT, basin=BASIN, pairs=PAIRS):
-    """Those on sites, those in the Basin, those with two pairs."""
+    """Those on sites, those in the Basin, those with two pairs; of each kind of ground those at the ends of the rule of the roof force."""
     yield from worked(seed, accepted_jobs(seed, count))
     yield from worked(seed, accepted_basin_jobs(seed, basin))
     yield from worked(seed, accepted_pair_jobs(seed, pairs))
+    for draw_ground in KINDS_OF_GROUND:
+        yield from worked(seed, accepted_roof_jobs(seed, draw_ground))
 
 
 def row(result, roots):
@@ -118,7 +125,7 @@ def row(result, roots):
 
 def main(seed=SEED, count=COUNT, basin=BASIN, pairs=PAIRS):
     """Write the file."""
-    print(HEAD.format(seed=seed, count=count, basin=basin, pairs=pairs))
+    print(HEAD.format(seed=seed, count=count, basin=basin, pairs=pairs, roof=len(KINDS_OF_GROUND) * len(ENDS)))
     for each in all_worked(seed, count, basin, pairs):
         print('    ' + row(*each) + ' ∷')
     print('    []')

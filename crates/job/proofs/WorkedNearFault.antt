@@ -42,12 +42,12 @@ resulted v vm star vd fs us os =
       overturnings = os;
     })
 
-pub worked-near-fault : (nearFault 112 123 118 136 ≡ resulted 2_116_872 2_177_765 1_904_762 2_177_765 (350_257 ∷ 700_514 ∷ 1_126_994 ∷ [])
-    (2_177_765 ∷ 1_827_508 ∷ 1_126_994 ∷ []) (513_226_700 ∷ 295_450_200 ∷ 112_699_400 ∷ []))
-    × (nearFault 118 136 118 136 ≡ resulted 2_228_843 2_177_765 1_904_762 2_228_843 (358_472 ∷ 716_944 ∷ 1_153_427 ∷ [])
-    (2_228_843 ∷ 1_870_371 ∷ 1_153_427 ∷ []) (525_264_100 ∷ 302_379_800 ∷ 115_342_700 ∷ []))
-    × (nearFault 112 123 112 123 ≡ resulted 2_116_872 2_001_993 1_904_762 2_116_872 (340_463 ∷ 680_927 ∷ 1_095_482 ∷ [])
-    (2_116_872 ∷ 1_776_409 ∷ 1_095_482 ∷ []) (498_876_300 ∷ 287_189_100 ∷ 109_548_200 ∷ []))
+pub worked-near-fault : (nearFault 112 123 118 136 ≡ resulted 2_116_872 2_177_765 1_904_762 2_177_765 (362_960 ∷ 725_922 ∷ 1_088_883 ∷ [])
+    (2_177_765 ∷ 1_814_805 ∷ 1_088_883 ∷ []) (508_145_300 ∷ 290_368_800 ∷ 108_888_300 ∷ []))
+    × (nearFault 118 136 118 136 ≡ resulted 2_228_843 2_177_765 1_904_762 2_228_843 (371_473 ∷ 742_948 ∷ 1_114_422 ∷ [])
+    (2_228_843 ∷ 1_857_370 ∷ 1_114_422 ∷ []) (520_063_500 ∷ 297_179_200 ∷ 111_442_200 ∷ []))
+    × (nearFault 112 123 112 123 ≡ resulted 2_116_872 2_001_993 1_904_762 2_116_872 (352_812 ∷ 705_624 ∷ 1_058_436 ∷ [])
+    (2_116_872 ∷ 1_764_060 ∷ 1_058_436 ∷ []) (493_936_800 ∷ 282_249_600 ∷ 105_843_600 ∷ []))
 unfolding jobOf judgedJob judgedLevels weighed raised within inRange among listed judgedSite judgedMapped judgedNearFault
     judgedClass judgedFrame judgedKind judgedPeriod cells sum between lowerRoot upperRoot up down largest smallest bitsFrom factor
     lowerFactor upperFactor approximate inUse bent ratio modified blended exactSpectrum spectrum newtons shear star base figuresAt

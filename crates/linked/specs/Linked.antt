@@ -56,10 +56,10 @@ pub record SheetReplies (s old : List ℕ) (n : ℕ) (held r : List ℕ) : Type 
   pub listed : held ≡ laid (sheetListing s) old
 
 abbrev pub version : ℕ
-version = 2_000_000
+version = 2_001_000
 
 abbrev pub edition : ℕ
 edition = 2_005
 
 abbrev pub source : ℕ
-source = 3
+source = 4

@@ -85,9 +85,9 @@ unfolding resultsListing roofFirst laidOut fieldsOf fieldOf decimal digitsOf
 office-listed = refl
 
 pub near-fault-listed : resultsListing (record { v = 2_116_872; vm = 2_177_765; star = 1_904_762; vd = 2_177_765; t = 500 })
-    (350_257 ∷ 700_514 ∷ 1_126_994 ∷ []) (2_177_765 ∷ 1_827_508 ∷ 1_126_994 ∷ []) (513_226_700 ∷ 295_450_200 ∷ 112_699_400 ∷ [])
-    ≡ bytes "base\t2116872\t2177765\t1904762\t2177765\t500\n" ++ (bytes "level\t3\t1126994\t1126994\t112699400\n"
-    ++ (bytes "level\t2\t700514\t1827508\t295450200\n" ++ bytes "level\t1\t350257\t2177765\t513226700\n"))
+    (362_960 ∷ 725_922 ∷ 1_088_883 ∷ []) (2_177_765 ∷ 1_814_805 ∷ 1_088_883 ∷ []) (508_145_300 ∷ 290_368_800 ∷ 108_888_300 ∷ [])
+    ≡ bytes "base\t2116872\t2177765\t1904762\t2177765\t500\n" ++ (bytes "level\t3\t1088883\t1088883\t108888300\n"
+    ++ (bytes "level\t2\t725922\t1814805\t290368800\n" ++ bytes "level\t1\t362960\t2177765\t508145300\n"))
 unfolding resultsListing roofFirst laidOut fieldsOf fieldOf decimal digitsOf
 near-fault-listed = refl
 
@@ -112,8 +112,8 @@ office-answered =
 
 -- and near a fault, with a pair for each level, this one
 pub near-fault-answered : sheetListing nearFault ≡ bytes "base\t2116872\t2177765\t1904762\t2177765\t500\n"
-    ++ (bytes "level\t3\t1126994\t1126994\t112699400\n"
-    ++ (bytes "level\t2\t700514\t1827508\t295450200\n" ++ bytes "level\t1\t350257\t2177765\t513226700\n"))
+    ++ (bytes "level\t3\t1088883\t1088883\t108888300\n"
+    ++ (bytes "level\t2\t725922\t1814805\t290368800\n" ++ bytes "level\t1\t362960\t2177765\t508145300\n"))
 unfolding sheetListing listing
 near-fault-answered =
     ap (λ (o : Outcome Sheet). listing (o >>= jobOfSheet)) near-fault-read ∙ ap listing (worked-near-fault .0) ∙ near-fault-listed

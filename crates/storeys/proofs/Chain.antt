@@ -14,7 +14,7 @@ use Rattle.storeys.proofs.Sums.{sum-most, sum-positive}
 use Rattle.storeys.proofs.Telescope.{forces-sum}
 
 pub load-of : (T v : ℕ) → T ≤ 9_999 → v ≤ 1_400_000_000 → Load T v
-load-of T v t s = record { period = t; part = roof-at-most-one T; shear = s }
+load-of T v t s = record { part = roof-at-most-one T; shear = s }
 
 pub paired-of : (ws hs : List ℕ) → length ws ≡ length hs → length ws ≤ 50
     → ((x : ℕ) → x < length ws → (getD ws x 0 ≤ 20_000) × (getD hs x 0 ≤ 2_000)) → PairedLevels ws hs

@@ -1,6 +1,6 @@
 -- What the functions of this crate ask of their callers: T, V and the levels in the ranges of document 01, as far as 64 bits
 -- need them.
---   Load T v              T of at most 9,999 ms, V of at most 1,400,000,000 N, and an F_t that is a part of V
+--   Load T v              V of at most 1,400,000,000 N, and an F_t that is a part of V
 --   PairedLevels ws hs    as many heights as weights; 50 levels of at most 20,000 kN and 2,000 dm make P at most 2,000,000,000
 --   Falling us            no shear is above the one below it: what `shears-fall` (proofs/Telescope.antt) says of the shears
 --   Rising hs             no height is below the one before it
@@ -14,7 +14,6 @@ use Rattle.whole.specs.Cells.{sum}
 use Rattle.storeys.specs.Storeys.{RoofAtMostOne, weightHeight}
 
 pub record Load (T v : ℕ) : Type 0 where
-  pub period : T ≤ 9_999
   pub part : RoofAtMostOne T
   pub shear : v ≤ 1_400_000_000
 

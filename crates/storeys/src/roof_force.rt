@@ -1,7 +1,6 @@
 // F_t, the part of the base shear at the roof.
 use whole::quotients::up;
 ghost use mathlib.Core.Path.{_≡_};
-ghost use Prim.Native.Nat.{_≤_};
 ghost use Rattle.storeys.specs.Reach.{Load};
 ghost use Rattle.storeys.specs.Storeys.{roofPart, roofForce};
 
@@ -15,17 +14,16 @@ const WHOLE: u64 = 100_000;
 
 const QUARTER: u64 = 25_000;
 
-// The part of V at the roof, in 100,000: none up to 700 ms, above that the smaller of 0.07 (T in s) and a quarter.
+// The part of V at the roof, in 100,000: none up to 700 ms, above that the smaller of 0.07 (T in s) and a quarter. T is compared by a
+// quotient, so that no product of it can wrap.
 pub fn roof_part(t: u64) -> u64
-    requires { ⌜ t ≤ 9_999 ⌝ }
     ensures { λ r. ⌜ r ≡ roofPart t .num ⌝ }
 {
     if t <= NONE_UP_TO {
         return 0;
     }
-    let rising = PART * t;
-    if rising <= QUARTER {
-        return rising;
+    if t <= QUARTER / PART {
+        return PART * t;
     }
     QUARTER
 }

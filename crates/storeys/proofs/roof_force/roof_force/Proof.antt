@@ -9,7 +9,7 @@ use Rattle.storeys.proofs.roof_force.roof_force.Statement.{statement}
 use Rattle.storeys.proofs.roof_force.roof_force.Tie as tie
 
 roof-part-requires : tie.Need-roof-part-requires
-roof-part-requires c κs = c .pre .period
+roof-part-requires c κs = search needs
 
 mul-up : tie.Need-mul-up
 mul-up c =

@@ -9,8 +9,8 @@ use Rattle.storeys.proofs.roof_force.roof_part.Tie as tie
 returns : tie.Need-returns
 returns c = sym (part-none (c .before .args .t) (omega arith))
 
-mul-rising : tie.Need-mul-rising
-mul-rising c = search needs
+mul-result : tie.Need-mul-result
+mul-result c = search needs
 
 returns-2 : tie.Need-returns-2
 returns-2 c = sym (part-rising (c .before .before .args .t) (omega arith) (omega arith))
@@ -19,4 +19,4 @@ returns-3 : tie.Need-returns-3
 returns-3 c = sym (part-quarter (c .before .before .args .t) (omega arith))
 
 pub roof-part-spec : {M : Type 1} → statement M
-roof-part-spec = tie.close (tie.spec returns mul-rising returns-2 returns-3)
+roof-part-spec = tie.close (tie.spec returns mul-result returns-2 returns-3)

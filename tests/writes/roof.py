@@ -1,0 +1,124 @@
+"""The page on the roof force: the rule, a low frame and a tall one by the rule and by the short text of (21), and the step at 700 ms.
+
+What the page says in words is asserted here of the model.
+"""
+
+from fractions import Fraction
+from math import ceil
+
+from tests.model import limits, response, storeys
+from tests.model.job import job
+from tests.writes import by_hand
+from tests.writes.by_hand import code, comma, decimal, table
+
+NONE_UP_TO, QUARTER_FROM, LONGEST = 700, 3_572, 6_328
+RISING, QUARTER = Fraction(7, 100), Fraction(1, 4)
+CUT_TO_700 = limits.Frame(4, 0, 480, 125, 150), [1_000, 1_000], [169, 338]       # its approximate period is above 700 ms before it is rounded down
+
+
+def by_the_text(worked):
+    """Forces, shears and moments with the F_t of the short text, 0.07*T*V_D at every T, and that F_t."""
+    top = ceil(RISING * Fraction(worked.T, 1000) * worked.V_D)
+    shears = storeys.shears(worked.V_D, top, worked.weights, worked.heights)
+    forces = storeys.forces(shears)
+    return top, forces, shears, storeys.overturning(forces, worked.heights)
+
+
+def rule_table():
+    """The pieces of the rule."""
+    assert [T for T in range(1, LONGEST + 1) if RISING * Fraction(T, 1000) > QUARTER][0] == QUARTER_FROM
+    for V_D in (1, 100_000, 1_071_429):
+        for T in range(1, LONGEST + 1):
+            piece = 0 if T <= NONE_UP_TO else RISING * Fraction(T, 1000) * V_D if T < QUARTER_FROM else Fraction(V_D, 4)
+            assert storeys.F_t(T, V_D) == ceil(piece), (T, V_D)
+    return table(('T, ms', 'F_t'), (
+        (f'up to {comma(NONE_UP_TO)}', '0'),
+        (f'{comma(NONE_UP_TO + 1)} to {comma(QUARTER_FROM - 1)}', '0.07·(T in s)·V_D, rounded up'),
+        (f'from {comma(QUARTER_FROM)} on; the longest T of a sheet is {comma(LONGEST)}', 'V_D/4, rounded up')))
+
+
+def begins():
+    """At which T the quarter begins to count."""
+    below, above = (RISING * Fraction(T, 1000) for T in (QUARTER_FROM - 1, QUARTER_FROM))
+    assert below < QUARTER < above
+    return code([f'0.25 / 0.07 = {decimal(QUARTER / RISING, 6)} s',
+                 f'0.07 · {decimal(Fraction(QUARTER_FROM - 1, 1000))} = {decimal(below, 5)}, below 0.25',
+                 f'0.07 · {decimal(Fraction(QUARTER_FROM, 1000))} = {decimal(above, 5)}, above 0.25'])
+
+
+def both_rules(worked, places):
+    """Force, shear and moment of some levels, roof first, by the short text and by the rule."""
+    _, forces, shears, moments = by_the_text(worked)
+    rows = []
+    for place in places:
+        pairs = ((forces, worked.forces), (shears, worked.shears), (moments, worked.moments))
+        rows.append((str(place + 1), *(comma(column[place]) for pair in pairs for column in pair)))
+    return table(('level', 'force before, N', 'force now, N', 'shear before, N', 'shear now, N', 'overturning before, N·dm', 'overturning now, N·dm'),
+                 rows)
+
+
+def percent(part):
+    """A part in percent, to the nearest tenth."""
+    tenths = round(part * 1000)
+    return f'{tenths // 10}.{tenths % 10} %'
+
+
+def check_moves(worked):
+    """What the page says of a smaller F_t: no shear is larger, the lowest is V_D, the roof has less, the others no less but for a newton."""
+    top, forces, shears, moments = by_the_text(worked)
+    assert top > worked.F_t and worked.shears[0] == shears[0] == worked.V_D
+    assert all(now < before for now, before in zip(worked.shears[1:], shears[1:])) and worked.forces[-1] < forces[-1]
+    assert all(now > before for now, before in zip(worked.forces[:-1], forces[:-1]))
+    assert all(now < before for now, before in zip(worked.moments, moments))
+
+
+def low(worked):
+    """The low frame: by hand, and beside the short text."""
+    check_moves(worked)
+    assert worked.F_t == 0 and worked.T <= NONE_UP_TO
+    top, forces, _, moments = by_the_text(worked)
+    exact = RISING * Fraction(worked.T, 1000) * worked.V_D
+    return {'low_T': comma(worked.T), 'low_V_D': comma(worked.V_D), 'low_count': str(len(worked.heights)), 'low_h': decimal(Fraction(worked.heights[-1], 10)),
+            'low_steps': code([f'before: F_t = 0.07 · {decimal(Fraction(worked.T, 1000))} · {comma(worked.V_D)} = {decimal(exact)}, up: {comma(top)} N',
+                               f'now:    T = {comma(worked.T)} ms is not above {NONE_UP_TO} ms: F_t = 0 N']),
+            'low_table': both_rules(worked, reversed(range(len(worked.heights)))),
+            'low_roof_less': comma(forces[-1] - worked.forces[-1]), 'low_roof_percent': percent(1 - Fraction(worked.forces[-1], forces[-1])),
+            'low_moment_percent': percent(1 - Fraction(worked.moments[0], moments[0]))}
+
+
+def tall(worked):
+    """The tower, whose T is beyond the quarter."""
+    check_moves(worked)
+    top, forces, _, moments = by_the_text(worked)
+    T_s, quarter = Fraction(worked.T, 1000), Fraction(worked.V_D, 4)
+    assert worked.T >= QUARTER_FROM and worked.F_t == ceil(quarter)
+    exact, last = RISING * T_s * worked.V_D, len(worked.heights) - 1
+    return {'tall_T': comma(worked.T), 'tall_V_D': comma(worked.V_D), 'tall_count': str(last + 1),
+            'tall_h': decimal(Fraction(worked.heights[-1], 10)),
+            'tall_steps': code([f'before: F_t = 0.07 · {decimal(T_s)} · {comma(worked.V_D)} = {decimal(exact)}, up: {comma(top)} N',
+                                f'now:    0.07 · {decimal(T_s)} = {decimal(RISING * T_s)} is above 0.25: '
+                                f'F_t = {comma(worked.V_D)} / 4 = {decimal(quarter)}, up: {comma(worked.F_t)} N']),
+            'tall_table': both_rules(worked, (last, last // 2, 0)),
+            'tall_roof_percent': percent(1 - Fraction(worked.forces[-1], forces[-1])),
+            'tall_moment_percent': percent(1 - Fraction(worked.moments[0], moments[0]))}
+
+
+def step(site):
+    """What a millisecond does at 700 ms, and a frame whose approximate period is cut to it."""
+    frame, weights, heights = CUT_TO_700
+    cut, longer = job(site, frame, weights, heights), job(site, frame._replace(calculated_period=NONE_UP_TO + 1), weights, heights)
+    power = Fraction(response.PERIOD_C[frame.kind]**4 * heights[-1]**3, 1000)
+    unrounded = next(t for t in range(7_000_000, 7_010_001) if Fraction(t + 1, 10_000)**4 > power)
+    assert cut.T == NONE_UP_TO and cut.F_t == 0 and longer.T == NONE_UP_TO + 1 and unrounded > 7_000_000
+    return {'step_percent': decimal(100 * RISING * Fraction(NONE_UP_TO, 1000)), 'step_kind': str(frame.kind), 'step_h': decimal(Fraction(heights[-1], 10)),
+            'step_t': decimal(Fraction(unrounded, 10_000), 2), 'step_next': comma(NONE_UP_TO + 1),
+            'step_weights': ' and '.join(map(comma, weights)), 'step_heights': ' and '.join(decimal(Fraction(each, 10)) for each in heights),
+            'step_longer': comma(longer.F_t), 'step_V_D': comma(longer.V_D)}
+
+
+def names(low_data, tall_data):
+    """What the page may name."""
+    low_frame, tower = by_hand.read(low_data), by_hand.read(tall_data)
+    return {'rule_table': rule_table(), 'begins': begins(), **low(low_frame), **tall(tower), **step(low_frame.ground),
+            'none_up_to': comma(NONE_UP_TO), 'rising_to': comma(QUARTER_FROM - 1), 'quarter_from': comma(QUARTER_FROM),
+            'low_sheet': code(low_data.decode().splitlines())}
