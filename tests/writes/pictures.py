@@ -261,8 +261,8 @@ def roof_force():
     axes.curve(parts[:2], BLUE, '2 4', 2)
     for x, y in (parts[0], parts[1], parts[3]):
         axes.dot(x, y, BLUE)
-    axes.words(*parts[0], 'up to 700 ms: none', right=16, down=-12, colour=BLUE)
-    axes.words(*parts[1], '701 ms: 0.04907', right=-14, down=-16, colour=BLUE, anchor='end')
+    axes.words(*parts[0], 'up to 700 ms: none', right=24, down=-10, colour=BLUE)
+    axes.words(*parts[1], '701 ms: 0.04907', right=24, down=10, colour=BLUE)
     axes.words(Fraction(21, 10), Fraction(147, 1000), '0.07·(T in s)', right=22, down=26, colour=BLUE)
     axes.words(*parts[3], 'from 3,572 ms on: 1/4', right=10, down=30, colour=BLUE)
     axes.words(Fraction(5), Fraction(35, 100), '(21) at every T', right=-16, down=-10, colour=GREY, anchor='end')

@@ -1,6 +1,6 @@
 -- F_t is not above V, whatever part of V it is, as long as that part is at most 1; and the part is a quarter at most, at every T.
 -- Assumes nothing.
-use Prim.Native.Nat.{ℕ, _*_, _≤_, _<_, min}
+use Prim.Native.Nat.{ℕ, _*_, _≤_, _<_}
 use native.Mathlib.Nat.{mul-le-mul-right, min-le-right}
 use native.Mathlib.Omega.{arith}
 use Rattle.whole.specs.declared.Fraction.{Fraction}
@@ -18,7 +18,7 @@ roof-most T v h = part-most (roofPart T) v (omega arith) h
 
 -- ---- the part at every T
 in-whole : (T : ℕ) → roofPart T .num ≤ 25_000
-in-whole T = by-leb (λ (n : ℕ). n ≤ 25_000) T 700 0 (min (7 * T) 25_000) (λ _. omega arith) (λ _. min-le-right (7 * T) 25_000)
+in-whole T = by-leb (λ (n : ℕ). n ≤ 25_000) T 700 _ _ (λ _. omega arith) (λ _. min-le-right _ 25_000)
 
 pub quarter-at-most : (T : ℕ) → AtMost (roofPart T) (over 1 4)
 quarter-at-most T = omega (arith, in-whole T)

@@ -18,15 +18,15 @@ rising T = times (over 7 100) (over T 1000)
 
 -- ---- the part, in 100,000
 pub part-none : (T : ℕ) → T ≤ 700 → roofPart T .num ≡ 0
-part-none T h = by-leb (λ (n : ℕ). n ≡ 0) T 700 0 (min (7 * T) 25_000) (λ _. refl) (λ k. absurd (let b : ⊥ = omega arith in b))
+part-none T h = by-leb (λ (n : ℕ). n ≡ 0) T 700 _ _ (λ _. refl) (λ k. absurd (let b : ⊥ = omega arith in b))
 
 pub part-rising : (T : ℕ) → 700 < T → 7 * T ≤ 25_000 → roofPart T .num ≡ 7 * T
 part-rising T h q =
-    by-leb (λ (n : ℕ). n ≡ 7 * T) T 700 0 (min (7 * T) 25_000) (λ k. absurd (let b : ⊥ = omega arith in b)) (λ _. min-eq-left q)
+    by-leb (λ (n : ℕ). n ≡ 7 * T) T 700 _ _ (λ k. absurd (let b : ⊥ = omega arith in b)) (λ _. min-eq-left q)
 
 pub part-quarter : (T : ℕ) → 25_000 ≤ 7 * T → roofPart T .num ≡ 25_000
 part-quarter T q =
-    by-leb (λ (n : ℕ). n ≡ 25_000) T 700 0 (min (7 * T) 25_000) (λ k. absurd (let b : ⊥ = omega arith in b)) (λ _. min-eq-right q)
+    by-leb (λ (n : ℕ). n ≡ 25_000) T 700 _ _ (λ k. absurd (let b : ⊥ = omega arith in b)) (λ _. min-eq-right q)
 
 -- ---- 'F_t becomes 0 up to 700 ms, and above that the smaller of 0.07·T·V_D and V_D/4': of the part, which the exact figure takes too
 pub none-up-to-700 : (T : ℕ) → T ≤ 700 → Same (roofPart T) (over 0 1)
