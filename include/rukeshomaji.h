@@ -129,8 +129,8 @@ typedef struct {
  * Refused    1 to 12
  * Written    figures: all fields. On success the first cells of the buffers, one a level, lowest first: forces in N, which add up to V_D;
  *            shears in N, each under its level; overturnings in N*dm, about the bottom of its storey. Other cells hold what they held
- * Reference  document 000 (1), (4) to (9), (12) to (14), (16) to (21), (23) without its factor. docs/DIFFERENCES.md says where the rules
- *            depart from it
+ * Reference  document 000 (1), (4) to (9), (12) to (14), (16) to (21), (23) without its factor. F_t of (21) is 0 for T up to 700 ms and at
+ *            most V_D/4. docs/DIFFERENCES.md says where else the rules depart from it
  */
 uint64_t rukeshomaji_job(const RukeshomajiSite *site, const RukeshomajiFrame *frame, const uint64_t *weights, uint64_t weight_count,
                          const uint64_t *heights, uint64_t height_count, uint64_t *forces, uint64_t force_cells, uint64_t *shears,
@@ -156,7 +156,7 @@ uint64_t rukeshomaji_figures(const RukeshomajiSite *site, const RukeshomajiFrame
  * Refused    1 to 4, 18, 8 to 12
  * Written    as of rukeshomaji_job
  * Reference  document 000, 2.1 after (4) for the period, (6) to (8), (10), (11), (15) to (21), Table 4, (23) without its factor.
- *            docs/DIFFERENCES.md says where the rules depart from it
+ *            F_t of (21) as of rukeshomaji_job. docs/DIFFERENCES.md says where else the rules depart from it
  */
 uint64_t rukeshomaji_basin_job(uint64_t zone, const RukeshomajiFrame *frame, const uint64_t *weights, uint64_t weight_count,
                                const uint64_t *heights, uint64_t height_count, uint64_t *forces, uint64_t force_cells, uint64_t *shears,

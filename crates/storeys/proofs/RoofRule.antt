@@ -2,16 +2,18 @@
 --   rising T    0.07·(T in s)
 -- Assumes nothing.
 use mathlib.Core.Path.{_≡_, refl, sym, ap, _∙_}
-use Prim.Native.Nat.{ℕ, _*_, _≤_, _<_, min}
+use mathlib.Core.List.{List}
+use Prim.Native.Nat.{ℕ, _+_, _*_, _-_, _≤_, _<_, min}
 use native.Mathlib.Decide.{decLe}
 use native.Mathlib.Nat.{min-eq-left, min-eq-right, mul-le-mul-right}
 use native.Mathlib.Omega.{arith}
+use lib.ListN.{drop}
 use Rattle.whole.specs.declared.Fraction.{Fraction}
 use Rattle.whole.specs.Fraction.{over, times, Same, AtMost, Less}
 use Rattle.whole.specs.Rounding.{up}
 use Rattle.whole.proofs.Choice.{by-leb}
 use Rattle.whole.proofs.Rounding.{up-law, up-mono, up-scale}
-use Rattle.storeys.specs.Storeys.{roofPart, roofForce}
+use Rattle.storeys.specs.Storeys.{roofPart, roofForce, weightHeight, shearUnder}
 
 abbrev pub rising : ℕ → Fraction
 rising T = times (over 7 100) (over T 1000)
@@ -57,6 +59,16 @@ rising-roof-force T v h k = ap (λ (n : ℕ). up (n * v) 100_000) (part-rising T
 pub quarter-roof-force : (T v : ℕ) → 3_572 ≤ T → roofForce T v ≡ up v 4
 quarter-roof-force T v h =
     ap (λ (n : ℕ). up (n * v) 100_000) (part-quarter T (omega arith)) ∙ up-scale 25_000 v 4 (omega arith) (omega arith)
+
+-- so up to 700 ms a shear is V·P_x/P, up
+pub shear-up-to-700 : (T v : ℕ) (ws hs : List ℕ) (x : ℕ) → T ≤ 700
+    → shearUnder T v ws hs x ≡ up (v * weightHeight (drop x ws) (drop x hs)) (weightHeight ws hs)
+shear-up-to-700 T v ws hs x h =
+    let Px = weightHeight (drop x ws) (drop x hs) in
+    let P = weightHeight ws hs in
+    let none = no-roof-force T v h in
+    let all : v - roofForce T v ≡ v = omega (arith, none) in
+    omega (arith, none, ap (λ (rest : ℕ). up (rest * Px) P) all)
 
 -- to round both and then take the smaller gives the same number
 pub smaller-of-both : (T v : ℕ) → 700 < T → roofForce T v ≡ min (up (7 * T * v) 100_000) (up v 4)
