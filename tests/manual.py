@@ -37,8 +37,8 @@ OWN = {
     'near_fault.md': '0.01 0.2 0.4 0.6 0.75 1 1.0 1.00 1.4 2 2.2 2.4 2.5 3 4 4.2 5 6 7 9 10 13 14 16 17 19 25 50 75 100 300 400 600 700 1000 '
                      '1400 4200 10,000',
     'basin.md': '0.01 0.2 0.4 0.6 0.8 1 1.0 1.4 1.5 2 2.0 2.3 2.4 2.5 3 3.5 4 4.2 6 7 10 11 15 16 17 18 19 50 100 200 1000 1400 2005 3500',
-    'roof_force.md': '0 0.07 0.7 2.0.0 21 700',
-    'rounding.md': '1 3 1.4 1.5 4.2 10 15 700 701',
+    'roof_force.md': '0 0.07 0.7 2 2.0.0 3.1 10 14 21 50 700',
+    'rounding.md': '0.07 1 3 1.4 1.5 4.2 10 15 21 700 701 3,571',
     'soil.md': '0.1 1 2 3 2.1 10 13 15 18 27 30 180 270 800 1000',
 }
 
@@ -261,7 +261,7 @@ def sides():
 def value(formula, **names):
     """What a formula of the rules comes to, in exact fractions."""
     for sign, meant in (('·', '*'), ('−', '-'), ('(T in s)', 'T_s'), ('alpha-y', 'alpha_y'), ('⁴', '**4'), ('³', '**3'), ('≤', '<='),
-                        ('≥', '>=')):
+                        ('≥', '>='), (' ms', '')):
         formula = formula.replace(sign, meant)
     exact = re.sub(r'(?<![\w.])\d+(?:\.\d+)?', lambda number: f"Fraction('{number[0]}')", formula)
     return eval(exact, {'Fraction': Fraction}, names)       # of our own page

@@ -91,15 +91,15 @@ def star_at_800000():
                    lambda job: ratio_of('star', job.ground, job.T, job.frame.R) == 800_000)
 
 
-def light():
-    """A few kN up to 2,000 dm, at the longest periods: only newtons count, and F_t is large."""
+def light(name='a long period', periods=range(5_000, 6_329)):
+    """A few kN up to 2,000 dm, at the longest periods or at others: only newtons count, and F_t is large."""
     def reach(inputs):
         """At most eight levels of at most 12 kN, the last at the top."""
         weights, heights = [1 + weight % 12 for weight in inputs.weights[:8]], inputs.heights[:8]
-        frame = inputs.frame._replace(kind=1, calculated_period=5_000 + inputs.frame.calculated_period % 1_329)
+        frame = inputs.frame._replace(kind=1, calculated_period=periods[inputs.frame.calculated_period % len(periods)])
         return Inputs(inputs.ground, frame, weights, [*heights[:-1], 2_000])
 
-    return Stratum('light, tall, a long period', reach, lambda job: job.W <= 96 and job.T >= 5_000)
+    return Stratum(f'light, tall, {name}', reach, lambda job: job.W <= 96 and job.T in periods)
 
 
 def rare_strata():

@@ -268,18 +268,19 @@ def rising_part(worked):
     """0.07*T of a job whose roof force it makes: T above 700 ms, and the part below a quarter; text and number."""
     seconds = Fraction(worked.T, 1000)
     part = Fraction(7, 100) * seconds
-    assert worked.T > 700 and part < Fraction(1, 4)
+    assert worked.T > storeys.NO_ROOF_FORCE and part < Fraction(1, 4)
     return f'0.07 · {decimal(seconds)}', part
 
 
 def roof_force_lines(worked):
     """F_t, by its rule."""
     V_D, T, F_t = worked.V_D, worked.T, worked.F_t
-    if T <= 700:
-        return [f'T = {comma(T)} ms is not above 700 ms: F_t = {same(0, F_t)} N']
+    none = storeys.NO_ROOF_FORCE
+    if T <= none:
+        return [f'T = {comma(T)} ms is not above {none} ms: F_t = {same(0, F_t)} N']
     text, part = rising_part(worked)
     exact = part * V_D
-    return [f'T = {comma(T)} ms is above 700 ms, and {text} = {decimal(part, 5)} is below 0.25:',
+    return [f'T = {comma(T)} ms is above {none} ms, and {text} = {decimal(part, 5)} is below 0.25:',
             f'F_t = {text} · {comma(V_D)} = {decimal(exact)}, up: {same(ceil(exact), F_t)} N']
 
 

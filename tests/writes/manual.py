@@ -150,7 +150,7 @@ def written():
     """Each page that is filled, by its name."""
     pages = {'worked.md': by_hand.names(example('office')), 'soft_ground.md': by_hand.names(example('soft_ground')),
              'near_fault.md': near_fault.names(example('near_fault')), 'basin.md': by_hand.names(example('basin')),
-             'roof_force.md': roof.names(example('soft_ground'), example('tower')), 'rounding.md': rounding_names(), 'soil.md': soil_names()}
+             'roof_force.md': roof.names(*map(example, ('office', 'soft_ground', 'tower'))), 'rounding.md': rounding_names(), 'soil.md': soil_names()}
     assert {path.name for path in PAGES.iterdir()} == pages.keys()
     return {page: filled(page, names) for page, names in pages.items()}
 

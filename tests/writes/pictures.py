@@ -50,6 +50,10 @@ class Picture:
         """A filled circle."""
         self.parts.append(f'<circle cx="{at(x)}" cy="{at(y)}" r="5" fill="{colour}"/>')
 
+    def ring(self, x, y, colour):
+        """An open circle."""
+        self.parts.append(f'<circle cx="{at(x)}" cy="{at(y)}" r="5" fill="#ffffff" stroke="{colour}" stroke-width="2"/>')
+
     def bar(self, x, y, width, height, colour, opacity=''):
         """A filled rectangle."""
         seen = f' fill-opacity="{opacity}"' if opacity else ''
@@ -259,8 +263,9 @@ def roof_force():
     axes.curve([(0, 0), parts[0]], BLUE, width=4)
     axes.curve(parts[1:], BLUE, width=4)
     axes.curve(parts[:2], BLUE, '2 4', 2)
-    for x, y in (parts[0], parts[1], parts[3]):
+    for x, y in (parts[0], parts[3]):
         axes.dot(x, y, BLUE)
+    picture.ring(*axes.point(*parts[1]), BLUE)
     axes.words(*parts[0], 'up to 700 ms: none', right=24, down=-10, colour=BLUE)
     axes.words(*parts[1], '701 ms: 0.04907', right=24, down=10, colour=BLUE)
     axes.words(Fraction(21, 10), Fraction(147, 1000), '0.07·(T in s)', right=22, down=26, colour=BLUE)

@@ -6,14 +6,15 @@ What the page says in words is asserted here of the model.
 from fractions import Fraction
 from math import ceil
 
-from tests.model import limits, response, storeys
+from tests.model import limits, response, sheet, storeys
 from tests.model.job import job
 from tests.writes import by_hand
 from tests.writes.by_hand import code, comma, decimal, table
 
-NONE_UP_TO, QUARTER_FROM, LONGEST = 700, 3_572, 6_328
+NONE_UP_TO, QUARTER_FROM, LONGEST = storeys.NO_ROOF_FORCE, 3_572, 6_328
 RISING, QUARTER = Fraction(7, 100), Fraction(1, 4)
-CUT_TO_700 = limits.Frame(4, 0, 480, 125, 150), [1_000, 1_000], [169, 338]       # its approximate period is above 700 ms before it is rounded down
+# its approximate period is above 700 ms before it is rounded down
+CUT_TO_700 = limits.Frame(4, 0, 480, 125, 150), [1_000, 1_000], [169, 338]
 
 
 def by_the_text(worked):
@@ -53,8 +54,8 @@ def both_rules(worked, places):
     for place in places:
         pairs = ((forces, worked.forces), (shears, worked.shears), (moments, worked.moments))
         rows.append((str(place + 1), *(comma(column[place]) for pair in pairs for column in pair)))
-    return table(('level', 'force before, N', 'force now, N', 'shear before, N', 'shear now, N', 'overturning before, N·dm', 'overturning now, N·dm'),
-                 rows)
+    head = [f'{name} {when}, {unit}' for name, unit in (('force', 'N'), ('shear', 'N'), ('overturning', 'N·dm')) for when in ('before', 'now')]
+    return table(('level', *head), rows)
 
 
 def percent(part):
@@ -64,7 +65,7 @@ def percent(part):
 
 
 def check_moves(worked):
-    """What the page says of a smaller F_t: no shear is larger, the lowest is V_D, the roof has less, the others no less but for a newton."""
+    """What the page says of a smaller F_t: the roof has less and every other level more; every shear but the lowest, V_D, and every moment falls."""
     top, forces, shears, moments = by_the_text(worked)
     assert top > worked.F_t and worked.shears[0] == shears[0] == worked.V_D
     assert all(now < before for now, before in zip(worked.shears[1:], shears[1:])) and worked.forces[-1] < forces[-1]
@@ -72,17 +73,24 @@ def check_moves(worked):
     assert all(now < before for now, before in zip(worked.moments, moments))
 
 
+def text_step(worked, top):
+    """F_t by the short text."""
+    seconds = Fraction(worked.T, 1000)
+    exact = RISING * seconds * worked.V_D
+    return f'before: F_t = 0.07 · {decimal(seconds)} · {comma(worked.V_D)} = {decimal(exact)}, up: {comma(top)} N'
+
+
 def low(worked):
     """The low frame: by hand, and beside the short text."""
     check_moves(worked)
     assert worked.F_t == 0 and worked.T <= NONE_UP_TO
     top, forces, _, moments = by_the_text(worked)
-    exact = RISING * Fraction(worked.T, 1000) * worked.V_D
-    return {'low_T': comma(worked.T), 'low_V_D': comma(worked.V_D), 'low_count': str(len(worked.heights)), 'low_h': decimal(Fraction(worked.heights[-1], 10)),
-            'low_steps': code([f'before: F_t = 0.07 · {decimal(Fraction(worked.T, 1000))} · {comma(worked.V_D)} = {decimal(exact)}, up: {comma(top)} N',
-                               f'now:    T = {comma(worked.T)} ms is not above {NONE_UP_TO} ms: F_t = 0 N']),
+    return {'low_T': comma(worked.T), 'low_V_D': comma(worked.V_D), 'low_count': str(len(worked.heights)),
+            'low_h': decimal(Fraction(worked.heights[-1], 10)),
+            'low_steps': code([text_step(worked, top), f'now:    T = {comma(worked.T)} ms is not above {NONE_UP_TO} ms: F_t = 0 N']),
             'low_table': both_rules(worked, reversed(range(len(worked.heights)))),
-            'low_roof_less': comma(forces[-1] - worked.forces[-1]), 'low_roof_percent': percent(1 - Fraction(worked.forces[-1], forces[-1])),
+            'low_roof_less': comma(forces[-1] - worked.forces[-1]),
+            'low_roof_percent': percent(1 - Fraction(worked.forces[-1], forces[-1])),
             'low_moment_percent': percent(1 - Fraction(worked.moments[0], moments[0]))}
 
 
@@ -92,10 +100,10 @@ def tall(worked):
     top, forces, _, moments = by_the_text(worked)
     T_s, quarter = Fraction(worked.T, 1000), Fraction(worked.V_D, 4)
     assert worked.T >= QUARTER_FROM and worked.F_t == ceil(quarter)
-    exact, last = RISING * T_s * worked.V_D, len(worked.heights) - 1
+    last = len(worked.heights) - 1
     return {'tall_T': comma(worked.T), 'tall_V_D': comma(worked.V_D), 'tall_count': str(last + 1),
             'tall_h': decimal(Fraction(worked.heights[-1], 10)),
-            'tall_steps': code([f'before: F_t = 0.07 · {decimal(T_s)} · {comma(worked.V_D)} = {decimal(exact)}, up: {comma(top)} N',
+            'tall_steps': code([text_step(worked, top),
                                 f'now:    0.07 · {decimal(T_s)} = {decimal(RISING * T_s)} is above 0.25: '
                                 f'F_t = {comma(worked.V_D)} / 4 = {decimal(quarter)}, up: {comma(worked.F_t)} N']),
             'tall_table': both_rules(worked, (last, last // 2, 0)),
@@ -103,22 +111,51 @@ def tall(worked):
             'tall_moment_percent': percent(1 - Fraction(worked.moments[0], moments[0]))}
 
 
-def step(site):
+def rise(worked):
+    """By how much of itself the force at a level below the roof rises at most."""
+    _, forces, _, _ = by_the_text(worked)
+    return percent(max(Fraction(now, before) - 1 for now, before in zip(worked.forces[:-1], forces[:-1])))
+
+
+def heights():
+    """Up to which height a frame of each kind has no roof force without a calculated period, and from which on T can be so long that a quarter counts."""
+    rows, tall = [], []
+    for kind in limits.KIND:
+        low = max(h for h in limits.HEIGHT if response.approximate_period(kind, h) <= NONE_UP_TO)
+        rows.append((str(kind), decimal(Fraction(low, 10))))
+        tall += [h for h in limits.HEIGHT if response.period(response.approximate_period(kind, h), LONGEST) >= QUARTER_FROM]
+    return {'heights': table(('kind of frame', 'height, m'), rows), 'tall_from': decimal(Fraction(min(tall), 10))}
+
+
+def with_period(worked, T):
+    """The same job with another calculated period."""
+    other = job(worked.ground, worked.frame._replace(calculated_period=T), worked.weights, worked.heights)
+    assert other.T == T
+    return other
+
+
+def step(office, site):
     """What a millisecond does at 700 ms, and a frame whose approximate period is cut to it."""
-    frame, weights, heights = CUT_TO_700
-    cut, longer = job(site, frame, weights, heights), job(site, frame._replace(calculated_period=NONE_UP_TO + 1), weights, heights)
-    power = Fraction(response.PERIOD_C[frame.kind]**4 * heights[-1]**3, 1000)
+    both = [with_period(office, T) for T in (NONE_UP_TO, NONE_UP_TO + 1)]
+    rows = [('V_D, N', *(comma(each.V_D) for each in both)), ('F_t, N', *(comma(each.F_t) for each in both))]
+    rows += [(f'shear of storey {place + 1}, N', *(comma(each.shears[place]) for each in both)) for place in reversed(range(len(office.heights)))]
+    rows += [('overturning at the base, N·dm', *(comma(each.moments[0]) for each in both))]
+    assert both[0].V_D > both[1].V_D and both[0].shears[-1] < both[1].shears[-1]
+    cut = job(site, *CUT_TO_700)
+    longer, (frame, weights, tops) = with_period(cut, NONE_UP_TO + 1), CUT_TO_700
+    power = Fraction(response.PERIOD_C[frame.kind]**4 * tops[-1]**3, 1000)
     unrounded = next(t for t in range(7_000_000, 7_010_001) if Fraction(t + 1, 10_000)**4 > power)
-    assert cut.T == NONE_UP_TO and cut.F_t == 0 and longer.T == NONE_UP_TO + 1 and unrounded > 7_000_000
-    return {'step_percent': decimal(100 * RISING * Fraction(NONE_UP_TO, 1000)), 'step_kind': str(frame.kind), 'step_h': decimal(Fraction(heights[-1], 10)),
-            'step_t': decimal(Fraction(unrounded, 10_000), 2), 'step_next': comma(NONE_UP_TO + 1),
-            'step_weights': ' and '.join(map(comma, weights)), 'step_heights': ' and '.join(decimal(Fraction(each, 10)) for each in heights),
-            'step_longer': comma(longer.F_t), 'step_V_D': comma(longer.V_D)}
+    assert cut.T == NONE_UP_TO and cut.F_t == 0 and unrounded > 7_000_000
+    return {'step_percent': decimal(100 * RISING * Fraction(NONE_UP_TO + 1, 1000)), 'step_next': comma(NONE_UP_TO + 1),
+            'step_table': table(('', *(f'T = {each.T} ms' for each in both)), rows), 'step_t': decimal(Fraction(unrounded, 10_000), 2),
+            'cut_sheet': code(sheet.write(site, frame, weights, tops).decode().splitlines()),
+            'cut_V_D': comma(cut.V_D), 'cut_shear': comma(cut.shears[-1]), 'longer_V_D': comma(longer.V_D), 'longer_F_t': comma(longer.F_t),
+            'longer_shear': comma(longer.shears[-1])}
 
 
-def names(low_data, tall_data):
+def names(office_data, low_data, tall_data):
     """What the page may name."""
-    low_frame, tower = by_hand.read(low_data), by_hand.read(tall_data)
-    return {'rule_table': rule_table(), 'begins': begins(), **low(low_frame), **tall(tower), **step(low_frame.ground),
+    office, low_frame, tower = map(by_hand.read, (office_data, low_data, tall_data))
+    return {'rule_table': rule_table(), 'begins': begins(), **low(low_frame), **tall(tower), **step(office, low_frame.ground), **heights(),
             'none_up_to': comma(NONE_UP_TO), 'rising_to': comma(QUARTER_FROM - 1), 'quarter_from': comma(QUARTER_FROM),
-            'low_sheet': code(low_data.decode().splitlines())}
+            'low_rise': rise(low_frame), 'tall_rise': rise(tower), 'low_sheet': code(low_data.decode().splitlines())}

@@ -1,5 +1,8 @@
-"""The sheets of the roof force among those of the program `run_sheets`: T at both ends of its rule, by the calculated period, by 14*t/10 and by the
-approximate period, on each kind of ground; V_D that a quarter of is whole, and that it is not; one level, where the force is V_D in any case."""
+"""The sheets of the roof force among those of the program `run_sheets`.
+
+T at both ends of its rule, by the calculated period, by 14*t/10 and by the approximate period, on each kind of ground; V_D whose quarter is
+whole, and whose quarter is not; one level, where the force is V_D in any case.
+"""
 
 from tests.draws.roof import ENDS
 from tests.model import limits, sheet

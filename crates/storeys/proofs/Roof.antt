@@ -17,11 +17,11 @@ pub roof-most : (T v : ℕ) → RoofAtMostOne T → roofForce T v ≤ v
 roof-most T v h = part-most (roofPart T) v (omega arith) h
 
 -- ---- the part at every T
-in-whole : (T : ℕ) → roofPart T .num ≤ 25_000
-in-whole T = by-leb (λ (n : ℕ). n ≤ 25_000) T 700 _ _ (λ _. omega arith) (λ _. min-le-right _ 25_000)
+part-at-most-25000 : (T : ℕ) → roofPart T .num ≤ 25_000
+part-at-most-25000 T = by-leb (λ (n : ℕ). n ≤ 25_000) T 700 _ _ (λ _. omega arith) (λ _. min-le-right _ 25_000)
 
 pub quarter-at-most : (T : ℕ) → AtMost (roofPart T) (over 1 4)
-quarter-at-most T = omega (arith, in-whole T)
+quarter-at-most T = omega (arith, part-at-most-25000 T)
 
 pub roof-at-most-one : (T : ℕ) → RoofAtMostOne T
-roof-at-most-one T = omega (arith, in-whole T)
+roof-at-most-one T = omega (arith, part-at-most-25000 T)

@@ -1,19 +1,21 @@
--- The rule of the roof force in document 02's own numbers, and the T from which each piece of it counts.
+-- The rule of the roof force in document 02's own numbers, the T from which each piece of it counts, and that it leaves no shear above that
+-- of (21).
 --   rising T    0.07·(T in s)
 -- Assumes nothing.
 use mathlib.Core.Path.{_≡_, refl, sym, ap, _∙_}
 use mathlib.Core.List.{List}
 use Prim.Native.Nat.{ℕ, _+_, _*_, _-_, _≤_, _<_, min}
 use native.Mathlib.Decide.{decLe}
-use native.Mathlib.Nat.{min-eq-left, min-eq-right, mul-le-mul-right}
+use native.Mathlib.Nat.{min-eq-left, min-eq-right, min-le-left, mul-le-mul-left, mul-le-mul-right}
 use native.Mathlib.Omega.{arith}
 use lib.ListN.{drop}
 use Rattle.whole.specs.declared.Fraction.{Fraction}
 use Rattle.whole.specs.Fraction.{over, times, Same, AtMost, Less}
 use Rattle.whole.specs.Rounding.{up}
 use Rattle.whole.proofs.Choice.{by-leb}
-use Rattle.whole.proofs.Rounding.{up-law, up-mono, up-scale}
+use Rattle.whole.proofs.Rounding.{up-law, up-mono, up-most, up-scale}
 use Rattle.storeys.specs.Storeys.{roofPart, roofForce, weightHeight, shearUnder}
+use Rattle.storeys.proofs.Sums.{part-sum}
 
 abbrev pub rising : ℕ → Fraction
 rising T = times (over 7 100) (over T 1000)
@@ -86,3 +88,27 @@ smaller-of-both T v h = go (decLe T 3_571)
         let q : 25_000 ≤ 7 * T = omega arith in
         let less = up-mono (25_000 * v) 100_000 (7 * T * v) 100_000 (omega arith) (omega arith) (mul-le-mul-right v q) in
         quarter-roof-force T v (omega arith) ∙ sym (min-eq-right (omega (arith, less, scaled)))
+
+-- ---- beside (21), which has 0.07·(T in s)·V at every T: F_t is not above it, and no shear is
+part-below-text : (T : ℕ) → roofPart T .num ≤ 7 * T
+part-below-text T = by-leb (λ (n : ℕ). n ≤ 7 * T) T 700 _ _ (λ _. omega arith) (λ _. min-le-left (7 * T) _)
+
+pub roof-force-below-text : (T v : ℕ) → roofForce T v ≤ up (7 * T * v) 100_000
+roof-force-below-text T v =
+    up-mono (roofPart T .num * v) 100_000 (7 * T * v) 100_000 (omega arith) (omega arith) (mul-le-mul-right v (part-below-text T))
+
+-- of a base shear v a smaller roof force leaves no larger shear
+pub shear-rises-with-roof-force : (v a p f g : ℕ) → 0 < p → a ≤ p → f ≤ g → g ≤ v → f + up ((v - f) * a) p ≤ g + up ((v - g) * a) p
+shear-rises-with-roof-force v a p f g pos h k m =
+    let d = g - f in
+    let more : (v - g) + d ≡ v - f = omega arith in
+    let u = up-law ((v - g) * a) p pos in
+    let n = up ((v - g) * a) p in
+    let within : (v - f) * a ≤ p * (n + d) = omega (arith, u .0, mul-le-mul-left d h, ap (λ (z : ℕ). z * a) more) in
+    omega (arith, up-most ((v - f) * a) p (n + d) pos within)
+
+pub shear-below-text : (T v : ℕ) (ws hs : List ℕ) (x : ℕ) → 0 < weightHeight ws hs → up (7 * T * v) 100_000 ≤ v
+    → let ft = up (7 * T * v) 100_000 in
+    shearUnder T v ws hs x ≤ ft + up ((v - ft) * weightHeight (drop x ws) (drop x hs)) (weightHeight ws hs)
+shear-below-text T v ws hs x p m =
+    shear-rises-with-roof-force v _ _ _ _ p (part-sum ws hs x) (roof-force-below-text T v) m

@@ -1,5 +1,6 @@
 -- Storeys (21). V in N, T in ms, weights in kN, heights in dm, lowest level first; level x is counted from 0.
---   roofPart T            the part of V at the roof: 0 for T up to 700 ms, above that the smaller of 0.07·(T in s) and a quarter
+--   roofPart T            the part of V at the roof, by document 02 in place of the 0.07·T of (21): 0 for T up to 700 ms, above that the
+--                         smaller of 0.07·(T in s) and a quarter
 --   RoofAtMostOne T       the roof part is at most one, so that F_t is a part of V
 --   roofForce T v         F_t, that part of V, up: one rounding
 --   weightHeight ws hs    P, the sum of weight times height; P_x is that of what stands from level x to the roof

@@ -1,4 +1,4 @@
-// F_t, the part of the base shear at the roof.
+// F_t, the part of the base shear at the roof: the rule of document 02 in place of that of (21).
 use whole::quotients::up;
 ghost use mathlib.Core.Path.{_≡_};
 ghost use Rattle.storeys.specs.Reach.{Load};
@@ -12,6 +12,7 @@ const PART: u64 = 7;
 
 const WHOLE: u64 = 100_000;
 
+// A quarter of WHOLE.
 const QUARTER: u64 = 25_000;
 
 // The part of V at the roof, in 100,000: none up to 700 ms, above that the smaller of 0.07 (T in s) and a quarter. T is compared by a
