@@ -130,7 +130,7 @@ typedef struct {
  * Written    figures: all fields. On success the first cells of the buffers, one a level, lowest first: forces in N, which add up to V_D;
  *            shears in N, each under its level; overturnings in N*dm, about the bottom of its storey. Other cells hold what they held
  * Reference  document 000 (1), (4) to (9), (12) to (14), (16) to (21), (23) without its factor. F_t of (21) is 0 for T up to 700 ms and at
- *            most V_D/4. docs/DIFFERENCES.md says where else the rules depart from it
+ *            most V_D/4, rounded up. docs/DIFFERENCES.md says where else the rules depart from it
  */
 uint64_t rukeshomaji_job(const RukeshomajiSite *site, const RukeshomajiFrame *frame, const uint64_t *weights, uint64_t weight_count,
                          const uint64_t *heights, uint64_t height_count, uint64_t *forces, uint64_t force_cells, uint64_t *shears,

@@ -118,13 +118,15 @@ def rise(worked):
 
 
 def heights():
-    """Up to which height a frame of each kind has no roof force without a calculated period, and from which on T can be so long that a quarter counts."""
-    rows, tall = [], []
+    """Heights of frames without a calculated period that have no roof force, by kind; and from which on a quarter can count, with one and without."""
+    rows, cut, alone = [], [], []
     for kind in limits.KIND:
-        low = max(h for h in limits.HEIGHT if response.approximate_period(kind, h) <= NONE_UP_TO)
-        rows.append((str(kind), decimal(Fraction(low, 10))))
-        tall += [h for h in limits.HEIGHT if response.period(response.approximate_period(kind, h), LONGEST) >= QUARTER_FROM]
-    return {'heights': table(('kind of frame', 'height, m'), rows), 'tall_from': decimal(Fraction(min(tall), 10))}
+        periods = {h: response.approximate_period(kind, h) for h in limits.HEIGHT}
+        rows.append((str(kind), decimal(Fraction(max(h for h, t in periods.items() if t <= NONE_UP_TO), 10))))
+        alone += [h for h, t in periods.items() if t >= QUARTER_FROM]
+        cut += [h for h, t in periods.items() if response.period(t, LONGEST) >= QUARTER_FROM]
+    return {'heights': table(('kind of frame', 'height, m'), rows), 'tall_from': decimal(Fraction(min(cut), 10)),
+            'tall_alone': decimal(Fraction(min(alone), 10))}
 
 
 def with_period(worked, T):
