@@ -12,7 +12,7 @@ use Rattle.limits.specs.Outcome.{Outcome, accepted, refused, number, place, val
 use Rattle.limits.proofs.Passed.{never, one-value}
 use Rattle.limits.proofs.Reading.{success, refusal}
 use Rattle.base_shear.specs.declared.Figures.{Figures}
-use Rattle.job.specs.declared.JobAnswer.the-variants.{Taken, Refused}
+use Rattle.job.specs.declared.FiguresAnswer.the-variants.{Taken, Refused}
 use Rattle.job.specs.Job.{Results, givenFigures, resultsAt, jobOf, figuresOnly, five, answerOutcome, Buffers, shortest, written, Answers}
 use Rattle.job.proofs.Stages.{job-refused, job-accepted}
 

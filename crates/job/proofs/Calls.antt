@@ -13,11 +13,11 @@ use Rattle.limits.specs.declared.frame.FrameValues.{FrameValues}
 use Rattle.limits.specs.declared.ground.GroundValues.{GroundValues}
 use Rattle.limits.specs.Outcome.{Outcome, accepted, refused}
 use Rattle.base_shear.specs.declared.Figures.{Figures}
-use Rattle.job.specs.declared.JobAnswer.{JobAnswer}
-use Rattle.job.specs.declared.JobAnswer.the-variants.{Taken, Refused}
+use Rattle.job.specs.declared.FiguresAnswer.{FiguresAnswer}
+use Rattle.job.specs.declared.FiguresAnswer.the-variants.{Taken, Refused}
 use Rattle.job.specs.Job.{jobOf, figuresOnly, answerOutcome, Buffers, shortest, written, Figured, Answers}
 
-abbrev pub answerOf : Outcome Figures → JobAnswer
+abbrev pub answerOf : Outcome Figures → FiguresAnswer
 answerOf (accepted n) = Taken n
 answerOf (refused n p) = Refused (record { number = n; place = p })
 
@@ -38,7 +38,7 @@ module _ (s : GroundValues) (f : FrameValues) (ws hs : List ℕ) where
       → Answers s f ws hs b (answerOf (figuresOnly (jobOf s f ws hs (shortest b)))) (written (jobOf s f ws hs (shortest b)) b)
   outcome-answers b = (says-outcome _, refl)
 
-  pub figured-answers : (a : JobAnswer) → Figured s f ws hs a
+  pub figured-answers : (a : FiguresAnswer) → Figured s f ws hs a
       → Answers s f ws hs (blank ws) a (written (jobOf s f ws hs (length ws)) (blank ws))
   figured-answers a p =
       let room = sym (blank-room ws) in (

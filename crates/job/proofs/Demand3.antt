@@ -20,7 +20,7 @@ use Rattle.storeys.specs.Storeys.{shearUnder}
 use Rattle.margin.specs.Demand3.{Demand3}
 use Rattle.margin.proofs.Demand3.{of-cells}
 use Rattle.margin.proofs.Reached.{demand3-reached}
-use Rattle.job.specs.declared.JobAnswer.the-variants.{Taken}
+use Rattle.job.specs.declared.FiguresAnswer.the-variants.{Taken}
 use Rattle.job.specs.Job.{givenHazards, givenFigures, Buffers, shortest, Answers}
 use Rattle.job.proofs.Answered.{taken-accepted}
 use Rattle.job.proofs.Storeys.{shear-cell}

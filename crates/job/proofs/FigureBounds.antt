@@ -7,7 +7,7 @@ use Rattle.limits.specs.declared.frame.FrameValues.{FrameValues}
 use Rattle.limits.specs.declared.ground.GroundValues.{GroundValues}
 use Rattle.limits.proofs.Accepted.{given-allowed}
 use Rattle.base_shear.specs.declared.Figures.{Figures}
-use Rattle.job.specs.declared.JobAnswer.the-variants.{Taken}
+use Rattle.job.specs.declared.FiguresAnswer.the-variants.{Taken}
 use Rattle.job.specs.Job.{Buffers, shortest, Answers}
 use Rattle.job.proofs.Answered.{taken-accepted}
 use Rattle.job.proofs.GivenReached.{Between, given-between}

@@ -17,8 +17,8 @@ use Rattle.limits.proofs.Room.{room-enough}
 use Rattle.base_shear.specs.declared.Figures.{Figures}
 use Rattle.storeys.specs.Storeys.{shears, forces, overturning, overturnings}
 use Rattle.storeys.proofs.Chain.{shears-length, forces-length}
-use Rattle.job.specs.declared.JobAnswer.{JobAnswer}
-use Rattle.job.specs.declared.JobAnswer.the-variants.{Taken}
+use Rattle.job.specs.declared.FiguresAnswer.{FiguresAnswer}
+use Rattle.job.specs.declared.FiguresAnswer.the-variants.{Taken}
 use Rattle.job.specs.Job.{Results, resultsAt, resultsOf, jobOf, figuresOnly, Buffers, shortest, Figured, Answers}
 use Rattle.job.proofs.Answered.{taken-accepted}
 use Rattle.job.proofs.Unique.{answer-unique}
@@ -44,12 +44,12 @@ module _ (s : GroundValues) (f : FrameValues) (ws hs : List ℕ) where
   job-room room room′ h h′ = ap (λ (o : Outcome Given). o >>= λ g. accepted (resultsOf g ws hs)) (room-enough s f ws hs room room′ h h′)
 
   -- whatever buffers of the same shortest length hold, the answer is one
-  pub same-answer : (b c : Buffers) (a a′ : JobAnswer) (b′ c′ : Buffers) → shortest b ≡ shortest c
+  pub same-answer : (b c : Buffers) (a a′ : FiguresAnswer) (b′ c′ : Buffers) → shortest b ≡ shortest c
       → Answers s f ws hs b a b′ → Answers s f ws hs c a′ c′ → a ≡ a′
   same-answer b c a a′ b′ c′ e p q = answer-unique (p .0 ∙ ap (λ (n : ℕ). figuresOnly (jobOf s f ws hs n)) e) (q .0)
 
   -- and it is one for all that have a cell for each level
-  pub longer-answer : (b c : Buffers) (a a′ : JobAnswer) (b′ c′ : Buffers) → length ws ≤ shortest b → length ws ≤ shortest c
+  pub longer-answer : (b c : Buffers) (a a′ : FiguresAnswer) (b′ c′ : Buffers) → length ws ≤ shortest b → length ws ≤ shortest c
       → Answers s f ws hs b a b′ → Answers s f ws hs c a′ c′ → a ≡ a′
   longer-answer b c a a′ b′ c′ hb hc p q =
       answer-unique (p .0 ∙ ap figuresOnly (job-room (shortest b) (shortest c) hb hc)) (q .0)
@@ -61,7 +61,7 @@ module _ (s : GroundValues) (f : FrameValues) (ws hs : List ℕ) where
       given-allowed s f ws hs (shortest b) (t .given) (t .judged) .1
 
   -- and it is the answer without buffers
-  pub figured-answer : (b : Buffers) (a a′ : JobAnswer) (b′ : Buffers) → length ws ≤ shortest b
+  pub figured-answer : (b : Buffers) (a a′ : FiguresAnswer) (b′ : Buffers) → length ws ≤ shortest b
       → Answers s f ws hs b a b′ → Figured s f ws hs a′ → a ≡ a′
   figured-answer b a a′ b′ h p q =
       answer-unique (p .0 ∙ ap figuresOnly (job-room (shortest b) (length ws) h (le-refl (length ws)))) q

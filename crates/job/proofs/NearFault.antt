@@ -26,7 +26,7 @@ use Rattle.site.specs.Hazards.{designHazard, mceHazard, lines}
 use Rattle.response.specs.Period.{periodOf}
 use Rattle.response.specs.Unit.{unit}
 use Rattle.base_shear.specs.Shears.{newtons, modifiedAt, blendedAt, shear, star, figuresAt}
-use Rattle.job.specs.declared.JobAnswer.the-variants.{Taken}
+use Rattle.job.specs.declared.FiguresAnswer.the-variants.{Taken}
 use Rattle.job.specs.Job.{givenFigures, Buffers, shortest, Answers}
 use Rattle.job.proofs.Answered.{taken-accepted}
 

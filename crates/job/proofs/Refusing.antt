@@ -14,8 +14,8 @@ use Rattle.limits.specs.Order.{NoLater}
 use Rattle.limits.proofs.Refusing as judging
 use Rattle.limits.proofs.Foremost as order
 use Rattle.base_shear.specs.declared.Figures.{Figures}
-use Rattle.job.specs.declared.JobAnswer.{JobAnswer}
-use Rattle.job.specs.declared.JobAnswer.the-variants.{Taken, Refused}
+use Rattle.job.specs.declared.FiguresAnswer.{FiguresAnswer}
+use Rattle.job.specs.declared.FiguresAnswer.the-variants.{Taken, Refused}
 use Rattle.job.specs.Job.{Buffers, shortest, Answers}
 use Rattle.job.proofs.Answered.{taken-accepted, refused-judged}
 
@@ -25,7 +25,7 @@ module _ (s : GroundValues) (f : FrameValues) (ws hs : List ℕ) (b : Buffers) w
   Wrong = Applies s f ws hs (shortest b)
 
   -- 'Data to which no refusal number applies is accepted'
-  pub accepted-unless-refused : (a : JobAnswer) (b′ : Buffers) → Answers s f ws hs b a b′ → ((n p : ℕ) → Wrong n p → ⊥)
+  pub accepted-unless-refused : (a : FiguresAnswer) (b′ : Buffers) → Answers s f ws hs b a b′ → ((n p : ℕ) → Wrong n p → ⊥)
       → (n : Figures) × (a ≡ Taken n)
   accepted-unless-refused (Taken n) b′ a none = (n, refl)
   accepted-unless-refused (Refused r) b′ a none =

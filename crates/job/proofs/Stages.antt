@@ -11,7 +11,7 @@ use Rattle.limits.specs.declared.refusal.Refusal.{Refusal}
 use Rattle.limits.specs.Judging.{judgedJob}
 use Rattle.limits.specs.Outcome.{Outcome, accepted, refused, _>>=_}
 use Rattle.base_shear.specs.declared.Figures.{Figures}
-use Rattle.job.specs.declared.JobAnswer.the-variants.{Taken, Refused}
+use Rattle.job.specs.declared.FiguresAnswer.the-variants.{Taken, Refused}
 use Rattle.job.specs.Job.{Results, givenFigures, resultsAt, resultsOf, jobOf, figuresOnly, Buffers, shortest, written, Answers}
 
 module _ (s : GroundValues) (f : FrameValues) (ws hs : List ℕ) (room : ℕ) where

@@ -15,7 +15,7 @@ use Rattle.base_shear.specs.declared.Figures.{Figures}
 use Rattle.storeys.specs.Reach.{Load, Standing}
 use Rattle.storeys.specs.Storeys.{shearUnder, shears, force, forces}
 use Rattle.storeys.proofs.Telescope.{shear-lowest, shears-fall, force-whole, forces-sum}
-use Rattle.job.specs.declared.JobAnswer.the-variants.{Taken}
+use Rattle.job.specs.declared.FiguresAnswer.the-variants.{Taken}
 use Rattle.job.specs.Job.{Buffers, shortest, Answers}
 use Rattle.job.proofs.Answered.{taken-accepted}
 use Rattle.job.proofs.Independent.{taken-written, shears-cells}

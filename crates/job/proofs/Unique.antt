@@ -8,23 +8,23 @@ use Rattle.limits.specs.declared.ground.GroundValues.{GroundValues}
 use Rattle.limits.specs.Outcome.{Outcome}
 use Rattle.limits.proofs.Unique.{back, one-answer}
 use Rattle.base_shear.specs.declared.Figures.{Figures}
-use Rattle.job.specs.declared.JobAnswer.{JobAnswer}
-use Rattle.job.specs.declared.JobAnswer.the-variants.{Taken, Refused}
+use Rattle.job.specs.declared.FiguresAnswer.{FiguresAnswer}
+use Rattle.job.specs.declared.FiguresAnswer.the-variants.{Taken, Refused}
 use Rattle.job.specs.Job.{answerOutcome, Buffers, Figured, Answers}
 
-pub answer-unique : {a b : JobAnswer} {o : Outcome Figures} → answerOutcome a ≡ o → answerOutcome b ≡ o → a ≡ b
+pub answer-unique : {a b : FiguresAnswer} {o : Outcome Figures} → answerOutcome a ≡ o → answerOutcome b ≡ o → a ≡ b
 answer-unique = one-answer answerOutcome Taken Refused same
   where
-    same : (x : JobAnswer) → back Taken Refused (answerOutcome x) ≡ x
+    same : (x : FiguresAnswer) → back Taken Refused (answerOutcome x) ≡ x
     same (Taken n) = refl
     same (Refused r) = refl
 
 module _ (s : GroundValues) (f : FrameValues) (ws hs : List ℕ) where
   -- `figures`
-  pub one-figured : {a a′ : JobAnswer} → Figured s f ws hs a → Figured s f ws hs a′ → a ≡ a′
+  pub one-figured : {a a′ : FiguresAnswer} → Figured s f ws hs a → Figured s f ws hs a′ → a ≡ a′
   one-figured p q = answer-unique p q
 
   -- `job`
-  pub one-outcome : (b : Buffers) {a a′ : JobAnswer} {c c′ : Buffers} → Answers s f ws hs b a c → Answers s f ws hs b a′ c′
+  pub one-outcome : (b : Buffers) {a a′ : FiguresAnswer} {c c′ : Buffers} → Answers s f ws hs b a c → Answers s f ws hs b a′ c′
       → (a ≡ a′) × (c ≡ c′)
   one-outcome b p q = (answer-unique (p .0) (q .0), p .1 ∙ sym (q .1))

@@ -28,8 +28,8 @@ use Rattle.site.specs.declared.hazard.Hazards.{Hazards}
 use Rattle.base_shear.specs.declared.Figures.{Figures}
 use Rattle.base_shear.specs.Shears.{baseFigures}
 use Rattle.storeys.specs.Storeys.{shears, forces, overturnings}
-use Rattle.job.specs.declared.JobAnswer.{JobAnswer}
-use Rattle.job.specs.declared.JobAnswer.the-variants.{Taken, Refused}
+use Rattle.job.specs.declared.FiguresAnswer.{FiguresAnswer}
+use Rattle.job.specs.declared.FiguresAnswer.the-variants.{Taken, Refused}
 
 pub record Results : Type 0 where
   pub figures : Figures
@@ -64,7 +64,7 @@ figuresOnly o = do
 abbrev pub five : Figures → List ℕ
 five n = n .v ∷ n .vm ∷ n .star ∷ n .vd ∷ n .t ∷ []
 
-abbrev pub answerOutcome : JobAnswer → Outcome Figures
+abbrev pub answerOutcome : FiguresAnswer → Outcome Figures
 answerOutcome (Taken n) = accepted n
 answerOutcome (Refused r) = refused (r .number) (r .place)
 
@@ -85,10 +85,10 @@ written (accepted r) b =
     }
 written (refused n p) b = b
 
-abbrev pub Figured : GroundValues → FrameValues → List ℕ → List ℕ → JobAnswer → Type 0
+abbrev pub Figured : GroundValues → FrameValues → List ℕ → List ℕ → FiguresAnswer → Type 0
 Figured s f ws hs a = answerOutcome a ≡ figuresOnly (jobOf s f ws hs (length ws))
 
-abbrev pub Answers : GroundValues → FrameValues → List ℕ → List ℕ → Buffers → JobAnswer → Buffers → Type 0
+abbrev pub Answers : GroundValues → FrameValues → List ℕ → List ℕ → Buffers → FiguresAnswer → Buffers → Type 0
 Answers s f ws hs b a b′ =
     let o = jobOf s f ws hs (shortest b) in
     (answerOutcome a ≡ figuresOnly o) × (b′ ≡ written o b)

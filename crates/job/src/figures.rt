@@ -1,5 +1,5 @@
 // The five figures of a job.
-use crate::JobAnswer;
+use crate::FiguresAnswer;
 use base_shear::Figures;
 use base_shear::base::base_figures;
 use limits::frame::FrameValues;
@@ -59,12 +59,12 @@ pub fn figures(
     frame: FrameValues,
     weights: &[u64],
     heights: &[u64],
-) -> JobAnswer
+) -> FiguresAnswer
     ensures { λ a. ⌜ Figured ground frame (now (weights .entry)) (now (heights .entry)) a ⌝ }
 {
     let g = judged(ground, frame, weights, heights, weights.len());
     let GivenAnswer::Taken(given) = g else {
-        return JobAnswer::Refused(g.refusal());
+        return FiguresAnswer::Refused(g.refusal());
     };
-    JobAnswer::Taken(given_figures(given, weights, heights))
+    FiguresAnswer::Taken(given_figures(given, weights, heights))
 }

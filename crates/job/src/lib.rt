@@ -16,19 +16,19 @@ ghost use Prim.Native.Nat.{min};
 ghost use Rattle.job.specs.Job.{answerOutcome, Answers};
 
 // What a job answers: V, V_M, V*, V_D and T, or why not.
-pub enum JobAnswer {
+pub enum FiguresAnswer {
     Taken(Figures),
     Refused(Refusal),
 }
 
-impl JobAnswer {
+impl FiguresAnswer {
     // What it refuses with; where it refuses nothing, zeros.
     pub fn refusal(self) -> Refusal
         ensures { λ r. ⌜ r ≡ refusalOf (answerOutcome self) ⌝ }
     {
         match self {
-            JobAnswer::Taken(_) => Refusal::none(),
-            JobAnswer::Refused(r) => r,
+            FiguresAnswer::Taken(_) => Refusal::none(),
+            FiguresAnswer::Refused(r) => r,
         }
     }
 }
@@ -51,7 +51,7 @@ pub fn job(
     forces: &mut [u64],
     shears: &mut [u64],
     overturnings: &mut [u64],
-) -> JobAnswer
+) -> FiguresAnswer
     ensures { λ a. ⌜ Answers ground frame (now (weights .entry)) (now (heights .entry)) (record { forces = now (forces .entry); shears = now (shears .entry); overturnings = now (overturnings .entry) }) a (record { forces = now (forces .exit); shears = now (shears .exit); overturnings = now (overturnings .exit) }) ⌝ }
 {
     let room = shorter(shorter(forces.len(), shears.len()), overturnings.len());
@@ -59,12 +59,12 @@ pub fn job(
     let GivenAnswer::Taken(given) = g else {
         let r = g.refusal();
         // By its fields: handed on whole, it makes every answer of a job be copied once more.
-        return JobAnswer::Refused(Refusal {
+        return FiguresAnswer::Refused(Refusal {
             number: r.number,
             place: r.place,
         });
     };
     let f = given_figures(given, weights, heights);
     fill_storeys(f.t, f.vd, weights, heights, shears, forces, overturnings);
-    JobAnswer::Taken(f)
+    FiguresAnswer::Taken(f)
 }

@@ -1,6 +1,9 @@
--- All that is judged of a job, in document 01's order: levels (1 to 4), ground (5 to 7 of a site, 18 of a zone), frame (8 to 12).
---   judgedJob s f ws hs room    of a ground s and a frame f the judged ones, or the first refusal; room is the length of the shortest result buffer
---   givenOutcome a              what the code's answer a says
+-- All that is judged of a job and of the two calls that it is parted into, in order. room is the length of the shortest result buffer.
+--   judgedGiven s f                      ground (5 to 7 of a site, 18 of a zone), frame (8 to 12): the judged ones, or the first refusal
+--   judgedJob s f ws hs room             of a job: levels (1 to 4), ground, frame
+--   judgedShearCall s f W h              of the shear call: total weight (3), top height (4), ground, frame
+--   judgedDistribution v t ws hs room    of the distribution: levels (1 to 4), base shear (19), period (20)
+--   givenOutcome a                       what the code's answer a says
 use mathlib.Core.List.{List}
 use Prim.Native.Nat.{ℕ}
 use Rattle.limits.specs.declared.frame.FrameValues.{FrameValues}
@@ -8,17 +11,33 @@ use Rattle.limits.specs.declared.ground.GroundValues.{GroundValues}
 use Rattle.limits.specs.declared.judging.Given.{Given}
 use Rattle.limits.specs.declared.judging.GivenAnswer.{GivenAnswer}
 use Rattle.limits.specs.declared.judging.GivenAnswer.the-variants.{Taken, Refused}
+use Rattle.limits.specs.Building.{judgedBuilding}
 use Rattle.limits.specs.Frame.{judgedFrame}
 use Rattle.limits.specs.Ground.{judgedGround}
+use Rattle.limits.specs.Handed.{judgedHanded}
 use Rattle.limits.specs.Levels.{judgedLevels}
-use Rattle.limits.specs.Outcome.{Outcome, accepted, refused, _>>=_, _>>_}
+use Rattle.limits.specs.Outcome.{Outcome, accepted, refused, Done, _>>=_, _>>_}
+
+abbrev pub judgedGiven : GroundValues → FrameValues → Outcome Given
+judgedGiven s f = do
+  ground ← judgedGround s
+  frame ← judgedFrame f
+  accepted (record { ground = ground; frame = frame })
 
 unfoldable pub judgedJob : GroundValues → FrameValues → List ℕ → List ℕ → ℕ → Outcome Given
 judgedJob s f ws hs room = do
   judgedLevels ws hs room
-  ground ← judgedGround s
-  frame ← judgedFrame f
-  accepted (record { ground = ground; frame = frame })
+  judgedGiven s f
+
+unfoldable pub judgedShearCall : GroundValues → FrameValues → ℕ → ℕ → Outcome Given
+judgedShearCall s f W h = do
+  judgedBuilding W h
+  judgedGiven s f
+
+unfoldable pub judgedDistribution : ℕ → ℕ → List ℕ → List ℕ → ℕ → Outcome Done
+judgedDistribution v t ws hs room = do
+  judgedLevels ws hs room
+  judgedHanded v t
 
 abbrev pub givenOutcome : GivenAnswer → Outcome Given
 givenOutcome (Taken g) = accepted g

@@ -2,6 +2,8 @@ pub mod Outcome
 pub mod Order
 pub mod Ranges
 pub mod Levels
+pub mod Building
+pub mod Handed
 pub mod Site
 pub mod Zone
 pub mod Ground

@@ -1,16 +1,18 @@
-// All that is judged of a job, and what is handed on where it is accepted.
+// All that is judged of a job, of the shear call and of the distribution, and what is handed on where it is accepted.
+use crate::building::Building;
 use crate::frame::Frame;
 use crate::frame::FrameAnswer;
 use crate::frame::FrameValues;
 use crate::ground::Ground;
 use crate::ground::GroundAnswer;
 use crate::ground::GroundValues;
+use crate::handed::Handed;
 use crate::levels::judged_levels;
 use crate::refusal::Refusal;
 use crate::refusal::Verdict;
 ghost use mathlib.Core.Path.{_≡_};
-ghost use Rattle.limits.specs.Judging.{judgedJob, givenOutcome};
-ghost use Rattle.limits.specs.Outcome.{refusalOf};
+ghost use Rattle.limits.specs.Judging.{judgedGiven, judgedJob, judgedShearCall, judgedDistribution, givenOutcome};
+ghost use Rattle.limits.specs.Outcome.{refusalOf, verdictOutcome};
 
 // A judged ground and frame.
 pub struct Given {
@@ -35,6 +37,21 @@ impl GivenAnswer {
     }
 }
 
+// The ground, then the frame.
+pub fn judged_given(ground: GroundValues, frame: FrameValues) -> GivenAnswer
+    ensures { λ a. ⌜ givenOutcome a ≡ judgedGiven ground frame ⌝ }
+{
+    let g = Ground::judged(ground);
+    let GroundAnswer::Taken(ground) = g else {
+        return GivenAnswer::Refused(g.refusal());
+    };
+    let f = Frame::judged(frame);
+    let FrameAnswer::Taken(frame) = f else {
+        return GivenAnswer::Refused(f.refusal());
+    };
+    GivenAnswer::Taken(Given { ground, frame })
+}
+
 // All judgments of a job, one after the other: levels, ground, frame.
 pub fn judged(
     ground: GroundValues,
@@ -49,13 +66,38 @@ pub fn judged(
     let Verdict::Passed = v else {
         return GivenAnswer::Refused(v.refusal());
     };
-    let g = Ground::judged(ground);
-    let GroundAnswer::Taken(ground) = g else {
-        return GivenAnswer::Refused(g.refusal());
+    judged_given(ground, frame)
+}
+
+// All judgments of the shear call: total weight and top height, ground, frame.
+pub fn judged_shear_call(
+    ground: GroundValues,
+    frame: FrameValues,
+    weight: u64,
+    height: u64,
+) -> GivenAnswer
+    ensures { λ a. ⌜ givenOutcome a ≡ judgedShearCall ground frame weight height ⌝ }
+{
+    let v = Building::judged(weight, height);
+    let Verdict::Passed = v else {
+        return GivenAnswer::Refused(v.refusal());
     };
-    let f = Frame::judged(frame);
-    let FrameAnswer::Taken(frame) = f else {
-        return GivenAnswer::Refused(f.refusal());
+    judged_given(ground, frame)
+}
+
+// All judgments of the distribution: levels, base shear and period.
+pub fn judged_distribution(
+    shear: u64,
+    period: u64,
+    weights: &[u64],
+    heights: &[u64],
+    room: usize,
+) -> Verdict
+    ensures { λ v. ⌜ verdictOutcome v ≡ judgedDistribution shear period (now (weights .entry)) (now (heights .entry)) room ⌝ }
+{
+    let v = judged_levels(weights, heights, room);
+    let Verdict::Passed = v else {
+        return v;
     };
-    GivenAnswer::Taken(Given { ground, frame })
+    Handed::judged(shear, period)
 }

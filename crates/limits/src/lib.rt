@@ -1,8 +1,10 @@
 // The quantities of a job, of a soil log and of a sheet: their limits, who judges them, and what a refusal says.
 
+pub mod building;
 pub mod class;
 pub mod frame;
 pub mod ground;
+pub mod handed;
 pub mod judging;
 pub mod kind;
 pub mod layer;

@@ -46,6 +46,10 @@ impl Refusal {
     pub const SHEET: u64 = 17;
     // zone not 1 to 4
     pub const ZONE: u64 = 18;
+    // base shear handed in out of range
+    pub const BASE_SHEAR: u64 = 19;
+    // period handed in out of range
+    pub const PERIOD_HANDED: u64 = 20;
     // the place of a refusal for which none is named
     pub const NOWHERE: u64 = 0;
 

@@ -13,7 +13,7 @@ use Rattle.limits.specs.declared.ground.GroundValues.{GroundValues}
 use Rattle.limits.specs.declared.refusal.Refusal.{Refusal}
 use Rattle.limits.specs.Order.{InOrder}
 use Rattle.limits.specs.Outcome.{Outcome, accepted, refused, number, place, refusalOf}
-use Rattle.job.specs.declared.JobAnswer.{JobAnswer}
+use Rattle.job.specs.declared.FiguresAnswer.{FiguresAnswer}
 use Rattle.job.specs.Job.{Results, jobOf, figuresOnly, answerOutcome, Buffers, shortest, written, Figured, Answers}
 use Rattle.job.proofs.Calls.{answerOf, says-outcome}
 use Rattle.sheet.proofs.Foremost.{applies-in-order, refused-applies}
@@ -35,27 +35,27 @@ module _ {A : Type 0} {f : A → List ℕ} {k : ℕ} where
   replies-unique t t′ = (determined (t .returned) (t′ .returned), determined (t .replied) (t′ .replied))
 
 module _ (g : GroundValues) (m ws hs : List ℕ) where
-  pub job-replies : (s : GroundValues) (f : FrameValues) (b : Buffers) (a : JobAnswer) (b′ : Buffers) {n : ℕ} {r : List ℕ}
+  pub job-replies : (s : GroundValues) (f : FrameValues) (b : Buffers) (a : FiguresAnswer) (b′ : Buffers) {n : ℕ} {r : List ℕ}
       → s ≡ g → f ≡ frameValues m → Answers s f ws hs b a b′ → FiguresReply (answerOutcome a) n r
       → JobReplies g m ws hs b n r b′
   job-replies s f b a b′ es ef t p =
       let o = ap₂ (λ (s : GroundValues) (f : FrameValues). jobOf s f ws hs (shortest b)) es ef in
       (replies-as (t .0 ∙ ap figuresOnly o) p, t .1 ∙ ap (λ x. written x b) o)
 
-  pub figures-replies : (s : GroundValues) (f : FrameValues) (a : JobAnswer) {n : ℕ} {r : List ℕ} → s ≡ g
+  pub figures-replies : (s : GroundValues) (f : FrameValues) (a : FiguresAnswer) {n : ℕ} {r : List ℕ} → s ≡ g
       → f ≡ frameValues m → Figured s f ws hs a → FiguresReply (answerOutcome a) n r → FiguresReplies g m ws hs n r
   figures-replies s f a es ef t p =
       replies-as (t ∙ ap figuresOnly (ap₂ (λ (s : GroundValues) (f : FrameValues). jobOf s f ws hs (length ws)) es ef)) p
 
   -- and the other way: what is proved of an answer of the core holds of the reply that says it
   pub replied-answers : (b : Buffers) (n : ℕ) (r : List ℕ) (b′ : Buffers) → JobReplies g m ws hs b n r b′
-      → (a : JobAnswer) × Answers g (frameValues m) ws hs b a b′ × FiguresReply (answerOutcome a) n r
+      → (a : FiguresAnswer) × Answers g (frameValues m) ws hs b a b′ × FiguresReply (answerOutcome a) n r
   replied-answers b n r b′ p =
       let o = figuresOnly (jobOf g (frameValues m) ws hs (shortest b)) in
       (answerOf o, (says-outcome o, p .1), replies-as (sym (says-outcome o)) (p .0))
 
   pub replied-figured : (n : ℕ) (r : List ℕ) → FiguresReplies g m ws hs n r
-      → (a : JobAnswer) × Figured g (frameValues m) ws hs a × FiguresReply (answerOutcome a) n r
+      → (a : FiguresAnswer) × Figured g (frameValues m) ws hs a × FiguresReply (answerOutcome a) n r
   replied-figured n r p =
       let o = figuresOnly (jobOf g (frameValues m) ws hs (length ws)) in
       (answerOf o, says-outcome o, replies-as (sym (says-outcome o)) p)

@@ -1,5 +1,5 @@
 // The arrays that a program in C lends, read as lines and written as replies.
-use job::JobAnswer;
+use job::FiguresAnswer;
 use limits::class::Class;
 use limits::class::ClassAnswer;
 use limits::frame::FrameValues;
@@ -43,15 +43,15 @@ pub fn frame_values(l: &[u64; 5]) -> FrameValues
 }
 
 // Place; V, V_M, V*, V_D in N and T in ms, zeros where data is refused.
-pub fn put_figures(out: &mut [u64; 6], a: JobAnswer) -> u64
+pub fn put_figures(out: &mut [u64; 6], a: FiguresAnswer) -> u64
     ensures { λ n. ⌜ FiguresReply (answerOutcome a) n (now (out .exit)) ⌝ }
 {
     match a {
-        JobAnswer::Taken(n) => {
+        FiguresAnswer::Taken(n) => {
             *out = [0, n.v, n.vm, n.star, n.vd, n.t];
             0
         }
-        JobAnswer::Refused(r) => {
+        FiguresAnswer::Refused(r) => {
             *out = [r.place, 0, 0, 0, 0, 0];
             r.number
         }

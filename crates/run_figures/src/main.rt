@@ -1,5 +1,5 @@
 // Document 01's 'Figures to hold it to': each beside the figure that the document states.
-use job::JobAnswer;
+use job::FiguresAnswer;
 use libc::STDOUT_FILENO;
 use limits::class::Class;
 use limits::frame::FrameValues;
@@ -181,7 +181,7 @@ fn sheet(
         shears,
         overturnings,
     );
-    let JobAnswer::Taken(f) = a else {
+    let FiguresAnswer::Taken(f) = a else {
         return;
     };
     hold(b"V", f.v, 909_708);

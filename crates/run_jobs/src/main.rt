@@ -8,7 +8,7 @@ use fields::LISTED;
 use fields::OLD;
 use fields::SITE;
 use fields::WEIGHT_COUNT;
-use job::JobAnswer;
+use job::FiguresAnswer;
 use libc::STDIN_FILENO;
 use libc::STDOUT_FILENO;
 use limits::frame::FrameValues;
@@ -69,9 +69,9 @@ fn number_said(n: u64) {
     io::print_decimal(STDOUT_FILENO, n);
 }
 
-fn answer_said(a: JobAnswer) {
+fn answer_said(a: FiguresAnswer) {
     match a {
-        JobAnswer::Taken(f) => {
+        FiguresAnswer::Taken(f) => {
             io::write_all(STDOUT_FILENO, b"taken");
             number_said(f.v);
             number_said(f.vm);
@@ -79,7 +79,7 @@ fn answer_said(a: JobAnswer) {
             number_said(f.vd);
             number_said(f.t);
         }
-        JobAnswer::Refused(r) => {
+        FiguresAnswer::Refused(r) => {
             io::write_all(STDOUT_FILENO, b"refused");
             number_said(r.number);
             number_said(r.place);

@@ -1,6 +1,6 @@
 // One job with class 2, 3 and 2 again: the first and the third run agree, and the second is that of a fresh run.
 use base_shear::Figures;
-use job::JobAnswer;
+use job::FiguresAnswer;
 use job::figures::figures;
 use libc::STDOUT_FILENO;
 use limits::class::Class;
@@ -32,7 +32,7 @@ fn run(class: u64) -> Figures {
     let heights = [300];
     let ground = GroundValues::Site(site);
     let a = figures(ground, frame, &weights, &heights);
-    let JobAnswer::Taken(f) = a else {
+    let FiguresAnswer::Taken(f) = a else {
         return Figures {
             v: 0,
             vm: 0,

@@ -20,7 +20,7 @@ use Rattle.limits.specs.Ranges.{inRange, within}
 use Rattle.limits.proofs.Accepted.{given-allowed}
 use Rattle.limits.proofs.Room.{room-enough}
 use Rattle.base_shear.specs.declared.Figures.{Figures}
-use Rattle.job.specs.declared.JobAnswer.the-variants.{Taken, Refused}
+use Rattle.job.specs.declared.FiguresAnswer.the-variants.{Taken, Refused}
 use Rattle.job.specs.Job.{Results, resultsAt, jobOf, Buffers, Answers}
 use Rattle.job.proofs.Answered.{taken-accepted, refused-judged}
 use Rattle.job.proofs.Independent.{forces-cells, shears-cells, overturnings-cells, taken-written}

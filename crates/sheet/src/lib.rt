@@ -1,5 +1,5 @@
 // A sheet: how it is read, and the listing that it gets.
-use job::JobAnswer;
+use job::FiguresAnswer;
 use job::job;
 use limits::frame::FrameValues;
 use limits::ground::GroundValues;
@@ -51,7 +51,7 @@ pub fn put_job(
         &mut shears,
         &mut overturnings,
     );
-    let JobAnswer::Taken(figures) = a else {
+    let FiguresAnswer::Taken(figures) = a else {
         let refusal = a.refusal();
         let length = put_refusal(out, refusal);
         return Put { length, refusal };

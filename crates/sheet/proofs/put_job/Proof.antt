@@ -7,8 +7,8 @@ use lib.ListN.{length}
 use Rattle.limits.specs.declared.refusal.Refusal.{Refusal}
 use Rattle.limits.specs.Outcome.{refused}
 use Rattle.limits.proofs.Stages.{yielded}
-use Rattle.job.specs.declared.JobAnswer.{JobAnswer}
-use Rattle.job.specs.declared.JobAnswer.the-variants.{Taken}
+use Rattle.job.specs.declared.FiguresAnswer.{FiguresAnswer}
+use Rattle.job.specs.declared.FiguresAnswer.the-variants.{Taken}
 use Rattle.job.specs.Job.{answerOutcome, Buffers, Answers}
 use Rattle.sheet.proofs.JobAnswered.{lent, few, refused-outcome, forces-cut, shears-cut, overturnings-cut, cut-levelled, cut, taken-outcome}
 use Rattle.sheet.proofs.Listings.{puts-refused, puts-results}
@@ -23,7 +23,7 @@ taken : (c : tie.After-a)
     → Answers (c .before .before .before .before .before .before .before .before .before .before .before .before .args .ground) (c .before .before .before .before .before .before .before .before .before .before .before .before .args .frame) (c .before .before .before .before .before .before .before .before .before .before .before .before .args .weights .now) (c .before .before .before .before .before .before .before .before .before .before .before .before .args .heights .now) lent (Taken (c .a .given .0 .0)) (held (c .before .before .before .before .before))
 taken c =
     let g = c .before .before .before .before .before .before .before .before .before .before .before .before .args in
-    subst (λ (x : JobAnswer). Answers (g .ground) (g .frame) (g .weights .now) (g .heights .now) lent x (held (c .before .before .before .before .before))) (c .a .given .1) (c .before .before .before .before .before .job .ensures)
+    subst (λ (x : FiguresAnswer). Answers (g .ground) (g .frame) (g .weights .now) (g .heights .now) lent x (held (c .before .before .before .before .before))) (c .a .given .1) (c .before .before .before .before .before .job .ensures)
 
 few-levels : (c : tie.After-a) → length (c .before .before .before .before .before .before .before .before .before .before .before .before .args .weights .now) ≤ 50
 few-levels c = let g = c .before .before .before .before .before .before .before .before .before .before .before .before .args in few (g .ground) (g .frame) (g .weights .now) (g .heights .now) _ _ (taken c)
@@ -61,7 +61,7 @@ returns c =
     let g = b .args in
     let h = held (c .before .before .before .before .before .before .before .before .before .before) in
     let told = c .before .before .before .before .before .enum-told .given .1 in
-    let answer = subst (λ (x : JobAnswer). Answers (g .ground) (g .frame) (g .weights .now) (g .heights .now) lent x h) told (c .before .before .before .before .before .before .before .before .before .before .job .ensures) in
+    let answer = subst (λ (x : FiguresAnswer). Answers (g .ground) (g .frame) (g .weights .now) (g .heights .now) lent x h) told (c .before .before .before .before .before .before .before .before .before .before .job .ensures) in
     let same = yielded answerOutcome _ _ told refl (c .before .before .before .before .refusal .ensures) in
     puts-refused _ (refused-outcome (g .ground) (g .frame) (g .weights .now) (g .heights .now) _ h answer ∙ sym (ap (λ (x : Refusal). refused (x .number) (x .place)) same)) (c .before .before .put-refusal .ensures)
 

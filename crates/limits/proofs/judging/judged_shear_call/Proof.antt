@@ -1,0 +1,45 @@
+-- `limits::judging::judged_shear_call` meets its contract. Assumes nothing.
+use borrow.Author.Needs.{needs}
+use mathlib.Core.Path.{refl}
+use Rattle.limits.proofs.Stages.{says, stopped}
+use Rattle.limits.specs.Judging.{judgedShearCall}
+use Rattle.limits.specs.Outcome.{verdictOutcome}
+use Rattle.limits.proofs.judging.judged_shear_call.Statement.{statement}
+use Rattle.limits.proofs.judging.judged_shear_call.Tie as tie
+
+judged-requires : tie.Need-judged-requires
+judged-requires c κs = search needs
+
+enum-told : tie.Need-enum-told
+enum-told c = search needs
+
+enum-told-2 : tie.Need-enum-told-2
+enum-told-2 c = search needs
+
+refusal-requires : tie.Need-refusal-requires
+refusal-requires c κs = search needs
+
+returns : tie.Need-returns
+unfolding judgedShearCall
+returns c =
+    simp (stopped verdictOutcome _ _ (c .before .before .before .judged .ensures) (c .before .enum-told2 .given .1) refl (c .refusal .ensures))
+
+judged-given-requires : tie.Need-judged-given-requires
+judged-given-requires c κs = search needs
+
+returns-2 : tie.Need-returns-2
+unfolding judgedShearCall
+returns-2 c =
+    simp (says verdictOutcome (c .before .before .before .judged .ensures) (c .before .enum-told .given .1)) (c .judged-given .ensures)
+
+pub judged-shear-call-spec : {M : Type 1} → statement M
+judged-shear-call-spec =
+    tie.close
+    (tie.spec
+    judged-requires
+    enum-told
+    enum-told-2
+    refusal-requires
+    returns
+    judged-given-requires
+    returns-2)
