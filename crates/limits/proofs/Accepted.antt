@@ -169,7 +169,7 @@ top-last (a ∷ (b ∷ hs)) h =
     top-last (b ∷ hs) (omega arith)
     ∙ ap (λ (n : ℕ). getD (a ∷ (b ∷ hs)) n 0) (let e : suc (length (b ∷ hs) - 1) ≡ length (a ∷ (b ∷ hs)) - 1 = omega arith in e)
 
-top-allowed : (ws hs : List ℕ) → AllowedLevels ws hs → (1 ≤ topHeight hs) × (topHeight hs ≤ 2_000)
+pub top-allowed : (ws hs : List ℕ) → AllowedLevels ws hs → (1 ≤ topHeight hs) × (topHeight hs ≤ 2_000)
 top-allowed ws hs l =
     let n : 0 < length hs = omega (arith, l .same, l .some) in
     let t = l .heights (length hs - 1) (omega arith) in

@@ -14,7 +14,7 @@ use Rattle.limits.specs.Levels.{judgedLevel}
 use Rattle.limits.specs.Outcome.{accepted}
 use Rattle.limits.specs.Ranges.{inRange, within}
 
-range-passes : (least most x n p : ℕ) → (least ≤ x) × (x ≤ most) → within least most x n p ≡ accepted tt
+pub range-passes : (least most x n p : ℕ) → (least ≤ x) × (x ≤ most) → within least most x n p ≡ accepted tt
 unfolding within inRange
 range-passes least most x n p h = simp (le-leb least x (h .0), le-leb x most (h .1))
 

@@ -2,10 +2,10 @@
 -- that applies .., at its lowest place'. An accepted job is one to which none applies. Where both levels have one pair of near-fault
 -- factors, 6 is at place 1 or 2.
 -- Assumes nothing.
-use mathlib.Core.Path.{_≡_, ap, subst}
+use mathlib.Core.Path.{_≡_}
 use mathlib.Core.List.{List}
-use mathlib.Core.Logic.{_⊎_, inl, inr, ⊎-elim}
-use Prim.Native.Nat.{ℕ, _+_, _≤_}
+use mathlib.Core.Logic.{_⊎_, ⊎-elim}
+use Prim.Native.Nat.{ℕ, _≤_}
 use native.Mathlib.Omega.{arith}
 use Rattle.limits.specs.declared.frame.FrameValues.{FrameValues}
 use Rattle.limits.specs.declared.judging.Given.{Given}
@@ -13,51 +13,42 @@ use Rattle.limits.specs.declared.ground.GroundValues.{GroundValues}
 use Rattle.limits.specs.declared.ground.GroundValues.the-variants.{Site, Basin}
 use Rattle.limits.specs.declared.site.SiteValues.{SiteValues}
 use Rattle.limits.specs.Applies.{OutOf, na-design, Applies, of-levels, of-ground, of-frame}
-use Rattle.limits.specs.Frame.{judgedFrame}
-use Rattle.limits.specs.Ground.{judgedGround}
 use Rattle.limits.specs.Judging.{judgedJob}
 use Rattle.limits.specs.Levels.{judgedLevels}
-use Rattle.limits.specs.Order.{rank, InOrder, NoLater}
+use Rattle.limits.specs.Order.{InOrder, NoLater}
 use Rattle.limits.specs.Outcome.{accepted, refused}
-use Rattle.limits.proofs.Precedence.{Stops, up-to-yields, stopped-number, stopped-place, first-stops, later-stops, bound-stops, value-stops}
-use Rattle.limits.proofs.Ascending.{lowest-first, zone-between}
+use Rattle.limits.proofs.Precedence.{Stops, first-stops}
+use Rattle.limits.proofs.Ascending.{lowest-first, lowest-or-zone}
+use Rattle.limits.proofs.First as first
+use Rattle.limits.proofs.GivenStage.{ground-after, frame-after}
 use Rattle.limits.proofs.InOrder.{in-order}
 use Rattle.limits.proofs.LevelsStage.{levels-up-to, levels-stop}
-use Rattle.limits.proofs.GroundStage.{ground-up-to, ground-stops, ground-later}
-use Rattle.limits.proofs.FrameStage.{frame-stops, frame-later}
-use Rattle.limits.proofs.Places.{numbered, numbered-basin, named, one-pair-place, not-above}
-use Rattle.limits.proofs.Refusing.{refused-applies}
+use Rattle.limits.proofs.Places.{numbered, numbered-basin, named, one-pair-place}
+use Rattle.limits.proofs.Refusing.{job-told, refused-applies}
 
 module _ (s : GroundValues) (f : FrameValues) (ws hs : List ℕ) (room : ℕ) where
   -- where a refusal applies, the job is given it or one that comes no later: the stages before its own have numbers that are judged
   -- before it
-  stops : (n q : ℕ) → Applies s f ws hs room n q → Stops n q (judgedJob s f ws hs room)
+  pub stops : (n q : ℕ) → Applies s f ws hs room n q → Stops n q (judgedJob s f ws hs room)
   unfolding judgedJob
   stops n q (of-levels a) = first-stops n q (judgedLevels ws hs room) _ (levels-stop ws hs room n q a)
-  stops n q (of-ground a) =
-      later-stops n q (judgedLevels ws hs room) _
-      (up-to-yields 4 n q (judgedLevels ws hs room) (levels-up-to ws hs room) (ground-later s n q a))
-      (λ _. bound-stops n q (judgedGround s) _ (ground-stops s n q a))
-  stops n q (of-frame a) =
-      let after = frame-later f n q a in
-      later-stops n q (judgedLevels ws hs room) _
-      (up-to-yields 4 n q (judgedLevels ws hs room) (levels-up-to ws hs room) (omega (arith, after)))
-      (λ _. value-stops n q (judgedGround s) _ (up-to-yields 7 n q (judgedGround s) (ground-up-to s) after)
-      (λ ground. bound-stops n q (judgedFrame f) _ (frame-stops f n q a)))
+  stops n q (of-ground a) = ground-after s f (judgedLevels ws hs room) (levels-up-to ws hs room) n q a
+  stops n q (of-frame a) = frame-after s f (judgedLevels ws hs room) (levels-up-to ws hs room) n q a
+
+  abbrev A : ℕ → ℕ → Type 0
+  A = Applies s f ws hs room
 
   -- the first number that applies is given
-  pub first-number : (n p m q : ℕ) → judgedJob s f ws hs room ≡ refused n p → Applies s f ws hs room m q → NoLater n m
-  first-number n p m q e a = stopped-number m q n p (subst (Stops m q) e (stops m q a))
+  pub first-number : (n p m q : ℕ) → judgedJob s f ws hs room ≡ refused n p → A m q → NoLater n m
+  first-number = first.first-number A (judgedJob s f ws hs room) stops
 
   -- at its lowest place
-  pub lowest-place : (n p q : ℕ) → judgedJob s f ws hs room ≡ refused n p → Applies s f ws hs room n q → p ≤ q
-  lowest-place n p q e a =
-      not-above n p q (named (refused-applies s f ws hs room n p e)) (named a)
-      (λ i z. stopped-place n i p (subst (Stops n (1 + i)) e (stops n (1 + i) (subst (Applies s f ws hs room n) z a))) .1)
+  pub lowest-place : (n p q : ℕ) → judgedJob s f ws hs room ≡ refused n p → A n q → p ≤ q
+  lowest-place = first.lowest-place A (judgedJob s f ws hs room) stops 3 6 (λ n p. named) (job-told s f ws hs room)
 
   -- nothing is accepted to which a refusal applies
-  pub accepted-none : (g : Given) (n p : ℕ) → judgedJob s f ws hs room ≡ accepted g → Applies s f ws hs room n p → ⊥
-  accepted-none g n p e a = subst (Stops n p) e (stops n p a)
+  pub accepted-none : (g : Given) (n p : ℕ) → judgedJob s f ws hs room ≡ accepted g → A n p → ⊥
+  accepted-none = first.accepted-none A (judgedJob s f ws hs room) stops
 
 -- on a site with one pair of near-fault factors for both levels, 6 is given at place 1 or 2; where N_A is out of its range, at 1
 module _ (s : SiteValues) (f : FrameValues) (ws hs : List ℕ) (room p : ℕ) (e : judgedJob (Site s) f ws hs room ≡ refused 6 p) where
@@ -96,18 +87,4 @@ module _ (z : ℕ) (f : FrameValues) (ws hs : List ℕ) (room n p m q : ℕ) whe
       → (n ≤ m) ⊎ ((n ≡ 18) × (8 ≤ m))
   lowest-in-basin e a =
       let h = first-number (Basin z) f ws hs room n p m q e a in
-      of-both h (numbered-basin (refused-applies (Basin z) f ws hs room n p e)) (numbered-basin a)
-    where
-      Numbered : ℕ → Type 0
-      Numbered k = ((1 ≤ k) × (k ≤ 4)) ⊎ ((k ≡ 18) ⊎ ((8 ≤ k) × (k ≤ 12)))
-
-      of-both : NoLater n m → Numbered n → Numbered m → (n ≤ m) ⊎ ((n ≡ 18) × (8 ≤ m))
-      of-both h (inl low) (inl other) = inl (lowest-first n m (omega arith) (omega arith) h)
-      of-both h (inl low) (inr (inl e)) = inl (omega arith)
-      of-both h (inl low) (inr (inr other)) = inl (omega arith)
-      of-both h (inr (inl e)) (inl other) = absurd (let k = zone-between .0 m other in omega (arith, ap rank e))
-      of-both h (inr (inl e)) (inr (inl other)) = inl (omega arith)
-      of-both h (inr (inl e)) (inr (inr other)) = inr (e, other .0)
-      of-both h (inr (inr high)) (inl other) = inl (lowest-first n m (omega arith) (omega arith) h)
-      of-both h (inr (inr high)) (inr (inl e)) = inl (omega arith)
-      of-both h (inr (inr high)) (inr (inr other)) = inl (lowest-first n m (omega arith) (omega arith) h)
+      lowest-or-zone n m h (numbered-basin (refused-applies (Basin z) f ws hs room n p e)) (numbered-basin a)

@@ -5,6 +5,7 @@ pub mod Lists
 pub mod Unique
 pub mod Accepted
 pub mod Built
+pub mod AcceptedCalls
 pub mod Reading
 pub mod GivenApplies
 pub mod Precedence
@@ -18,5 +19,11 @@ pub mod LevelsStage
 pub mod SiteStage
 pub mod GroundStage
 pub mod FrameStage
+pub mod First
+pub mod GivenStage
 pub mod Foremost
+pub mod BuildingStage
+pub mod HandedStage
+pub mod ForemostShearCall
+pub mod ForemostDistribution
 pub mod Room

@@ -26,6 +26,10 @@ pub then-passed : {B : Type 0} {b : B} (o : Outcome Done) (q : Outcome B) → (o
 then-passed (accepted u) q e = (refl, e)
 then-passed (refused n p) q e = absurd (never e)
 
+pub then-done : (o : Outcome Done) → (o >> accepted tt) ≡ o
+then-done (accepted u) = refl
+then-done (refused n p) = refl
+
 pub bind-passed : {A B : Type 0} {b : B} (o : Outcome A) (f : A → Outcome B) → (o >>= f) ≡ accepted b
     → (a : A) × (o ≡ accepted a) × (f a ≡ accepted b)
 bind-passed (accepted a) f e = (a, refl, e)

@@ -1,4 +1,5 @@
--- The refusals of a job are 1 to 12, and 18 in place of 5 to 7; which of them name a place: 3 to 6 do, the others have place 0. Where both
+-- The refusals of a job are 1 to 12, and 18 in place of 5 to 7; which of them name a place: 3 to 6 do, the others have place 0. The shear call
+-- has 3 to 12, or 3, 4, 18 and 8 to 12, and 5 and 6 name a place; the distribution has 1 to 4, 19 and 20, and 3 and 4 name one. Where both
 -- levels have one pair of near-fault factors, 6 applies at place 1 or 2 wherever it applies.
 -- Assumes nothing.
 use mathlib.Core.Path.{_≡_, refl, subst}
@@ -10,10 +11,17 @@ use Rattle.limits.specs.declared.frame.FrameValues.{FrameValues}
 use Rattle.limits.specs.declared.ground.GroundValues.{GroundValues}
 use Rattle.limits.specs.declared.ground.GroundValues.the-variants.{Site, Basin}
 use Rattle.limits.specs.declared.site.SiteValues.{SiteValues}
-use Rattle.limits.specs.Applies.{OutOf, count, lists, buffer, weight, height, rising, LevelsApply, of-count, of-lengths, of-weights, of-heights, SiteApplies, ss-design, s1-design, ss-mce, s1-mce, na-design, nv-design, na-mce, nv-mce, class, ZoneApplies, zone, GroundApplies, FrameApplies, r, i, alpha, kind, period, Applies, of-levels, of-ground, of-frame}
+use Rattle.limits.specs.Applies.{OutOf, count, lists, buffer, weight, height, rising, LevelsApply, of-count, of-lengths, of-weights, of-heights, SiteApplies, ss-design, s1-design, ss-mce, s1-mce, na-design, nv-design, na-mce, nv-mce, class, ZoneApplies, zone, GroundApplies, FrameApplies, r, i, alpha, kind, period, BuildingApplies, total, top, HandedApplies, base-shear, in-use, Applies, of-levels, of-ground, of-frame}
+use Rattle.limits.specs.DistributionApplies.{DistributionApplies, of-levels as on-levels, of-handed as on-handed}
+use Rattle.limits.specs.ShearCallApplies.{ShearCallApplies, of-building, of-ground as call-ground, of-frame as call-frame}
+use Rattle.limits.proofs.Ascending.{OfBasin, OfDistribution}
+
+-- the numbers from lo to hi name a place
+abbrev pub NamedIn : ℕ → ℕ → ℕ → ℕ → Type 0
+NamedIn lo hi n p = ((lo ≤ n) × (n ≤ hi) × (1 ≤ p)) ⊎ (((n < lo) ⊎ (hi < n)) × (p ≡ 0))
 
 abbrev pub Named : ℕ → ℕ → Type 0
-Named n p = ((3 ≤ n) × (n ≤ 6) × (1 ≤ p)) ⊎ (((n < 3) ⊎ (6 < n)) × (p ≡ 0))
+Named = NamedIn 3 6
 
 named-levels : {ws hs : List ℕ} {room n p : ℕ} → LevelsApply ws hs room n p → Named n p
 named-levels (of-count (count o)) = inr (inl (omega arith), refl)
@@ -83,11 +91,52 @@ numbered (of-ground a) = let h = numbered-site a in omega arith
 numbered (of-frame a) = let h = numbered-frame a in omega arith
 
 -- of a job in the Basin
-pub numbered-basin : {z : ℕ} {f : FrameValues} {ws hs : List ℕ} {room n p : ℕ} → Applies (Basin z) f ws hs room n p
-    → ((1 ≤ n) × (n ≤ 4)) ⊎ ((n ≡ 18) ⊎ ((8 ≤ n) × (n ≤ 12)))
+pub numbered-basin : {z : ℕ} {f : FrameValues} {ws hs : List ℕ} {room n p : ℕ} → Applies (Basin z) f ws hs room n p → OfBasin n
 numbered-basin (of-levels a) = inl (numbered-levels a)
 numbered-basin (of-ground (zone o)) = inr (inl refl)
 numbered-basin (of-frame a) = inr (inr (numbered-frame a))
+
+-- of the shear call: its 3 and 4 name no place
+numbered-building : {W h n p : ℕ} → BuildingApplies W h n p → (3 ≤ n) × (n ≤ 4) × (p ≡ 0)
+numbered-building (total o) = (omega arith, omega arith, refl)
+numbered-building (top o) = (omega arith, omega arith, refl)
+
+from-five : (n p : ℕ) → Named n p → 5 ≤ n → NamedIn 5 6 n p
+from-five n p (inl h) l = inl (omega arith)
+from-five n p (inr (inl h, e)) l = absurd (let z : ⊥ = omega arith in z)
+from-five n p (inr (inr h, e)) l = inr (inr h, e)
+
+five-ground : (s : GroundValues) (n p : ℕ) → GroundApplies s n p → 5 ≤ n
+five-ground (Site s) n p a = numbered-site a .0
+five-ground (Basin z) n p (zone o) = omega arith
+
+pub named-call : {s : GroundValues} {f : FrameValues} {W h n p : ℕ} → ShearCallApplies s f W h n p → NamedIn 5 6 n p
+named-call (of-building a) = let h = numbered-building a in inr (inl (omega arith), h .2)
+named-call {s = s} (call-ground a) = from-five _ _ (named-ground s a) (five-ground s _ _ a)
+named-call (call-frame a) = from-five _ _ (named-frame a) (let h = numbered-frame a in omega arith)
+
+pub numbered-call : {s : SiteValues} {f : FrameValues} {W h n p : ℕ} → ShearCallApplies (Site s) f W h n p → (3 ≤ n) × (n ≤ 12)
+numbered-call (of-building a) = let h = numbered-building a in omega arith
+numbered-call (call-ground a) = let h = numbered-site a in omega arith
+numbered-call (call-frame a) = let h = numbered-frame a in omega arith
+
+pub numbered-basin-call : {z : ℕ} {f : FrameValues} {W h n p : ℕ} → ShearCallApplies (Basin z) f W h n p → OfBasin n
+numbered-basin-call (of-building a) = let h = numbered-building a in inl (omega arith)
+numbered-basin-call (call-ground (zone o)) = inr (inl refl)
+numbered-basin-call (call-frame a) = inr (inr (numbered-frame a))
+
+-- of the distribution
+numbered-handed : {v t n p : ℕ} → HandedApplies v t n p → (19 ≤ n) × (n ≤ 20) × (p ≡ 0)
+numbered-handed (base-shear o) = (omega arith, omega arith, refl)
+numbered-handed (in-use o) = (omega arith, omega arith, refl)
+
+pub named-distribution : {v t : ℕ} {ws hs : List ℕ} {room n p : ℕ} → DistributionApplies v t ws hs room n p → Named n p
+named-distribution (on-levels a) = named-levels a
+named-distribution (on-handed a) = let h = numbered-handed a in inr (inr (omega arith), h .2)
+
+pub numbered-distribution : {v t : ℕ} {ws hs : List ℕ} {room n p : ℕ} → DistributionApplies v t ws hs room n p → OfDistribution n
+numbered-distribution (on-levels a) = inl (numbered-levels a)
+numbered-distribution (on-handed a) = let h = numbered-handed a in inr (h .0, h .1)
 
 -- where both levels have one pair of near-fault factors
 module _ (s : SiteValues) (na-same : s .nam ≡ s .nad) (nv-same : s .nvm ≡ s .nvd) where
@@ -109,8 +158,8 @@ module _ (s : SiteValues) (na-same : s .nam ≡ s .nad) (nv-same : s .nvm ≡ s 
   one-pair-place (of-frame a) = absurd (let h = numbered-frame a in let z : ⊥ = omega arith in z)
 
 -- where a number has place 0 it has no other
-pub not-above : (n p q : ℕ) → Named n p → Named n q → ((k : ℕ) → q ≡ 1 + k → p ≤ 1 + k) → p ≤ q
-not-above n p zero a b f =
+pub not-above : (lo hi n p q : ℕ) → NamedIn lo hi n p → NamedIn lo hi n q → ((k : ℕ) → q ≡ 1 + k → p ≤ 1 + k) → p ≤ q
+not-above lo hi n p zero a b f =
     ⊎-elim (λ x. ⊎-elim (λ y. absurd (omega arith)) (λ y. ⊎-elim (λ l. absurd (omega arith)) (λ l. absurd (omega arith)) (y .0)) b)
     (λ x. omega arith) a
-not-above n p (suc k) a b f = let h = f k (omega arith) in omega arith
+not-above lo hi n p (suc k) a b f = let h = f k (omega arith) in omega arith

@@ -1,10 +1,13 @@
--- What is known of a job that was judged: the ranges of 'Numbers and their ranges' that the calculation goes by.
+-- What is known of what was judged, of a job or of one of the two calls: the ranges of 'Numbers and their ranges' that the calculation goes by.
 --   AllowedSite s         mapped values and near-fault factors in 0.01
 --   AllowedGround g       of a site these; of a zone nothing is left to say
 --   AllowedFrame f        R, I, alpha-y in 0.01, the calculated period in ms
 --   AllowedLevels ws hs   1 to 50 levels, weights in kN, heights in dm that rise strictly
 --   AllowedGiven g ws hs  a judged ground and frame with such levels, and the top height
--- That what is accepted is so: proofs/Accepted.antt.
+--   AllowedBuilding W h   a total weight in kN, a top height in dm
+--   AllowedShearCall g W h    a judged ground and frame with such a building
+--   AllowedHanded v t     a base shear in N, a period in ms
+-- That what is accepted is so: proofs/Accepted.antt, AcceptedCalls.antt.
 use mathlib.Core.Path.{_≡_}
 use mathlib.Core.List.{List}
 use Prim.Native.Nat.{ℕ, _+_, _≤_, _<_}
@@ -49,3 +52,16 @@ pub record AllowedGiven (g : Given) (ws hs : List ℕ) : Type 0 where
   pub frame : AllowedFrame (g .frame)
   pub levels : AllowedLevels ws hs
   pub top : (1 ≤ topHeight hs) × (topHeight hs ≤ 2_000)
+
+pub record AllowedBuilding (W h : ℕ) : Type 0 where
+  pub weight : (1 ≤ W) × (W ≤ 1_000_000)
+  pub top : (1 ≤ h) × (h ≤ 2_000)
+
+pub record AllowedShearCall (g : Given) (W h : ℕ) : Type 0 where
+  pub ground : AllowedGround (g .ground)
+  pub frame : AllowedFrame (g .frame)
+  pub building : AllowedBuilding W h
+
+pub record AllowedHanded (v t : ℕ) : Type 0 where
+  pub shear : (1 ≤ v) × (v ≤ 1_200_000_000)
+  pub period : t ≤ 9_999

@@ -1,5 +1,6 @@
--- When each refusal of a job applies: 'What comes back when data is bad', 1 to 12 and 18, part by part. In each part refusal n applies at place p.
--- Level x, from 0, has place 1 + x.
+-- When each refusal of a job, of the shear call and of the distribution applies: 'What comes back when data is bad', 1 to 12 and 18 to 20,
+-- part by part, and of a job as a whole; of the two calls in ShearCallApplies.antt and DistributionApplies.antt. In each part refusal n
+-- applies at place p. Level x, from 0, has place 1 + x.
 --   OutOf least most x           x is not from least to most
 --   NotListed vs x               x is none of the values
 --   CountApplies ws n p          1: the list has no level, or over 50
@@ -11,6 +12,8 @@
 --   ZoneApplies z n p            18: of a zone of the Taipei Basin
 --   GroundApplies s n p          of a ground s: 5 to 7 of a site, 18 of a zone
 --   FrameApplies f n p           8 to 12: of a frame
+--   BuildingApplies W h n p      3 and 4 of the shear call: a total weight, a top height
+--   HandedApplies v t n p        19 and 20: a base shear and a period that are handed in
 --   Applies s f ws hs room n p   of a job: of its levels, its ground or its frame
 use mathlib.Core.Path.{_≡_}
 use mathlib.Core.List.{List, [], _∷_}
@@ -74,6 +77,14 @@ pub data FrameApplies (f : FrameValues) : ℕ → ℕ → Type 0 where
   alpha : OutOf 100 200 (f .alpha) → FrameApplies f 10 0
   kind : NotListed (1 ∷ 2 ∷ 3 ∷ 4 ∷ []) (f .kind) → FrameApplies f 11 0
   period : (f .calculated ≡ 0 → ⊥) → OutOf 1 60_000 (f .calculated) → FrameApplies f 12 0
+
+pub data BuildingApplies (W h : ℕ) : ℕ → ℕ → Type 0 where
+  total : OutOf 1 1_000_000 W → BuildingApplies W h 3 0
+  top : OutOf 1 2_000 h → BuildingApplies W h 4 0
+
+pub data HandedApplies (v t : ℕ) : ℕ → ℕ → Type 0 where
+  base-shear : OutOf 1 1_200_000_000 v → HandedApplies v t 19 0
+  in-use : OutOf 0 9_999 t → HandedApplies v t 20 0
 
 pub data Applies (s : GroundValues) (f : FrameValues) (ws hs : List ℕ) (room n p : ℕ) : Type 0 where
   of-levels : LevelsApply ws hs room n p → Applies s f ws hs room n p

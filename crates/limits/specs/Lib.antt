@@ -11,3 +11,5 @@ pub mod Frame
 pub mod Judging
 pub mod Allowed
 pub mod Applies
+pub mod ShearCallApplies
+pub mod DistributionApplies

@@ -1,0 +1,93 @@
+-- What the two calls accept is allowed; and the levels of a job are a building that the shear call takes: W and h of it are in range.
+-- Assumes nothing.
+use mathlib.Core.Path.{_≡_, subst}
+use mathlib.Core.List.{List}
+use Prim.Native.Nat.{ℕ, _≤_}
+use native.Mathlib.Nat.{mul-le-mul-right}
+use native.Mathlib.Omega.{arith}
+use lib.ListN.{length}
+use Rattle.whole.specs.Cells.{sum}
+use Rattle.whole.proofs.Sums.{sum-most, sum-step}
+use Rattle.limits.specs.declared.frame.FrameValues.{FrameValues}
+use Rattle.limits.specs.declared.ground.GroundValues.{GroundValues}
+use Rattle.limits.specs.declared.judging.Given.{Given}
+use Rattle.limits.specs.Allowed.{AllowedLevels, AllowedGiven, AllowedBuilding, AllowedShearCall, AllowedHanded}
+use Rattle.limits.specs.Building.{judgedTotal, judgedTop, judgedBuilding}
+use Rattle.limits.specs.Frame.{judgedFrame}
+use Rattle.limits.specs.Ground.{judgedGround}
+use Rattle.limits.specs.Handed.{judgedShear, judgedInUse, judgedHanded}
+use Rattle.limits.specs.Judging.{judgedGiven, judgedJob, judgedShearCall, judgedDistribution}
+use Rattle.limits.specs.Levels.{judgedLevels, topHeight}
+use Rattle.limits.specs.Outcome.{accepted}
+use Rattle.limits.proofs.Accepted.{ground-allowed, frame-allowed, levels-allowed, top-allowed}
+use Rattle.limits.proofs.Built.{range-passes}
+use Rattle.limits.proofs.Passed.{one-value, then-passed, then-done, bind-passed, within-passed}
+
+building-allowed : (W h : ℕ) → judgedBuilding W h ≡ accepted tt → AllowedBuilding W h
+unfolding judgedBuilding
+building-allowed W h e =
+    let b = then-passed (judgedTotal W) (judgedTop h) e in
+    record { weight = within-passed 1 1_000_000 W 3 0 (b .0); top = within-passed 1 2_000 h 4 0 (b .1) }
+
+pub shear-call-allowed : (s : GroundValues) (f : FrameValues) (W h : ℕ) (g : Given) → judgedShearCall s f W h ≡ accepted g
+    → AllowedShearCall g W h
+unfolding judgedShearCall
+shear-call-allowed s f W h g e =
+    let building = then-passed (judgedBuilding W h) (judgedGiven s f) e in
+    let ground = bind-passed (judgedGround s) _ (building .1) in
+    let frame = bind-passed (judgedFrame f) (λ y. accepted (record { ground = ground .0; frame = y })) (ground .2) in
+    let same : record { ground = ground .0; frame = frame .0 } ≡ g = one-value (frame .2) in
+    subst (λ (x : Given). AllowedShearCall x W h) same
+    (record {
+      ground = ground-allowed s (ground .0) (ground .1);
+      frame = frame-allowed f (frame .0) (frame .1);
+      building = building-allowed W h (building .0);
+    })
+
+pub distribution-allowed : (v t : ℕ) (ws hs : List ℕ) (room : ℕ) → judgedDistribution v t ws hs room ≡ accepted tt
+    → AllowedLevels ws hs × (length ws ≤ room) × AllowedHanded v t
+unfolding judgedDistribution judgedHanded
+distribution-allowed v t ws hs room e =
+    let levels = then-passed (judgedLevels ws hs room) (judgedHanded v t) e in
+    let handed = then-passed (judgedShear v) (judgedInUse t) (levels .1) in
+    let l = levels-allowed ws hs room (levels .0) in (
+      l .0,
+      l .1,
+      record { shear = within-passed 1 1_200_000_000 v 19 0 (handed .0); period = within-passed 0 9_999 t 20 0 (handed .1) .1 },
+    )
+
+-- ---- the levels of a job as a building: 50 levels of 20,000 kN are 1,000,000 kN
+pub levels-building : (ws hs : List ℕ) → AllowedLevels ws hs → AllowedBuilding (sum ws) (topHeight hs)
+levels-building ws hs l =
+    let least = l .weights 0 (l .some) in
+    record {
+      weight = (
+        omega (arith, sum-step ws 0 (l .some), least),
+        omega (arith, sum-most 20_000 ws (λ x h. l .weights x h .1), mul-le-mul-right 20_000 (l .few)),
+      );
+      top = top-allowed ws hs l;
+    }
+
+pub given-building : (g : Given) (ws hs : List ℕ) → AllowedGiven g ws hs → AllowedShearCall g (sum ws) (topHeight hs)
+given-building g ws hs a = record { ground = a .ground; frame = a .frame; building = levels-building ws hs (a .levels) }
+
+-- ---- and what is allowed is accepted
+pub building-passes : (W h : ℕ) → AllowedBuilding W h → judgedBuilding W h ≡ accepted tt
+unfolding judgedBuilding
+building-passes W h a = simp (range-passes 1 1_000_000 W 3 0 (a .weight), range-passes 1 2_000 h 4 0 (a .top))
+
+pub handed-passes : (v t : ℕ) → AllowedHanded v t → judgedHanded v t ≡ accepted tt
+unfolding judgedHanded
+handed-passes v t a = simp (range-passes 1 1_200_000_000 v 19 0 (a .shear), range-passes 0 9_999 t 20 0 (omega arith, a .period))
+
+-- ---- so a job is judged as the two calls are in turn: once its levels are accepted, as the shear call of their W and h
+pub judged-in-turn : (s : GroundValues) (f : FrameValues) (ws hs : List ℕ) (room : ℕ) → judgedLevels ws hs room ≡ accepted tt
+    → judgedJob s f ws hs room ≡ judgedShearCall s f (sum ws) (topHeight hs)
+unfolding judgedJob judgedShearCall
+judged-in-turn s f ws hs room e =
+    simp (e, building-passes (sum ws) (topHeight hs) (levels-building ws hs (levels-allowed ws hs room e .0)))
+
+-- as the distribution, of a base shear and a period in range
+pub judged-handed : (v t : ℕ) (ws hs : List ℕ) (room : ℕ) → AllowedHanded v t → judgedDistribution v t ws hs room ≡ judgedLevels ws hs room
+unfolding judgedDistribution
+judged-handed v t ws hs room a = simp (handed-passes v t a) (then-done (judgedLevels ws hs room))
