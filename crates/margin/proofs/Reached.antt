@@ -1,4 +1,4 @@
--- Demand 3 of all hazards within reach, whatever made them, and every allowed frame, in the unit in use.
+-- Demand 3, and its base part alone, of all hazards within reach, whatever made them, and every allowed frame, in the unit in use.
 -- Assumes nothing.
 use mathlib.Core.List.{List}
 use Prim.Native.Nat.{ℕ, _≤_, _<_}
@@ -12,12 +12,13 @@ use Rattle.response.specs.Unit.{unit}
 use Rattle.base_shear.specs.Ready.{Reached}
 use Rattle.base_shear.specs.Shears.{base}
 use Rattle.storeys.specs.Storeys.{weightHeight, shearUnder}
-use Rattle.storeys.proofs.Roof.{roof-at-most-one}
-use Rattle.margin.specs.Demand3.{Demand3}
-use Rattle.margin.proofs.Demand3.{demand3}
+use Rattle.margin.specs.Demand3.{BaseDemand3, Demand3}
+use Rattle.margin.proofs.Demand3.{base-demand3, demand3}
 
-pub demand3-reached : (k : Hazards) (f : Frame) (ws hs : List ℕ) (T : ℕ) → Reached k → AllowedFrame f → T ≤ periodMost
-    → 0 < weightHeight ws hs
-    → let v = base unit k f (sum ws) T in Demand3 unit k f ws hs T v (shearUnder T v ws hs)
-demand3-reached k f ws hs T c b t p =
-    demand3 unit k f ws hs T (c .shearing T t) (c .meeting) (omega (arith, b .alpha)) (c .star-least) (roof-at-most-one T) p
+module _ (k : Hazards) (f : Frame) (T : ℕ) (c : Reached k) (b : AllowedFrame f) (t : T ≤ periodMost) where
+  pub base-demand3-reached : (W : ℕ) → BaseDemand3 unit k f W T (base unit k f W T)
+  base-demand3-reached W = base-demand3 unit k f W T (c .shearing T t) (c .meeting) (omega (arith, b .alpha)) (c .star-least)
+
+  pub demand3-reached : (ws hs : List ℕ) → 0 < weightHeight ws hs
+      → let v = base unit k f (sum ws) T in Demand3 unit k f ws hs T v (shearUnder T v ws hs)
+  demand3-reached ws hs p = demand3 unit k f ws hs T (c .shearing T t) (c .meeting) (omega (arith, b .alpha)) (c .star-least) p

@@ -5,8 +5,12 @@
 --   allowed s k f W      the base shear's margin: six s-ths of I·W/(1.4·alpha-y), plus one newton
 --   allowedUnder s k f W    a storey's: that whole margin plus two newtons
 --   Numbers k f W T r    each of the three exact shears stands for a number
---   Demand3 s k f ws hs T v u    never below the exact figure, and above it by less than that margin, for a storey by less
+--   BaseDemand3 s k f W T v      of the base shear, with a total weight W: never below the exact figure, and above it by less than that margin
+--   StoreyDemand3 s k f W ws hs T u    of the storeys under a base shear of W: each likewise never below its exact figure, and above it by less
 --                                than that whole margin plus two newtons
+--   Demand3 s k f ws hs T v u    of both, W being the weights of all levels
+--   HandedDemand3 T v ws hs u    of a base shear v that is handed in: each storey shear is at least its exact figure from that number, and less
+--                                than two newtons above
 use mathlib.Core.List.{List}
 use Prim.Native.Nat.{ℕ, _<_}
 use lib.ListN.{length}
@@ -41,17 +45,25 @@ abbrev pub Numbers : Hazards → Frame → ℕ → ℕ → Roots → Type 0
 Numbers k f W T r =
     Number (exactShear k (k .design) f W T (r .v)) × Number (exactShear k (k .mce) f W T (r .vm)) × Number (exactStar k f W T (r .star))
 
+pub record BaseDemand3 (s : ℕ) (k : Hazards) (f : Frame) (W T v : ℕ) : Type 0 where
+  pub margin : Number (allowed s k f W)
+  pub lowered : (r : Roots) → Lowering k r → Numbers k f W T r
+  pub raised : (r : Roots) → Raising k r → Numbers k f W T r
+  pub never-below : (r : Roots) → Lowering k r → Number (exactBase k f W T r) × AtLeast v (exactBase k f W T r)
+  pub close : (r : Roots) → Raising k r → Number (exactBase k f W T r) × LessBy v (exactBase k f W T r) (allowed s k f W)
+
+pub record StoreyDemand3 (s : ℕ) (k : Hazards) (f : Frame) (W : ℕ) (ws hs : List ℕ) (T : ℕ) (u : ℕ → ℕ) : Type 0 where
+  pub never-below : (x : ℕ) → x < length ws → (r : Roots) → Lowering k r
+      → Number (exactShearUnder T ws hs (exactBase k f W T r) x) × AtLeast (u x) (exactShearUnder T ws hs (exactBase k f W T r) x)
+  pub close : (x : ℕ) → x < length ws → (r : Roots) → Raising k r
+      → Number (exactShearUnder T ws hs (exactBase k f W T r) x)
+      × LessBy (u x) (exactShearUnder T ws hs (exactBase k f W T r) x) (allowedUnder s k f W)
+
 pub record Demand3 (s : ℕ) (k : Hazards) (f : Frame) (ws hs : List ℕ) (T v : ℕ) (u : ℕ → ℕ) : Type 0 where
-  pub margin : Number (allowed s k f (sum ws))
-  pub lowered : (r : Roots) → Lowering k r → Numbers k f (sum ws) T r
-  pub raised : (r : Roots) → Raising k r → Numbers k f (sum ws) T r
-  pub never-below : (r : Roots) → Lowering k r
-      → Number (exactBase k f (sum ws) T r) × AtLeast v (exactBase k f (sum ws) T r)
-  pub close : (r : Roots) → Raising k r
-      → Number (exactBase k f (sum ws) T r) × LessBy v (exactBase k f (sum ws) T r) (allowed s k f (sum ws))
-  pub storey-never-below : (x : ℕ) → x < length ws → (r : Roots) → Lowering k r
-      → Number (exactShearUnder T ws hs (exactBase k f (sum ws) T r) x)
-      × AtLeast (u x) (exactShearUnder T ws hs (exactBase k f (sum ws) T r) x)
-  pub storey-close : (x : ℕ) → x < length ws → (r : Roots) → Raising k r
-      → Number (exactShearUnder T ws hs (exactBase k f (sum ws) T r) x)
-      × LessBy (u x) (exactShearUnder T ws hs (exactBase k f (sum ws) T r) x) (allowedUnder s k f (sum ws))
+  pub base : BaseDemand3 s k f (sum ws) T v
+  pub storeys : StoreyDemand3 s k f (sum ws) ws hs T u
+
+pub record HandedDemand3 (T v : ℕ) (ws hs : List ℕ) (u : ℕ → ℕ) : Type 0 where
+  pub never-below : (x : ℕ) → x < length ws
+      → Number (exactShearUnder T ws hs (over v 1) x) × AtLeast (u x) (exactShearUnder T ws hs (over v 1) x)
+  pub close : (x : ℕ) → x < length ws → LessBy (u x) (exactShearUnder T ws hs (over v 1) x) (over 2 1)
