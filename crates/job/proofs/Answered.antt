@@ -13,11 +13,11 @@ use Rattle.limits.proofs.Passed.{never, one-value}
 use Rattle.limits.proofs.Reading.{success, refusal}
 use Rattle.base_shear.specs.declared.Figures.{Figures}
 use Rattle.job.specs.declared.FiguresAnswer.the-variants.{Taken, Refused}
-use Rattle.job.specs.Job.{Results, givenFigures, resultsAt, jobOf, figuresOnly, five, answerOutcome, Buffers, shortest, written, Answers}
+use Rattle.job.specs.Distribution.{Buffers, shortest}
+use Rattle.job.specs.Job.{Results, givenFigures, resultsAt, jobOf, figuresOnly, written, Answers}
+use Rattle.job.specs.ShearCall.{five, answerOutcome}
 use Rattle.job.proofs.Stages.{job-refused, job-accepted}
-
-one-refusal : {A : Type 0} {n p m q : ℕ} → _≡_ {A = Outcome A} (refused n p) (refused m q) → (n ≡ m) × (p ≡ q)
-one-refusal e = (ap number e, ap place e)
+use Rattle.job.proofs.Unique.{one-refusal}
 
 module _ (s : GroundValues) (f : FrameValues) (ws hs : List ℕ) (b : Buffers) where
   -- of a taken answer: the judgments accept, n is what `givenFigures` gives, and each level's cells are written

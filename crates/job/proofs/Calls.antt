@@ -15,7 +15,9 @@ use Rattle.limits.specs.Outcome.{Outcome, accepted, refused}
 use Rattle.base_shear.specs.declared.Figures.{Figures}
 use Rattle.job.specs.declared.FiguresAnswer.{FiguresAnswer}
 use Rattle.job.specs.declared.FiguresAnswer.the-variants.{Taken, Refused}
-use Rattle.job.specs.Job.{jobOf, figuresOnly, answerOutcome, Buffers, shortest, written, Figured, Answers}
+use Rattle.job.specs.Distribution.{Buffers, shortest}
+use Rattle.job.specs.Job.{jobOf, figuresOnly, written, Figured, Answers}
+use Rattle.job.specs.ShearCall.{answerOutcome}
 
 abbrev pub answerOf : Outcome Figures → FiguresAnswer
 answerOf (accepted n) = Taken n

@@ -12,6 +12,7 @@ use Rattle.limits.specs.Judging.{judgedJob}
 use Rattle.limits.specs.Levels.{topHeight}
 use Rattle.limits.specs.Outcome.{accepted}
 use Rattle.limits.proofs.Accepted.{given-allowed}
+use Rattle.limits.proofs.AcceptedCalls.{given-building}
 use Rattle.response.specs.Period.{periodOf}
 use Rattle.response.specs.Unit.{unit}
 use Rattle.base_shear.specs.declared.Figures.{Figures}
@@ -21,7 +22,9 @@ use Rattle.margin.specs.Demand3.{Demand3}
 use Rattle.margin.proofs.Demand3.{of-cells}
 use Rattle.margin.proofs.Reached.{demand3-reached}
 use Rattle.job.specs.declared.FiguresAnswer.the-variants.{Taken}
-use Rattle.job.specs.Job.{givenHazards, givenFigures, Buffers, shortest, Answers}
+use Rattle.job.specs.Distribution.{Buffers, shortest}
+use Rattle.job.specs.Job.{givenFigures, Answers}
+use Rattle.job.specs.ShearCall.{givenHazards}
 use Rattle.job.proofs.Answered.{taken-accepted}
 use Rattle.job.proofs.Storeys.{shear-cell}
 use Rattle.job.proofs.GivenReached.{standing, given-reached, given-between}
@@ -33,7 +36,8 @@ pub demand3-accepted : (s : GroundValues) (f : FrameValues) (ws hs : List ℕ) (
 unfolding figuresAt
 demand3-accepted s f ws hs room g e =
     let a = given-allowed s f ws hs room g e .0 in
-    demand3-reached (givenHazards g) (g .frame) ws hs _ (given-reached g ws hs a) (a .frame) (given-between g ws hs a .3)
+    let b = given-building g ws hs a in
+    demand3-reached (givenHazards g) (g .frame) _ (given-reached g _ _ b) (a .frame) (given-between g _ _ b .3) ws hs
     (standing ws hs (a .levels) .positive)
 
 module _ (s : GroundValues) (f : FrameValues) (ws hs : List ℕ) (b : Buffers) where

@@ -5,9 +5,7 @@ use mathlib.Core.Path.{_≡_, sym, ap, _∙_}
 use mathlib.Core.List.{List}
 use Prim.Native.Nat.{ℕ, _≤_}
 use native.Mathlib.Nat.{le-refl}
-use lib.ListN.{length, take, drop}
-use Rattle.whole.specs.Cells.{cells, laid}
-use Rattle.whole.proofs.Cells.{cells-length, laid-part, laid-rest}
+use lib.ListN.{length, take}
 use Rattle.limits.specs.declared.frame.FrameValues.{FrameValues}
 use Rattle.limits.specs.declared.ground.GroundValues.{GroundValues}
 use Rattle.limits.specs.declared.judging.Given.{Given}
@@ -15,25 +13,13 @@ use Rattle.limits.specs.Outcome.{Outcome, accepted, _>>=_}
 use Rattle.limits.proofs.Accepted.{given-allowed}
 use Rattle.limits.proofs.Room.{room-enough}
 use Rattle.base_shear.specs.declared.Figures.{Figures}
-use Rattle.storeys.specs.Storeys.{shears, forces, overturning, overturnings}
-use Rattle.storeys.proofs.Chain.{shears-length, forces-length}
 use Rattle.job.specs.declared.FiguresAnswer.{FiguresAnswer}
 use Rattle.job.specs.declared.FiguresAnswer.the-variants.{Taken}
-use Rattle.job.specs.Job.{Results, resultsAt, resultsOf, jobOf, figuresOnly, Buffers, shortest, Figured, Answers}
+use Rattle.job.specs.Distribution.{Buffers, shortest}
+use Rattle.job.specs.Job.{Results, resultsAt, resultsOf, jobOf, figuresOnly, Figured, Answers}
 use Rattle.job.proofs.Answered.{taken-accepted}
+use Rattle.job.proofs.Columns.{Written, laid-written}
 use Rattle.job.proofs.Unique.{answer-unique}
-
--- ---- one cell a level
-module _ (n : Figures) (ws hs : List ℕ) where
-  pub shears-cells : length (resultsAt n ws hs .shears) ≡ length ws
-  shears-cells = shears-length (n .t) (n .vd) ws hs
-
-  pub forces-cells : length (resultsAt n ws hs .forces) ≡ length ws
-  forces-cells = forces-length (shears (n .t) (n .vd) ws hs) ∙ shears-cells
-
-  pub overturnings-cells : length (resultsAt n ws hs .overturnings) ≡ length ws
-  overturnings-cells =
-      cells-length (overturning (resultsAt n ws hs .forces) hs) (length (resultsAt n ws hs .forces)) ∙ forces-cells
 
 one-figures : {n m : Figures} → Taken n ≡ Taken m → n ≡ m
 one-figures e = cc
@@ -67,31 +53,8 @@ module _ (s : GroundValues) (f : FrameValues) (ws hs : List ℕ) where
       answer-unique (p .0 ∙ ap figuresOnly (job-room (shortest b) (length ws) h (le-refl (length ws)))) q
 
   -- what is written is what the results say, one cell a level, and the rest is as it was
-  pub record Written (n : Figures) (b b′ : Buffers) : Type 0 where
-    pub forces : take (length ws) (b′ .forces) ≡ resultsAt n ws hs .forces
-    pub shears : take (length ws) (b′ .shears) ≡ resultsAt n ws hs .shears
-    pub overturnings : take (length ws) (b′ .overturnings) ≡ resultsAt n ws hs .overturnings
-    pub forces-rest : drop (length ws) (b′ .forces) ≡ drop (length ws) (b .forces)
-    pub shears-rest : drop (length ws) (b′ .shears) ≡ drop (length ws) (b .shears)
-    pub overturnings-rest : drop (length ws) (b′ .overturnings) ≡ drop (length ws) (b .overturnings)
-
-  pub taken-written : (b : Buffers) (n : Figures) (b′ : Buffers) → Answers s f ws hs b (Taken n) b′ → Written n b b′
-  taken-written b n b′ a =
-      let e = taken-accepted s f ws hs b n b′ a .cells in
-      let r = resultsAt n ws hs in
-      let m = length ws in
-      record {
-        forces = ap (λ (c : Buffers). take m (c .forces)) e ∙ laid-part (r .forces) (b .forces) m (forces-cells n ws hs);
-        shears = ap (λ (c : Buffers). take m (c .shears)) e ∙ laid-part (r .shears) (b .shears) m (shears-cells n ws hs);
-        overturnings =
-            ap (λ (c : Buffers). take m (c .overturnings)) e
-            ∙ laid-part (r .overturnings) (b .overturnings) m (overturnings-cells n ws hs);
-        forces-rest = ap (λ (c : Buffers). drop m (c .forces)) e ∙ laid-rest (r .forces) (b .forces) m (forces-cells n ws hs);
-        shears-rest = ap (λ (c : Buffers). drop m (c .shears)) e ∙ laid-rest (r .shears) (b .shears) m (shears-cells n ws hs);
-        overturnings-rest =
-            ap (λ (c : Buffers). drop m (c .overturnings)) e
-            ∙ laid-rest (r .overturnings) (b .overturnings) m (overturnings-cells n ws hs);
-      }
+  pub taken-written : (b : Buffers) (n : Figures) (b′ : Buffers) → Answers s f ws hs b (Taken n) b′ → Written (n .t) (n .vd) ws hs b b′
+  taken-written b n b′ a = laid-written (n .t) (n .vd) ws hs b b′ (taken-accepted s f ws hs b n b′ a .cells)
 
   -- so neither the figures nor the written cells depend on what the buffers held, nor on how long they are
   pub same-cells : (b c : Buffers) (n m : Figures) (b′ c′ : Buffers) → Answers s f ws hs b (Taken n) b′ → Answers s f ws hs c (Taken m) c′

@@ -36,7 +36,7 @@ use Rattle.base_shear.specs.Shears.{base}
 use Rattle.storeys.specs.Exact.{exactShearUnder}
 use Rattle.storeys.specs.Storeys.{shearUnder}
 use Rattle.margin.specs.Demand3.{Demand3, marginOf}
-use Rattle.job.specs.Job.{givenHazards}
+use Rattle.job.specs.ShearCall.{givenHazards}
 
 pub record Job : Type 0 where
   pub ground : GroundValues

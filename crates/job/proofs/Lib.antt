@@ -6,6 +6,11 @@ pub mod GroundReached
 pub mod GivenReached
 pub mod Stages
 pub mod Unique
+pub mod Columns
+pub mod Sheared
+pub mod ShearedRefusing
+pub mod Distributed
+pub mod DistributedRefusing
 pub mod Answered
 pub mod FigureBounds
 pub mod Refusing

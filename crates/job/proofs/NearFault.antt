@@ -27,7 +27,8 @@ use Rattle.response.specs.Period.{periodOf}
 use Rattle.response.specs.Unit.{unit}
 use Rattle.base_shear.specs.Shears.{newtons, modifiedAt, blendedAt, shear, star, figuresAt}
 use Rattle.job.specs.declared.FiguresAnswer.the-variants.{Taken}
-use Rattle.job.specs.Job.{givenFigures, Buffers, shortest, Answers}
+use Rattle.job.specs.Distribution.{Buffers, shortest}
+use Rattle.job.specs.Job.{givenFigures, Answers}
 use Rattle.job.proofs.Answered.{taken-accepted}
 
 -- ---- what is given of an accepted job on a site

@@ -16,7 +16,8 @@ use Rattle.limits.proofs.Foremost as order
 use Rattle.base_shear.specs.declared.Figures.{Figures}
 use Rattle.job.specs.declared.FiguresAnswer.{FiguresAnswer}
 use Rattle.job.specs.declared.FiguresAnswer.the-variants.{Taken, Refused}
-use Rattle.job.specs.Job.{Buffers, shortest, Answers}
+use Rattle.job.specs.Distribution.{Buffers, shortest}
+use Rattle.job.specs.Job.{Answers}
 use Rattle.job.proofs.Answered.{taken-accepted, refused-judged}
 
 module _ (s : GroundValues) (f : FrameValues) (ws hs : List ℕ) (b : Buffers) where

@@ -14,12 +14,14 @@ use Rattle.limits.specs.Outcome.{accepted}
 use Rattle.limits.proofs.Accepted.{given-allowed}
 use Rattle.response.specs.Unit.{unit}
 use Rattle.storeys.specs.Storeys.{shearUnder}
+use Rattle.storeys.proofs.Roof.{roof-at-most-one}
 use Rattle.storeys.proofs.Telescope.{forces-sum}
 use Rattle.margin.specs.Demand3.{Demand3}
 use Rattle.margin.proofs.Demand3.{of-cells}
-use Rattle.job.specs.Job.{givenHazards, givenFigures, resultsOf}
+use Rattle.job.specs.Job.{givenFigures, resultsOf}
+use Rattle.job.specs.ShearCall.{givenHazards}
 use Rattle.job.proofs.Demand3.{demand3-accepted}
-use Rattle.job.proofs.GivenReached.{load, standing}
+use Rattle.job.proofs.GivenReached.{standing}
 
 -- of figures and storeys of a judged ground and frame
 pub record Promised (g : Given) (ws hs : List ℕ) : Type 0 where
@@ -34,7 +36,7 @@ promised s f ws hs room g e =
     let a = given-allowed s f ws hs room g e .0 in
     let l = standing ws hs (a .levels) in
     record {
-      adds-up = forces-sum (n .t) (n .vd) ws hs (l .some) (l .positive) (load g ws hs a .part);
+      adds-up = forces-sum (n .t) (n .vd) ws hs (l .some) (l .positive) (roof-at-most-one (n .t));
       kept =
           of-cells unit (givenHazards g) (g .frame) ws hs (n .t) (demand3-accepted s f ws hs room g e)
           (λ x h. sym (cells-at (shearUnder (n .t) (n .vd) ws hs) (length ws) x h));

@@ -12,7 +12,8 @@ use Rattle.limits.specs.Judging.{judgedJob}
 use Rattle.limits.specs.Outcome.{Outcome, accepted, refused, _>>=_}
 use Rattle.base_shear.specs.declared.Figures.{Figures}
 use Rattle.job.specs.declared.FiguresAnswer.the-variants.{Taken, Refused}
-use Rattle.job.specs.Job.{Results, givenFigures, resultsAt, resultsOf, jobOf, figuresOnly, Buffers, shortest, written, Answers}
+use Rattle.job.specs.Distribution.{Buffers, shortest}
+use Rattle.job.specs.Job.{Results, givenFigures, resultsAt, resultsOf, jobOf, figuresOnly, written, Answers}
 
 module _ (s : GroundValues) (f : FrameValues) (ws hs : List ℕ) (room : ℕ) where
   pub job-refused : {n p : ℕ} → judgedJob s f ws hs room ≡ refused n p → jobOf s f ws hs room ≡ refused n p

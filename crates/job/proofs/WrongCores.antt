@@ -86,26 +86,26 @@ module _ (v : ℕ) (u : ℕ → ℕ) where
   base-worked : Demand3Of worked v u → 1_000_000 ≤ v
   unfolding sum between down largest bitsFrom approximate inUse exactSpectrum factor bent
   base-worked d =
-      let h = d .never-below below lowers in
+      let h = d .base .never-below below lowers in
       at-least-number v 1_000_000 (exact worked below) (h .0) (h .1) (lit≤ tt)
 
   base-light : Demand3Of light v u → v < 1000
   unfolding sum between down largest bitsFrom approximate inUse exactSpectrum factor bent
   base-light d =
-      let h = d .close above raises in
+      let h = d .base .close above raises in
       below-number v 1000 (exact light above) (margin 6 light) (h .1) (lit≤ tt)
 
   -- a million newtons or more under the sheet's lowest level, and less than 600,000 under its roof
   lowest-worked : Demand3Of worked v u → 1_000_000 ≤ u 0
   unfolding sum between down largest bitsFrom approximate inUse exactSpectrum factor bent weightHeight
   lowest-worked d =
-      let h = d .storey-never-below 0 (lit< tt) below lowers in
+      let h = d .storeys .never-below 0 (lit< tt) below lowers in
       at-least-number (u 0) 1_000_000 (exactUnder worked below 0) (h .0) (h .1) (lit≤ tt)
 
   roof-worked : Demand3Of worked v u → u 2 < 600_000
   unfolding sum between down largest bitsFrom approximate inUse exactSpectrum factor bent weightHeight
   roof-worked d =
-      let h = d .storey-close 2 (lit< tt) above raises in
+      let h = d .storeys .close 2 (lit< tt) above raises in
       below-number (u 2) 600_000 (exactUnder worked above 2) (plus (margin 6 worked) (over 2 1)) (h .1) (lit≤ tt)
 
 -- ---- so no constant is the base shear of both, and the shear under the sheet's roof is not that under its lowest level

@@ -1,1 +1,4 @@
+pub mod ShearCall
+pub mod Distribution
 pub mod Job
+pub mod InTurn

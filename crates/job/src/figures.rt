@@ -12,9 +12,10 @@ ghost use mathlib.Core.Path.{_≡_};
 ghost use Rattle.whole.specs.Cells.{sum};
 ghost use Prim.Native.Nat.{_≤_, _<_};
 ghost use lib.ListN.{length};
-ghost use Rattle.limits.specs.Allowed.{AllowedGiven};
+ghost use Rattle.limits.specs.Allowed.{AllowedGiven, AllowedShearCall};
 ghost use Rattle.limits.specs.Levels.{topHeight, totalMost};
 ghost use Rattle.job.specs.Job.{Figured, givenFigures};
+ghost use Rattle.job.specs.ShearCall.{buildingFigures};
 
 // W: the weights of all levels.
 pub fn total_weight(weights: &[u64]) -> u64
@@ -38,19 +39,22 @@ pub fn top_height(heights: &[u64]) -> u64
     heights[heights.len() - 1]
 }
 
-// The five figures of a judged ground and frame.
+// The five figures of a judged ground and frame, a total weight and a top height.
+pub fn building_figures(given: Given, weight: u64, height: u64) -> Figures
+    requires { ⌜ AllowedShearCall given weight height ⌝ }
+    ensures { λ r. ⌜ r ≡ buildingFigures given weight height ⌝ }
+{
+    let ground = given.ground;
+    let hazards = ground_hazards(ground, given.frame.r);
+    base_figures(hazards, given.frame, weight, height)
+}
+
+// The five figures of a judged ground and frame, and levels.
 pub fn given_figures(given: Given, weights: &[u64], heights: &[u64]) -> Figures
     requires { ⌜ AllowedGiven given (now weights) (now heights) ⌝ }
     ensures { λ r. ⌜ r ≡ givenFigures given (now (weights .entry)) (now (heights .entry)) ⌝ }
 {
-    let ground = given.ground;
-    let hazards = ground_hazards(ground, given.frame.r);
-    base_figures(
-        hazards,
-        given.frame,
-        total_weight(weights),
-        top_height(heights),
-    )
+    building_figures(given, total_weight(weights), top_height(heights))
 }
 
 // The five figures of unjudged values, or the refusal, with no buffer to write to.

@@ -1,5 +1,6 @@
-// The single job call.
+// The job, and the two calls that it is made of.
 use base_shear::Figures;
+use distribution::shortest;
 use figures::given_figures;
 use limits::frame::FrameValues;
 use limits::ground::GroundValues;
@@ -8,14 +9,16 @@ use limits::judging::judged;
 use limits::refusal::Refusal;
 use storeys::storey::fill_storeys;
 
+pub mod distribution;
 pub mod figures;
+pub mod shear_call;
 
 ghost use mathlib.Core.Path.{_≡_};
 ghost use Rattle.limits.specs.Outcome.{refusalOf};
-ghost use Prim.Native.Nat.{min};
-ghost use Rattle.job.specs.Job.{answerOutcome, Answers};
+ghost use Rattle.job.specs.Job.{Answers};
+ghost use Rattle.job.specs.ShearCall.{answerOutcome};
 
-// What a job answers: V, V_M, V*, V_D and T, or why not.
+// What a job and the shear call answer: V, V_M, V*, V_D and T, or why not.
 pub enum FiguresAnswer {
     Taken(Figures),
     Refused(Refusal),
@@ -33,15 +36,6 @@ impl FiguresAnswer {
     }
 }
 
-fn shorter(a: usize, b: usize) -> usize
-    ensures { λ r. ⌜ r ≡ min a b ⌝ }
-{
-    if a <= b {
-        return a;
-    }
-    b
-}
-
 // The job: five figures or a refusal; a force, a shear and an overturning moment of each level in the lent buffers.
 pub fn job(
     ground: GroundValues,
@@ -54,7 +48,7 @@ pub fn job(
 ) -> FiguresAnswer
     ensures { λ a. ⌜ Answers ground frame (now (weights .entry)) (now (heights .entry)) (record { forces = now (forces .entry); shears = now (shears .entry); overturnings = now (overturnings .entry) }) a (record { forces = now (forces .exit); shears = now (shears .exit); overturnings = now (overturnings .exit) }) ⌝ }
 {
-    let room = shorter(shorter(forces.len(), shears.len()), overturnings.len());
+    let room = shortest(forces.len(), shears.len(), overturnings.len());
     let g = judged(ground, frame, weights, heights, room);
     let GivenAnswer::Taken(given) = g else {
         let r = g.refusal();

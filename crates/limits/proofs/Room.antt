@@ -10,7 +10,12 @@ use Rattle.limits.specs.declared.ground.GroundValues.{GroundValues}
 use Rattle.limits.specs.Judging.{judgedJob}
 use Rattle.limits.specs.Levels.{judgedLevels}
 
+pub room-for-levels : (ws hs : List ℕ) (room room′ : ℕ) → length ws ≤ room → length ws ≤ room′
+    → judgedLevels ws hs room ≡ judgedLevels ws hs room′
+unfolding judgedLevels
+room-for-levels ws hs room room′ h h′ = rw (le-leb _ _ h, le-leb _ _ h′)
+
 pub room-enough : (s : GroundValues) (f : FrameValues) (ws hs : List ℕ) (room room′ : ℕ) → length ws ≤ room → length ws ≤ room′
     → judgedJob s f ws hs room ≡ judgedJob s f ws hs room′
-unfolding judgedJob judgedLevels
-room-enough s f ws hs room room′ h h′ = rw (le-leb _ _ h, le-leb _ _ h′)
+unfolding judgedJob
+room-enough s f ws hs room room′ h h′ = rw (room-for-levels ws hs room room′ h h′)

@@ -14,7 +14,9 @@ use Rattle.limits.specs.declared.refusal.Refusal.{Refusal}
 use Rattle.limits.specs.Order.{InOrder}
 use Rattle.limits.specs.Outcome.{Outcome, accepted, refused, number, place, refusalOf}
 use Rattle.job.specs.declared.FiguresAnswer.{FiguresAnswer}
-use Rattle.job.specs.Job.{Results, jobOf, figuresOnly, answerOutcome, Buffers, shortest, written, Figured, Answers}
+use Rattle.job.specs.Distribution.{Buffers, shortest}
+use Rattle.job.specs.Job.{Results, jobOf, figuresOnly, written, Figured, Answers}
+use Rattle.job.specs.ShearCall.{answerOutcome}
 use Rattle.job.proofs.Calls.{answerOf, says-outcome}
 use Rattle.sheet.proofs.Foremost.{applies-in-order, refused-applies}
 use Rattle.sheet.proofs.OnePair.{siteSheet, accepted-repeated}

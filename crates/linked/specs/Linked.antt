@@ -19,7 +19,9 @@ use Rattle.limits.specs.Outcome.{Outcome, number, place, values}
 use Rattle.base_shear.specs.declared.Figures.{Figures}
 use Rattle.soil.specs.Class.{table3, classNumber}
 use Rattle.soil.specs.Log.{siteClass}
-use Rattle.job.specs.Job.{jobOf, figuresOnly, five, Buffers, shortest, written}
+use Rattle.job.specs.Distribution.{Buffers, shortest}
+use Rattle.job.specs.Job.{jobOf, figuresOnly, written}
+use Rattle.job.specs.ShearCall.{five}
 use Rattle.sheet.specs.Sheet.{siteValues, frameValues}
 use Rattle.sheet.specs.Listing.{outcomeOf, sheetListing}
 

@@ -6,7 +6,7 @@ use limits::frame::FrameValues;
 use limits::site::SiteValues;
 ghost use mathlib.Core.Path.{_≡_};
 ghost use Rattle.limits.specs.Site.{classOutcome};
-ghost use Rattle.job.specs.Job.{answerOutcome};
+ghost use Rattle.job.specs.ShearCall.{answerOutcome};
 ghost use Rattle.soil.specs.Class.{classNumber};
 ghost use Rattle.sheet.specs.Sheet.{siteValues, frameValues};
 ghost use Rattle.linked.specs.Linked.{FiguresReply, ClassReply};

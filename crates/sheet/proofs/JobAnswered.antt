@@ -21,7 +21,8 @@ use Rattle.limits.proofs.Accepted.{given-allowed}
 use Rattle.limits.proofs.Room.{room-enough}
 use Rattle.base_shear.specs.declared.Figures.{Figures}
 use Rattle.job.specs.declared.FiguresAnswer.the-variants.{Taken, Refused}
-use Rattle.job.specs.Job.{Results, resultsAt, jobOf, Buffers, Answers}
+use Rattle.job.specs.Distribution.{Buffers}
+use Rattle.job.specs.Job.{Results, resultsAt, jobOf, Answers}
 use Rattle.job.proofs.Answered.{taken-accepted, refused-judged}
 use Rattle.job.proofs.Independent.{forces-cells, shears-cells, overturnings-cells, taken-written}
 use Rattle.job.proofs.Stages.{job-refused, job-accepted}

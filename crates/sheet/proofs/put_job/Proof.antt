@@ -9,7 +9,9 @@ use Rattle.limits.specs.Outcome.{refused}
 use Rattle.limits.proofs.Stages.{yielded}
 use Rattle.job.specs.declared.FiguresAnswer.{FiguresAnswer}
 use Rattle.job.specs.declared.FiguresAnswer.the-variants.{Taken}
-use Rattle.job.specs.Job.{answerOutcome, Buffers, Answers}
+use Rattle.job.specs.Distribution.{Buffers}
+use Rattle.job.specs.Job.{Answers}
+use Rattle.job.specs.ShearCall.{answerOutcome}
 use Rattle.sheet.proofs.JobAnswered.{lent, few, refused-outcome, forces-cut, shears-cut, overturnings-cut, cut-levelled, cut, taken-outcome}
 use Rattle.sheet.proofs.Listings.{puts-refused, puts-results}
 use Rattle.sheet.proofs.put_job.Statement.{statement}

@@ -1,7 +1,7 @@
 -- `linked::arrays::put_figures` meets its contract. Assumes nothing.
 use borrow.Author.Needs.{needs}
 use mathlib.Core.Path.{refl, sym, ap}
-use Rattle.job.specs.Job.{answerOutcome}
+use Rattle.job.specs.ShearCall.{answerOutcome}
 use Rattle.linked.proofs.Replies.{replies-as}
 use Rattle.linked.proofs.arrays.put_figures.Statement.{statement}
 use Rattle.linked.proofs.arrays.put_figures.Tie as tie
