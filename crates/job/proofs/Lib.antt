@@ -12,6 +12,7 @@ pub mod ShearedRefusing
 pub mod Distributed
 pub mod DistributedRefusing
 pub mod Answered
+pub mod InTurn
 pub mod FigureBounds
 pub mod Refusing
 pub mod Independent
@@ -25,4 +26,5 @@ pub mod WorkedBasin
 pub mod WorkedNearFault
 pub mod JobNumbers
 pub mod SharpMargin
+pub mod SharpHanded
 pub mod WrongCores

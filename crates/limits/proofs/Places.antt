@@ -58,7 +58,7 @@ named (of-levels a) = named-levels a
 named {s = s} (of-ground a) = named-ground s a
 named (of-frame a) = named-frame a
 
-numbered-levels : {ws hs : List ℕ} {room n p : ℕ} → LevelsApply ws hs room n p → (1 ≤ n) × (n ≤ 4)
+pub numbered-levels : {ws hs : List ℕ} {room n p : ℕ} → LevelsApply ws hs room n p → (1 ≤ n) × (n ≤ 4)
 numbered-levels (of-count (count o)) = omega arith
 numbered-levels (of-lengths (lists o)) = omega arith
 numbered-levels (of-lengths (buffer o)) = omega arith

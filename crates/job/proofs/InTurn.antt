@@ -1,0 +1,161 @@
+-- A job is the two calls in turn: of the definitions, and of the entries' answers. And demand 3's storey part, which speaks of the two together.
+--   both n a    what the two calls answer together: the figures n, or what the distribution refuses with
+-- Assumes nothing.
+use mathlib.Core.Path.{_≡_, refl, sym, ap, subst, _∙_}
+use mathlib.Core.List.{List}
+use Prim.Native.Nat.{ℕ, _≤_}
+use lib.ListN.{getD}
+use Rattle.whole.specs.Cells.{sum}
+use Rattle.limits.specs.declared.frame.FrameValues.{FrameValues}
+use Rattle.limits.specs.declared.ground.GroundValues.{GroundValues}
+use Rattle.limits.specs.declared.judging.Given.{Given}
+use Rattle.limits.specs.declared.refusal.Refusal.{Refusal}
+use Rattle.limits.specs.declared.refusal.Verdict.{Verdict}
+use Rattle.limits.specs.declared.refusal.Verdict.the-variants.{Passed as PassedVerdict, Refused as RefusedVerdict}
+use Rattle.limits.specs.Allowed.{AllowedHanded}
+use Rattle.limits.specs.Applies.{LevelsApply}
+use Rattle.limits.specs.Judging.{judgedJob, judgedShearCall, judgedDistribution}
+use Rattle.limits.specs.Levels.{judgedLevels, topHeight}
+use Rattle.limits.specs.Outcome.{Outcome, accepted, refused, Done}
+use Rattle.limits.proofs.AcceptedCalls.{shear-call-allowed, judged-in-turn, judged-handed}
+use Rattle.limits.proofs.GivenApplies.{given-applies}
+use Rattle.limits.proofs.Passed.{then-passed}
+use Rattle.limits.proofs.Places.{numbered-levels}
+use Rattle.limits.proofs.Refusing.{levels-told}
+use Rattle.response.specs.Unit.{unit}
+use Rattle.base_shear.specs.declared.Figures.{Figures}
+use Rattle.margin.specs.Demand3.{BaseDemand3, StoreyDemand3}
+use Rattle.margin.proofs.Demand3.{together}
+use Rattle.job.specs.declared.FiguresAnswer.{FiguresAnswer}
+use Rattle.job.specs.declared.FiguresAnswer.the-variants.{Taken, Refused}
+use Rattle.job.specs.Distribution.{columnsAt, Buffers, shortest, laidOver, Distributed}
+use Rattle.job.specs.InTurn.{inTurn}
+use Rattle.job.specs.Job.{Results, jobOf, figuresOnly, written, Answers}
+use Rattle.job.specs.ShearCall.{givenHazards, buildingFigures, Sheared}
+use Rattle.job.proofs.Answered as job
+use Rattle.job.proofs.Distributed.{distribution-accepted, passed-judged, passed-cells, refused-judged, refused-untouched, passed-distributed, stands, handed-kept}
+use Rattle.job.proofs.GivenReached.{given-between, between-handed}
+use Rattle.job.proofs.Sheared as call
+use Rattle.job.proofs.Stages.{job-refused, job-accepted}
+
+-- ---- the definitions
+module _ (s : GroundValues) (f : FrameValues) (ws hs : List ℕ) (room : ℕ) where
+  levels-refuse : {n p : ℕ} → judgedLevels ws hs room ≡ refused n p → judgedJob s f ws hs room ≡ refused n p
+  unfolding judgedJob
+  levels-refuse e = simp e
+
+  levels-pass : {g : Given} → judgedJob s f ws hs room ≡ accepted g → judgedLevels ws hs room ≡ accepted tt
+  unfolding judgedJob
+  levels-pass e = then-passed (judgedLevels ws hs room) _ e .0
+
+  pub job-in-turn : jobOf s f ws hs room ≡ inTurn s f ws hs room
+  unfolding inTurn
+  job-in-turn = of-levels (judgedLevels ws hs room) refl
+    where
+      of-call : judgedLevels ws hs room ≡ accepted tt → (o : Outcome Given) → judgedShearCall s f (sum ws) (topHeight hs) ≡ o
+          → jobOf s f ws hs room ≡ inTurn s f ws hs room
+      of-call l (refused n p) e =
+          simp (job-refused s f ws hs room (judged-in-turn s f ws hs room l ∙ e), l, call.call-refused s f (sum ws) (topHeight hs) e)
+      of-call l (accepted g) e =
+          let n = buildingFigures g (sum ws) (topHeight hs) in
+          let all = shear-call-allowed s f (sum ws) (topHeight hs) g e in
+          let handed = between-handed n (given-between g (sum ws) (topHeight hs) all) in
+          simp (
+            job-accepted s f ws hs room (judged-in-turn s f ws hs room l ∙ e),
+            l,
+            call.call-accepted s f (sum ws) (topHeight hs) e,
+            distribution-accepted (n .vd) (n .t) ws hs room (judged-handed (n .vd) (n .t) ws hs room handed ∙ l),
+          )
+
+      of-levels : (o : Outcome Done) → judgedLevels ws hs room ≡ o → jobOf s f ws hs room ≡ inTurn s f ws hs room
+      of-levels (refused n p) l = simp (job-refused s f ws hs room (levels-refuse l), l)
+      of-levels (accepted tt) l = of-call l (judgedShearCall s f (sum ws) (topHeight hs)) refl
+
+-- ---- the entries
+abbrev pub both : Figures → Verdict → FiguresAnswer
+both n PassedVerdict = Taken n
+both n (RefusedVerdict r) = Refused r
+
+module _ (s : GroundValues) (f : FrameValues) (ws hs : List ℕ) (b : Buffers) where
+  refused-job : {n p : ℕ} → judgedLevels ws hs (shortest b) ≡ refused n p
+      → (figuresOnly (jobOf s f ws hs (shortest b)) ≡ refused n p) × (written (jobOf s f ws hs (shortest b)) b ≡ b)
+  refused-job e =
+      let o = job-refused s f ws hs (shortest b) (levels-refuse s f ws hs (shortest b) e) in
+      (ap figuresOnly o, ap (λ (x : Outcome Results). written x b) o)
+
+  -- the levels come first: whatever shear and period in range are handed in with them, what the distribution refuses them for is what the
+  -- job refuses them for
+  pub levels-first : (v T : ℕ) → AllowedHanded v T → (r : Refusal) (b′ : Buffers) → Distributed v T ws hs b (RefusedVerdict r) b′
+      → Answers s f ws hs b (Refused r) b′
+  levels-first v T a r b′ d =
+      let l = sym (judged-handed v T ws hs (shortest b) a) ∙ refused-judged v T ws hs b r b′ d in
+      let o = refused-job l in
+      (sym (o .0), refused-untouched v T ws hs b r b′ d ∙ sym (o .1))
+
+  -- once they are accepted, what the shear call refuses is what the job refuses
+  pub refused-in-turn : (r : Refusal) → judgedLevels ws hs (shortest b) ≡ accepted tt
+      → Sheared s f (sum ws) (topHeight hs) (Refused r) → Answers s f ws hs b (Refused r) b
+  refused-in-turn r l c =
+      let j = judged-in-turn s f ws hs (shortest b) l ∙ call.refused-judged s f (sum ws) (topHeight hs) r c in
+      let o = job-refused s f ws hs (shortest b) j in
+      (sym (ap figuresOnly o), sym (ap (λ (x : Outcome Results). written x b) o))
+
+  module _ (n : Figures) (c : Sheared s f (sum ws) (topHeight hs) (Taken n)) where
+    -- V_D and T of the shear call are what the distribution takes: it never gives 19 or 20 for them
+    handed : AllowedHanded (n .vd) (n .t)
+    handed = between-handed n (call.figures-between s f (sum ws) (topHeight hs) n c)
+
+    pub never-19-nor-20 : (r : Refusal) (b′ : Buffers) → Distributed (n .vd) (n .t) ws hs b (RefusedVerdict r) b′ → r .number ≤ 4
+    never-19-nor-20 r b′ d =
+        let l = sym (judged-handed (n .vd) (n .t) ws hs (shortest b) handed) ∙ refused-judged (n .vd) (n .t) ws hs b r b′ d in
+        let told = levels-told ws hs (shortest b) in
+        numbered-levels (given-applies (LevelsApply ws hs (shortest b)) (judgedLevels ws hs (shortest b)) told (r .number) (r .place) l) .1
+
+    -- where the shear call answers with figures, the distribution at V_D and T gives the job's answer and the job's cells
+    pub called-in-turn : (a : Verdict) (b′ : Buffers) → Distributed (n .vd) (n .t) ws hs b a b′ → Answers s f ws hs b (both n a) b′
+    called-in-turn PassedVerdict b′ d =
+        let l = sym (judged-handed (n .vd) (n .t) ws hs (shortest b) handed) ∙ passed-judged (n .vd) (n .t) ws hs b b′ d in
+        let t = call.taken-accepted s f (sum ws) (topHeight hs) n c in
+        let o = job-accepted s f ws hs (shortest b) (judged-in-turn s f ws hs (shortest b) l ∙ t .judged) in (
+          ap accepted (t .figures) ∙ sym (ap figuresOnly o),
+          passed-cells (n .vd) (n .t) ws hs b b′ d
+              ∙ ap (λ (m : Figures). laidOver (columnsAt (m .t) (m .vd) ws hs) b) (t .figures)
+              ∙ sym (ap (λ (x : Outcome Results). written x b) o),
+        )
+    called-in-turn (RefusedVerdict r) b′ d = levels-first (n .vd) (n .t) handed r b′ d
+
+  -- and the other way: what a job answers, and writes, is what the two calls do
+  pub job-parted : (n : Figures) (b′ : Buffers) → Answers s f ws hs b (Taken n) b′
+      → Sheared s f (sum ws) (topHeight hs) (Taken n) × Distributed (n .vd) (n .t) ws hs b PassedVerdict b′
+  job-parted n b′ a =
+      let t = job.taken-accepted s f ws hs b n b′ a in
+      let l = levels-pass s f ws hs (shortest b) (t .judged) in
+      let j = sym (judged-in-turn s f ws hs (shortest b) l) ∙ t .judged in
+      let c : Sheared s f (sum ws) (topHeight hs) (Taken n) =
+      ap accepted (t .figures) ∙ sym (call.call-accepted s f (sum ws) (topHeight hs) j) in
+      let d = judged-handed (n .vd) (n .t) ws hs (shortest b) (handed n c) ∙ l in (
+        c,
+        passed-distributed (n .vd) (n .t) ws hs (shortest b) b refl d
+            (ap (λ (x : Buffers). x .shears) (t .cells)) (ap (λ (x : Buffers). x .forces) (t .cells))
+            (ap (λ (x : Buffers). x .overturnings) (t .cells)),
+      )
+
+-- ---- demand 3 of the two together: of any shear call, and the distribution of its V_D at its T over any levels
+module _ (s : GroundValues) (f : FrameValues) (W h : ℕ) (ws hs : List ℕ) (b : Buffers) where
+  pub record Kept (n : Figures) (b′ : Buffers) : Type 0 where
+    pub given : Given
+    pub judged : judgedShearCall s f W h ≡ accepted given
+    pub base : BaseDemand3 unit (givenHazards given) (given .frame) W (n .t) (n .vd)
+    pub storeys : StoreyDemand3 unit (givenHazards given) (given .frame) W ws hs (n .t) (λ x. getD (b′ .shears) x 0)
+
+  pub demand-3 : (n : Figures) (b′ : Buffers) → Sheared s f W h (Taken n) → Distributed (n .vd) (n .t) ws hs b PassedVerdict b′ → Kept n b′
+  demand-3 n b′ c d =
+      let t = call.demand-3 s f W h n c in
+      record {
+        given = t .given;
+        judged = t .judged;
+        base = t .kept;
+        storeys =
+            together (n .t) ws hs (stands (n .vd) (n .t) ws hs b b′ d .positive) unit (givenHazards (t .given)) (t .given .frame) W (n .vd) _
+            (t .kept) (handed-kept (n .vd) (n .t) ws hs b b′ d);
+      }

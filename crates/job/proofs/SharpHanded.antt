@@ -1,0 +1,61 @@
+-- One newton would be too little for a base shear that is handed in: the job `tall` (SharpMargin.antt) shows it, by its V_D of 997 N at its T of 3,568 ms.
+-- Under its roof the distribution writes 389 N, and the exact figure from 997 N is 387.19 N. The definition, computed.
+-- Assumes nothing.
+use mathlib.Core.Path.{_≡_, refl}
+use mathlib.Core.List.{List, [], _∷_}
+use Prim.Native.Nat.{ℕ, _<_}
+use native.Mathlib.Omega.{arith}
+use lib.Dec.{lit<, lit≤}
+use lib.ListN.{length, getD}
+use Rattle.whole.specs.Cells.{cells, sum}
+use Rattle.whole.specs.Fraction.{over, plus, AtMost}
+use Rattle.whole.specs.Line.{between}
+use Rattle.whole.specs.Root.{lowerRoot, upperRoot}
+use Rattle.whole.specs.Rounding.{up, down}
+use Rattle.whole.specs.Search.{bitsFrom, largest, smallest}
+use Rattle.whole.specs.Signed.{floor, ceiling}
+use Rattle.limits.specs.declared.refusal.Verdict.the-variants.{Passed}
+use Rattle.limits.specs.Handed.{judgedHanded}
+use Rattle.limits.specs.Judging.{judgedDistribution}
+use Rattle.limits.specs.Levels.{weighed, raised, judgedLevels}
+use Rattle.limits.specs.Ranges.{inRange, within}
+use Rattle.response.specs.Factor.{factor, lowerFactor, upperFactor}
+use Rattle.response.specs.Period.{approximate, inUse}
+use Rattle.response.specs.Ratio.{bent, ratio, modified, blended}
+use Rattle.response.specs.Spectrum.{exactSpectrum, spectrum}
+use Rattle.base_shear.specs.Shears.{newtons, shear, star, base}
+use Rattle.storeys.specs.Exact.{exactShearUnder}
+use Rattle.storeys.specs.Storeys.{weightHeight, about}
+use Rattle.margin.specs.Demand3.{LessBy}
+use Rattle.job.specs.Distribution.{distributionOf, Buffers, Distributed}
+use Rattle.job.proofs.JobNumbers.{printed, period}
+use Rattle.job.proofs.SharpMargin.{tall}
+
+-- what the job prints, and what is handed in
+pub tall-figures : (printed tall ≡ 997) × (period tall ≡ 3568)
+unfolding sum between up down largest smallest bitsFrom lowerRoot upperRoot floor ceiling approximate inUse spectrum exactSpectrum
+    factor lowerFactor upperFactor ratio modified blended bent newtons shear star base
+tall-figures = (refl, refl)
+
+abbrev empty : Buffers
+empty = record { forces = 0 ∷ 0 ∷ []; shears = 0 ∷ 0 ∷ []; overturnings = 0 ∷ 0 ∷ [] }
+
+abbrev after : Buffers
+after = record { forces = 608 ∷ 389 ∷ []; shears = 997 ∷ 389 ∷ []; overturnings = 1_672_368 ∷ 205_781 ∷ [] }
+
+pub tall-distributed : Distributed 997 3568 (tall .weights) (tall .heights) empty Passed after
+unfolding distributionOf judgedDistribution judgedLevels judgedHanded weighed raised within inRange cells weightHeight about up
+tall-distributed = (refl, refl)
+
+over-one-newton : AtMost (plus (exactShearUnder 3568 (tall .weights) (tall .heights) (over 997 1) 1) (over 1 1)) (over 389 1)
+unfolding weightHeight
+over-one-newton = lit≤ tt
+
+-- so 'less than one newton above' is false of what the distribution writes
+pub one-newton-false : ((v T : ℕ) (ws hs : List ℕ) (b b′ : Buffers) → Distributed v T ws hs b Passed b′ → (x : ℕ) → x < length ws
+    → LessBy (getD (b′ .shears) x 0) (exactShearUnder T ws hs (over v 1) x) (over 1 1)) → ⊥
+unfolding weightHeight
+one-newton-false less =
+    let h = less 997 3568 (tall .weights) (tall .heights) empty after tall-distributed 1 (lit< tt) in
+    let k = over-one-newton in
+    omega (arith, h, k)
