@@ -2,9 +2,10 @@
 
     python3 examples/rukeshomaji.py
 
-job, figures, basin_job, basin_figures, site_class and sheet take whole numbers in the units of include/rukeshomaji.h. A number that 64 bits
-do not hold is an OverflowError before anything is called, as ctypes would cut it (2**64 to 0, which of a calculated period means none). A
-refusal is raised as Refused, with its number, place and text. The library is target/lib/librukeshomaji.so, or what RUKESHOMAJI_LIBRARY names.
+job, figures, basin_job, basin_figures, shear_call, basin_shear_call, distribution, site_class and sheet take whole numbers in the units of
+include/rukeshomaji.h. A number that 64 bits do not hold is an OverflowError before anything is called, as ctypes would cut it (2**64 to 0, which
+of a calculated period means none). A refusal is raised as Refused, with its number, place and text. The library is
+target/lib/librukeshomaji.so, or what RUKESHOMAJI_LIBRARY names.
 """
 
 import ctypes
@@ -17,8 +18,9 @@ Site = namedtuple('Site', 'ssd s1d ssm s1m nad nvd nam nvm class_number')
 Frame = namedtuple('Frame', 'kind calculated r i alpha_y')
 Figures = namedtuple('Figures', 'v vm star vd t')
 Job = namedtuple('Job', 'figures forces shears overturnings')
+Storeys = namedtuple('Storeys', 'forces shears overturnings')
 
-MAJOR = 2
+MAJOR, LEAST = 2, 2_002_000
 LONGEST = 4_610
 TEXTS = {
     1: 'no level, or over 50',
@@ -39,7 +41,10 @@ TEXTS = {
     16: 'line not as laid out',
     17: 'sheet over 4,096 bytes',
     18: 'zone not 1 to 4',
+    19: 'base shear out of its range',
+    20: 'period out of its range',
 }
+OF_A_SHEAR_CALL = {3: 'total weight out of its range', 4: 'top height out of its range'}    # at place 0
 PLACES = {
     3: 'level', 4: 'level', 5: ('S_S design', 'S_1 design', 'S_S MCE', 'S_1 MCE'), 6: ('N_A', 'N_V', 'N_A MCE', 'N_V MCE'),
     14: 'layer', 15: 'layer', 16: 'line',
@@ -53,24 +58,31 @@ class Refused(ValueError):
     """Bad data: number and place, and what the number means (docs/manual/refusals.md)."""
 
     def __init__(self, number, place):
-        self.number, self.place, self.text = number, place, TEXTS[number]
+        self.number, self.place, self.text = number, place, (TEXTS if place else TEXTS | OF_A_SHEAR_CALL)[number]
         names = PLACES.get(number, '')
         where = f' at {names} {place}' if isinstance(names, str) else f' at {names[place - 1]}'
         super().__init__(f"refusal {number}{where if place else ''}: {self.text}")
 
 
 _core = ctypes.CDLL(str(LIBRARY))
+_core.rukeshomaji_version.restype = U64
+if _core.rukeshomaji_version() // 1_000_000 != MAJOR:
+    raise ImportError(f'{LIBRARY} is of another major version than this module, {MAJOR}')
+if _core.rukeshomaji_version() < LEAST:
+    raise ImportError(f'{LIBRARY} is of version {_core.rukeshomaji_version()}; this module needs {LEAST} or a later one')
 _list, _numbers = [ctypes.POINTER(U64), U64], ctypes.POINTER(U64)
 _core.rukeshomaji_job.argtypes = [_numbers, _numbers, *_list * 5, _numbers]
 _core.rukeshomaji_figures.argtypes = [_numbers, _numbers, *_list * 2, _numbers]
 _core.rukeshomaji_basin_job.argtypes = [U64, _numbers, *_list * 5, _numbers]
 _core.rukeshomaji_basin_figures.argtypes = [U64, _numbers, *_list * 2, _numbers]
+_core.rukeshomaji_shear_call.argtypes = [_numbers, _numbers, U64, U64, _numbers]
+_core.rukeshomaji_basin_shear_call.argtypes = [U64, _numbers, U64, U64, _numbers]
+_core.rukeshomaji_distribution.argtypes = [U64, U64, *_list * 5, _numbers]
 _core.rukeshomaji_site_class.argtypes = [*_list * 3, _numbers]
 _core.rukeshomaji_sheet.argtypes = [ctypes.c_char_p, U64, ctypes.c_char_p, _numbers]
-for _name in ('job', 'figures', 'basin_job', 'basin_figures', 'site_class', 'sheet', 'version', 'edition', 'source'):
+for _name in ('job', 'figures', 'basin_job', 'basin_figures', 'shear_call', 'basin_shear_call', 'distribution', 'site_class', 'sheet', 'edition',
+              'source'):
     getattr(_core, f'rukeshomaji_{_name}').restype = U64
-if _core.rukeshomaji_version() // 1_000_000 != MAJOR:
-    raise ImportError(f'{LIBRARY} is of another major version than this module, {MAJOR}')
 
 
 def _array(numbers, count=None):
@@ -91,19 +103,30 @@ def _taken(number, reply):
     return list(reply)[1:]
 
 
+def _over_levels(entry, first, second, weights, heights, reply):
+    """What an entry that fills buffers answers after the place, and the three buffers."""
+    weights, heights = _array(weights), _array(heights)
+    cells = [(U64 * len(weights))() for _ in range(3)]
+    number = entry(first, second, weights, len(weights), heights, len(heights), *(part for each in cells for part in (each, len(each))), reply)
+    return _taken(number, reply), *map(list, cells)
+
+
 def _job(entry, ground, frame, weights, heights):
     """A job on a site or in a zone, whichever the entry takes."""
-    weights, heights, reply = _array(weights), _array(heights), (U64 * 6)()
-    cells = [(U64 * len(weights))() for _ in range(3)]
-    number = entry(ground, _array(frame, 5), weights, len(weights), heights, len(heights),
-                   *(part for each in cells for part in (each, len(each))), reply)
-    return Job(Figures(*_taken(number, reply)), *map(list, cells))
+    numbers, *storeys = _over_levels(entry, ground, _array(frame, 5), weights, heights, (U64 * 6)())
+    return Job(Figures(*numbers), *storeys)
 
 
 def _figures(entry, ground, frame, weights, heights):
     """The figures of such a job."""
     weights, heights, reply = _array(weights), _array(heights), (U64 * 6)()
     return Figures(*_taken(entry(ground, _array(frame, 5), weights, len(weights), heights, len(heights), reply), reply))
+
+
+def _shear_call(entry, ground, frame, weight, height):
+    """A shear call on a site or in a zone."""
+    reply = (U64 * 6)()
+    return Figures(*_taken(entry(ground, _array(frame, 5), *_array([weight, height]), reply), reply))
 
 
 def job(site, frame, weights, heights):
@@ -124,6 +147,22 @@ def basin_job(zone, frame, weights, heights):
 def basin_figures(zone, frame, weights, heights):
     """The five figures alone, in a zone of the Taipei Basin."""
     return _figures(_core.rukeshomaji_basin_figures, _array([zone])[0], frame, weights, heights)
+
+
+def shear_call(site, frame, weight, height):
+    """The five figures of a building without levels: its total weight in kN and the height of its top in dm."""
+    return _shear_call(_core.rukeshomaji_shear_call, _array(site, 9), frame, weight, height)
+
+
+def basin_shear_call(zone, frame, weight, height):
+    """What `shear_call` gives, in a zone of the Taipei Basin."""
+    return _shear_call(_core.rukeshomaji_basin_shear_call, _array([zone])[0], frame, weight, height)
+
+
+def distribution(base_shear, period, weights, heights):
+    """The force, shear and overturning moment of each level, lowest first, of a base shear in N; a period in ms decides the roof force."""
+    _, *storeys = _over_levels(_core.rukeshomaji_distribution, *_array([base_shear, period]), weights, heights, (U64 * 1)())
+    return Storeys(*storeys)
 
 
 def site_class(thicknesses, kinds, values):

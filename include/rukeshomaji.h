@@ -1,6 +1,6 @@
 /* Rukeshomaji: the seismic base shear of a building by Taiwan's 2005 code, in whole numbers. C99 or newer, and C++.
  *
- * examples/build.sh makes the library of x86-64 Linux, librukeshomaji.a and librukeshomaji.so; examples/ has a program in C, one in C++ and
+ * examples/build.sh makes the library of x86-64 Linux, librukeshomaji.a and librukeshomaji.so; examples/ has two programs in C, one in C++ and
  * a module for Python. Pointers and 64-bit numbers are all that an entry takes and returns.
  *
  * crates/linked/src/lib.rt has the contracts, numbers, places, figures and buffers, which each entry is proved to meet; this page prints them a
@@ -8,13 +8,15 @@
  * English; docs/manual states the rules.
  *
  *   Every input is taken. An entry returns 0, or the number of the first refusal that applies; it writes no message and ends no program.
- *   Every field of `figures` or `reply` is written at each call. Where data is refused, all but the place and a listing's length are 0.
- *   Where data is refused the buffers of a job hold what they held. A listing's bytes past its length hold what they held, in any case.
+ *   Every field of `figures` or `reply`, and `place`, is written at each call. Where data is refused, all but the place and a listing's
+ *   length are 0.
+ *   Where data is refused the buffers of a job or a distribution hold what they held. A listing's bytes past its length hold what they
+ *   held, in any case.
  *   Nothing is kept between calls: an answer depends on its own call alone. Calls may run at once, from any threads, also over lists that
  *   they share, as long as nothing that one of them writes to is used by another.
  *   A list or a buffer is a pointer and a count of its elements. With a count of 0 the pointer may be NULL, which is tried and not proved
  *   (docs/LIMITS.md). No other pointer may be NULL; each is aligned for its type.
- *   What is written (buffers, figures, reply, listing) must not overlap anything else that is handed on. What is only read may.
+ *   What is written (buffers, figures, place, reply, listing) must not overlap anything else that is handed on. What is only read may.
  *   No entry uses the heap; the library needs memcpy and memset alone. docs/MEASURED.md says how much stack each entry took.
  */
 #ifndef RUKESHOMAJI_H
@@ -29,23 +31,28 @@ extern "C" {
  * number, 1,000 times the minor one, and the last. A struct or a declaration changes only when the major number changes: a program that was
  * compiled with a header of another major number may call rukeshomaji_version, which never changes, and nothing else. Edition: the year of
  * the code. Source: the state of the rules, which goes up by one whenever any call answers differently. */
-#define RUKESHOMAJI_VERSION 2001000
+#define RUKESHOMAJI_VERSION 2002000
 #define RUKESHOMAJI_EDITION 2005
 #define RUKESHOMAJI_SOURCE 4
 
-/* the most levels of a job, layers of a soil log and bytes of a sheet, and the most bytes that a listing can have */
+/* the most levels of a job or a distribution, layers of a soil log and bytes of a sheet, and the most bytes that a listing can have */
 #define RUKESHOMAJI_MOST_LEVELS 50
 #define RUKESHOMAJI_MOST_LAYERS 40
 #define RUKESHOMAJI_MOST_BYTES 4096
 #define RUKESHOMAJI_LONGEST_LISTING 4610
 
+/* the largest total weight of a shear call, in kN, and the largest base shear of a distribution, in N */
+#define RUKESHOMAJI_MOST_WEIGHT 1000000
+#define RUKESHOMAJI_MOST_BASE_SHEAR 1200000000
+
 /* Refusals: what an entry returns where it does not return 0; beside each its place. Of 1 to 15 the lowest number that applies is returned,
  * at its lowest place, but 14 at a layer of thickness 0 where there is one. A job in the Taipei Basin has no site: 18 stands where 5 to 7
- * stand, after 1 to 4 and before 8 to 12. For a sheet 17, then 16, come before all others. */
+ * stand, after 1 to 4 and before 8 to 12. A shear call has no levels: its 3 and 4 are of the total weight and the top height, at place 0. In
+ * a distribution 19, then 20, follow 1 to 4. For a sheet 17, then 16, come before all others. */
 #define RUKESHOMAJI_REFUSED_LEVELS 1      /* no level, or over 50, judged on the weights: 0 */
 #define RUKESHOMAJI_REFUSED_LENGTHS 2     /* lists of unequal length, or a result buffer shorter than them: 0 */
-#define RUKESHOMAJI_REFUSED_WEIGHT 3      /* weight out of range: level, the lowest is 1 */
-#define RUKESHOMAJI_REFUSED_HEIGHT 4      /* height out of range, or not above the one below: level */
+#define RUKESHOMAJI_REFUSED_WEIGHT 3      /* weight out of range: level, the lowest is 1; of a shear call: 0 */
+#define RUKESHOMAJI_REFUSED_HEIGHT 4      /* height out of range, or not above the one below: level; of a shear call out of range: 0 */
 #define RUKESHOMAJI_REFUSED_MAPPED 5      /* mapped value not in its table: 1 to 4, in the order of the site's fields */
 #define RUKESHOMAJI_REFUSED_NEAR_FAULT 6  /* near-fault factor out of range: 1 to 4, in the order of the site's fields */
 #define RUKESHOMAJI_REFUSED_CLASS 7       /* unknown site class: 0 */
@@ -60,6 +67,8 @@ extern "C" {
 #define RUKESHOMAJI_REFUSED_LINE 16       /* line of a sheet not as laid out: line, the first is 1 */
 #define RUKESHOMAJI_REFUSED_SHEET 17      /* sheet over 4,096 bytes: 0 */
 #define RUKESHOMAJI_REFUSED_ZONE 18       /* zone not 1 to 4: 0 */
+#define RUKESHOMAJI_REFUSED_BASE_SHEAR 19 /* base shear of a distribution out of range: 0 */
+#define RUKESHOMAJI_REFUSED_PERIOD_HANDED 20  /* period of a distribution out of range: 0 */
 
 /* site classes */
 #define RUKESHOMAJI_HARD 1
@@ -172,6 +181,50 @@ uint64_t rukeshomaji_basin_job(uint64_t zone, const RukeshomajiFrame *frame, con
  */
 uint64_t rukeshomaji_basin_figures(uint64_t zone, const RukeshomajiFrame *frame, const uint64_t *weights, uint64_t weight_count,
                                    const uint64_t *heights, uint64_t height_count, RukeshomajiFigures *figures);
+
+/* The shear call: the five figures of a building by its total weight and its top height, without levels, on a site outside the Taipei Basin.
+ * With the sum of a job's weights and its last height they are those of rukeshomaji_job.
+ *
+ * Given      site, frame     see above
+ *            weight          total weight, kN: 1 to 1,000,000
+ *            height          top height, dm: 1 to 2,000, that of the highest level above the base
+ * Returned   0, or the refusal
+ * Refused    3 and 4 at place 0, then 5 to 12
+ * Written    figures: all fields
+ * Reference  document 000 (1), (4) to (9), (12) to (14), (16) to (20). By its 3.4 V_D scales a dynamic analysis; docs/manual/shear_and_storeys.md
+ */
+uint64_t rukeshomaji_shear_call(const RukeshomajiSite *site, const RukeshomajiFrame *frame, uint64_t weight, uint64_t height,
+                                RukeshomajiFigures *figures);
+
+/* The shear call in the Taipei Basin: rukeshomaji_shear_call with a zone in place of the site.
+ *
+ * Given      zone            micro-zone of the Basin: 1 to 4
+ *            frame           see above
+ *            weight, height  as of rukeshomaji_shear_call
+ * Returned   0, or the refusal
+ * Refused    3 and 4 at place 0, then 18, 8 to 12
+ * Written    figures: all fields
+ * Reference  document 000, 2.1 after (4) for the period, (6) to (8), (10), (11), (15) to (20), Table 4
+ */
+uint64_t rukeshomaji_basin_shear_call(uint64_t zone, const RukeshomajiFrame *frame, uint64_t weight, uint64_t height,
+                                      RukeshomajiFigures *figures);
+
+/* The distribution: a base shear that is handed in, over the storeys. With V_D and T of a job it writes what rukeshomaji_job writes to the
+ * buffers.
+ *
+ * Given      base_shear      what is shared among the levels, N: 1 to 1,200,000,000
+ *            period          period, which decides the roof force, ms: 0 to 9,999
+ *            weights, heights, forces, shears, overturnings    as of rukeshomaji_job
+ * Returned   0, or the refusal
+ * Refused    1 to 4 as of rukeshomaji_job, then 19, 20
+ * Written    place: of the refusal; 0 on success. On success the first cells of the buffers, as of rukeshomaji_job: the forces add up to
+ *            base_shear. Each shear is at least its exact figure from base_shear, and less than 2 N above it
+ * Reference  document 000 (21) with base_shear for V_D and period for T, (23) without its factor. F_t of (21) is 0 for a period up to 700 ms
+ *            and at most base_shear/4, rounded up
+ */
+uint64_t rukeshomaji_distribution(uint64_t base_shear, uint64_t period, const uint64_t *weights, uint64_t weight_count,
+                                  const uint64_t *heights, uint64_t height_count, uint64_t *forces, uint64_t force_cells, uint64_t *shears,
+                                  uint64_t shear_cells, uint64_t *overturnings, uint64_t overturning_cells, uint64_t *place);
 
 /* The site class of a soil log: the layers of the upper 30 m.
  *

@@ -15,6 +15,10 @@ import re
 import subprocess
 import sys
 
+from tests.model import calls
+from tests.writes import by_hand
+from tests.writes.calls import scaling_lines
+
 ROOT = pathlib.Path(__file__).resolve().parents[1]
 EXAMPLES = ROOT / 'examples'
 GIVEN = os.environ.get('RUKESHOMAJI_LIBRARY')
@@ -39,9 +43,12 @@ def printed(path):
 
 
 def run_programs():
-    """The three examples print the listing of the worked sheet; the one in C++ that of every sheet."""
+    """Three examples print the listing of the worked sheet, two what the manual has of a scaled analysis; that in C++ prints every listing."""
     expected = (EXAMPLES / 'office.listing').read_bytes()
     for name in ('office.c', 'listing.cpp', 'rukeshomaji.py'):
+        yield name, printed(EXAMPLES / name) == expected
+    expected = ''.join(f'{line}\n' for line in scaling_lines(by_hand.read((EXAMPLES / 'office.sheet').read_bytes()))).encode()
+    for name in ('scaling.c', 'scaling.py'):
         yield name, printed(EXAMPLES / name) == expected
     for sheet in sorted(EXAMPLES.glob('*.sheet')):
         run = subprocess.run([ROOT / 'target' / 'lib' / 'listing'], input=sheet.read_bytes(), capture_output=True, check=False)
@@ -74,6 +81,15 @@ def refusals(core):
     def job(site=SITE, frame=FRAME, weights=WEIGHTS, heights=HEIGHTS):
         return core.job, (site, frame, weights, heights)
 
+    def call(weight=15_000, height=300, site=SITE, frame=FRAME):
+        return core.shear_call, (site, frame, weight, height)
+
+    def basin_call(zone=1, weight=15_000, height=300, frame=FRAME):
+        return core.basin_shear_call, (zone, frame, weight, height)
+
+    def over(base_shear=1_071_429, period=1000, weights=WEIGHTS, heights=HEIGHTS):
+        return core.distribution, (base_shear, period, weights, heights)
+
     def log(*lists):
         return core.site_class, lists
 
@@ -97,6 +113,19 @@ def refusals(core):
     yield 18, 0, (core.sheet, (b'basin\t5\nframe\t2\t1000\t480\t100\t150\nlevel\t5000\t100\n',))
     yield from ((18, 0, (function, (zone, FRAME, WEIGHTS, HEIGHTS))) for function in (core.basin_job, core.basin_figures)
                 for zone in (0, 5, 2 ** 64 - 1))
+    for number in (0, 1_000_001, 2 ** 64 - 1):
+        yield from ((3, 0, each) for each in (call(weight=number, height=0), basin_call(zone=5, weight=number)))
+    for number in (0, 2_001, 2 ** 64 - 1):
+        yield from ((4, 0, each) for each in (call(height=number, site=with_number(SITE, 0, 75)), basin_call(zone=5, height=number)))
+    yield 5, 2, call(site=with_number(SITE, 1, 75), frame=with_number(FRAME, 2, 99))
+    yield 18, 0, basin_call(zone=5, frame=with_number(FRAME, 2, 99))
+    yield from ((12, 0, each) for each in (call(frame=with_number(FRAME, 1, 60_001)), basin_call(frame=with_number(FRAME, 1, 60_001))))
+    yield 1, 0, over(0, weights=[], heights=[])
+    yield 2, 0, over(0, heights=HEIGHTS[:2])
+    yield 3, 2, over(0, weights=[5000, 20_001, 5000])
+    yield 4, 3, over(0, heights=[100, 200, 200])
+    yield from ((19, 0, over(number, 10_000)) for number in (0, 1_200_000_001, 2 ** 64 - 1))
+    yield from ((20, 0, over(period=number)) for number in (10_000, 2 ** 64 - 1))
 
 
 def listed(done):
@@ -107,6 +136,12 @@ def listed(done):
     return ''.join('\t'.join(map(str, line)) + '\n' for line in lines).encode()
 
 
+def in_two_calls(core):
+    """The listing of the worked sheet by a shear call and a distribution."""
+    figures = core.shear_call(SITE, FRAME, sum(WEIGHTS), HEIGHTS[-1])
+    return listed(core.Job(figures, *core.distribution(figures.vd, figures.t, WEIGHTS, HEIGHTS)))
+
+
 def run_module(core):
     """What the Python module answers, refuses and does not call."""
     yield 'the same figures alone', core.figures(SITE, FRAME, WEIGHTS, HEIGHTS) == core.job(SITE, FRAME, WEIGHTS, HEIGHTS).figures
@@ -114,6 +149,14 @@ def run_module(core):
     yield 'a job in the Basin', listed(core.basin_job(1, FRAME, WEIGHTS, HEIGHTS)) == (EXAMPLES / 'basin.listing').read_bytes()
     yield from ((f'the figures of zone {zone} alone', core.basin_figures(zone, FRAME, WEIGHTS, HEIGHTS)
                  == core.basin_job(zone, FRAME, WEIGHTS, HEIGHTS).figures) for zone in (1, 2, 3, 4))
+    yield 'a job from the two calls', in_two_calls(core) == (EXAMPLES / 'office.listing').read_bytes()
+    yield from ((f'the shear call of zone {zone}', core.basin_shear_call(zone, FRAME, sum(WEIGHTS), HEIGHTS[-1])
+                 == core.basin_figures(zone, FRAME, WEIGHTS, HEIGHTS)) for zone in (1, 2, 3, 4))
+    yield from ((f'a base shear of {base_shear} N at {period} ms', core.distribution(base_shear, period, WEIGHTS, HEIGHTS)
+                 == calls.distribution(base_shear, period, WEIGHTS, HEIGHTS)[5:]) for base_shear in (1, 964_287, 1_200_000_000)
+                for period in (0, 700, 701, 3_571, 3_572, 9_999))
+    yield 'a total weight', 'total weight out' in str(raises(core.Refused, core.shear_call, SITE, FRAME, 0, 300))
+    yield 'a top height', 'top height out' in str(raises(core.Refused, core.shear_call, SITE, FRAME, 15_000, 2_001))
     yield 'a soil log', core.site_class([1000, 1000, 1000], [1, 2, 3], [3000, 20, 40]) == 1
     yield 'a sheet', core.sheet((EXAMPLES / 'tower.sheet').read_bytes()) == (EXAMPLES / 'tower.listing').read_bytes()
     header = (ROOT / 'include' / 'rukeshomaji.h').read_text()
@@ -124,11 +167,15 @@ def run_module(core):
         error = raises(core.Refused, function, *arguments)
         seen.add(number)
         yield f'refusal {number} at {place}', error and (error.number, error.place) == (number, place) and error.text in str(error)
-    yield 'every refusal', seen == set(core.TEXTS) == set(range(1, 19))
+    yield 'every refusal', seen == set(core.TEXTS) == set(range(1, 21))
     for number in (2 ** 64, 2 ** 64 + 1000, -1):
         yield f'a calculated period of {number}', raises(OverflowError, core.job, SITE, (2, number, 480, 100, 150), WEIGHTS, HEIGHTS)
         yield f'a weight of {number}', raises(OverflowError, core.figures, SITE, FRAME, [5000, number, 5000], HEIGHTS)
         yield f'a zone of {number}', raises(OverflowError, core.basin_job, number, FRAME, WEIGHTS, HEIGHTS)
+        yield f'a total weight of {number}', raises(OverflowError, core.shear_call, SITE, FRAME, number, 300)
+        yield f'a top height of {number}', raises(OverflowError, core.basin_shear_call, 1, FRAME, 15_000, number)
+        yield f'a base shear of {number}', raises(OverflowError, core.distribution, number, 1000, WEIGHTS, HEIGHTS)
+        yield f'a period of {number}', raises(OverflowError, core.distribution, 1_071_429, number, WEIGHTS, HEIGHTS)
         yield f'a value of {number}', raises(OverflowError, core.site_class, [3000], [2], [number])
     yield 'the largest number of 64 bits', raises(core.Refused, core.figures, SITE, (2, 2 ** 64 - 1, 480, 100, 150), WEIGHTS, HEIGHTS)
     yield 'a zone of 1.0', raises(TypeError, core.basin_figures, 1.0, FRAME, WEIGHTS, HEIGHTS)

@@ -5,7 +5,7 @@ usage: python3 -m tests.manual
 - each page that tests/writes/manual.py fills is what it writes, byte for byte, and what such a page says in digits of its own is a constant
 - each field of a sheet has the range of the model, its line has that many fields, a `site` line seven or nine, and classes and kinds have
   the model's coefficients
-- each refusal from 1 to 18 has a row, its ranges are the model's, and its example gets what the row says
+- each refusal from 1 to 20 has a row, its ranges are the model's, and its example gets what the row says
 - each rule, worked out as the page writes it, gives the model's number, and is rounded to the side that the page names; so do those of the
   Taipei Basin
 - sheet and listing are those of examples/ wherever they are shown, README.md included; every page is in the list of pages
@@ -19,7 +19,7 @@ import sys
 from fractions import Fraction
 from math import ceil, floor
 
-from tests.model import basin as basins, limits, response, sheet, shears, site as sites, soil, storeys
+from tests.model import basin as basins, calls, limits, response, sheet, shears, site as sites, soil, storeys
 from tests.writes import manual, near_fault
 from tests.writes.by_hand import comma, decimal, read
 from tests.writes.manual import ranged
@@ -40,6 +40,7 @@ OWN = {
     'roof_force.md': '0 0.07 0.7 2 2.0.0 3.1 10 14 21 50 700',
     'rounding.md': '0.07 1 3 1.4 1.5 4.2 10 15 21 700 701 3,571',
     'soil.md': '0.1 1 2 3 2.1 10 13 15 18 27 30 180 270 800 1000',
+    'shear_and_storeys.md': '0 0.07 1 2 2.5.4 3.1 3.2 3.3 3.4 4 10 14 19 20 21 24 700 701 3,571 10,000',
 }
 
 
@@ -84,8 +85,12 @@ SAID = {
     13: [f'more than {soil.LAYERS[-1]}'], 14: [],
     15: ['not ' + either(tuple(soil.VALUE)), f'velocity {ranged(soil.VALUE[1])} dm/s', f'cohesive N {ranged(soil.VALUE[2])}',
          f'cohesionless N {ranged(soil.VALUE[3])}'],
-    17: [f'more than {comma(sheet.MOST_BYTES)} bytes'], 18: ['not ' + either(limits.ZONE)],
+    17: [f'more than {comma(sheet.MOST_BYTES)} bytes'], 18: ['not ' + either(limits.ZONE)], 19: [f'not {ranged(limits.BASE_SHEAR)} N'],
+    20: [f'above {comma(limits.PERIOD[-1])} ms'],
 }
+# what those at place 0 must say, of a shear call
+SAID_AT_0 = {3: [f'the total weight of a [shear call](shear_and_storeys.md) is not {ranged(limits.TOTAL_WEIGHT)} kN'],
+             4: [f'the top height of a [shear call](shear_and_storeys.md) is not {ranged(limits.HEIGHT)} dm']}
 
 
 def page(name):
@@ -171,10 +176,24 @@ def with_line(number, line):
     return sheet.shear('\n'.join(changed).encode()).decode().split()
 
 
+def of_call(unit, number):
+    """What the model answers where a call of the worked sheet's building is given another number, told by its unit."""
+    office = read(OFFICE)
+    given = {'kN': office.W, 'dm': office.heights[-1], 'N': office.V_D, 'ms': office.T} | {unit: number}
+    if unit in ('kN', 'dm'):
+        said = calls.shear_call(office.ground, office.frame, given['kN'], given['dm'])
+    else:
+        said = calls.distribution(given['N'], given['ms'], office.weights, office.heights)
+    return list(map(str, said[:3]))
+
+
 def answer(example):
     """What the model answers to the example of a refusal."""
     line = re.match(r'line (\d+) `([^`]*)`(?: \([^)]*\))?$', example)
     layers = re.match(r'log `([^`]*)`$', example)
+    call = re.match(r'(shear call with|distribution of|distribution at) ([\d,]+) (kN|dm|N|ms)$', example)
+    if call:
+        return of_call(call[3], int(call[2].replace(',', '')))
     if line:
         return with_line(int(line[1]), line[2].replace(' ', '\t'))
     if layers:
@@ -196,17 +215,20 @@ def refusals():
     """The refusals: one row at least for each, and what it says."""
     text = page('refusals.md')
     found = rows(text, '')
-    yield sorted({int(row[0]) for row in found}) == list(range(1, 19)), 'docs/manual/refusals.md: not each of 1 to 18'
+    yield sorted({int(row[0]) for row in found}) == list(range(1, 21)), 'docs/manual/refusals.md: not each of 1 to 20'
     wrong = limits.refusals(limits.Basin(5), (5, 60_001, 99, 99, 99), [0], [0, 0], ())
     yield [number for number, _ in wrong] == [2, 3, 4, 4, 18, 8, 9, 10, 11, 12], 'docs/manual/refusals.md: 18 is not where the page says'
     yield '18 stands in place of 5 to 7, after 1 to 4 and before 8 to 12' in text.replace('\n', ' '), 'docs/manual/refusals.md: the place of 18'
+    wrong = limits.distribution_refusals(0, 10_000, [0], [0, 0], ())
+    yield [number for number, _ in wrong] == [2, 3, 4, 4, 19, 20], 'docs/manual/refusals.md: 19 and 20 are not where the page says'
+    yield '19, then 20, come after 1 to 4' in text.replace('\n', ' '), 'docs/manual/refusals.md: the place of 19 and 20'
     for number, place, wrong, to_do, example in found:
         said = re.match(r'(.*): `(refused \d+ \d+)`$', example)
         got = answer(said[1]) if said else None
         yield bool(got) and ' '.join(got) == said[2], f'docs/manual/refusals.md: {number}: {example}: {got}'
         yield bool(said) and said[2].split()[1] == number, f'docs/manual/refusals.md: {number}: its example is of another'
         yield (place == '0') == (bool(said) and said[2].split()[2] == '0'), f'docs/manual/refusals.md: {number}: its place'
-        for words in SAID.get(int(number), []):
+        for words in (SAID | SAID_AT_0 if place == '0' else SAID).get(int(number), []):
             yield words in f'{place}; {wrong}; {to_do}', f'docs/manual/refusals.md: {number}: does not say: {words}'
     by_seven = re.search(r'On a `site` line of seven numbers, refusal 6 has place 1 or 2 only: `(site [\d ]*)` gets `(refused 6 [12])`', text)
     yield bool(by_seven) and answer(f'line 1 `{by_seven[1]}`') == by_seven[2].split(), 'docs/manual/refusals.md: 6 on seven numbers'

@@ -1,9 +1,9 @@
 """Numerals of the model, each changed by one: are they seen by what the gate holds the definitions and the code to?
 
 The numerals of the chain are tried on the jobs of crates/vectors, those of the soil log on the logs of crates/run_logs, those of the
-ranges and refusals on the changed jobs of crates/run_refusals and the jobs of crates/vectors: the files that stand there, which the unchanged model must meet first.
-What they do not see is tried on the figures of tests/compares/check_model.py. A numeral of an assertion is left alone, and so are the
-names of LEFT, each with its reason.
+ranges and refusals on the changed jobs of crates/run_refusals, the jobs of crates/vectors and the shear calls and distributions of
+crates/run_calls: the files that stand there, which the unchanged model must meet first. What they do not see is tried on the
+figures of tests/compares/check_model.py. A numeral of an assertion is left alone, and so are the names of LEFT, each with its reason.
 
 usage: python3 -m tests.compares.changed_numerals
 """
@@ -20,12 +20,13 @@ import sys
 
 from tests.compares import check_model
 from tests.compares.checks import basin as basin_figures, errors, figures
-from tests.model import basin, exact, limits, response, shears, site, soil, storeys
+from tests.model import basin, calls, exact, limits, response, shears, site, soil, storeys
 from tests.model.job import job
-from tests.writes import log_cases, refusal_cases, vectors
+from tests.writes import call_cases, log_cases, refusal_cases, vectors
 
 LEFT = {
-    **dict.fromkeys(('DIGITS', 'low_fraction', 'high_fraction', 'squares', 'bounds', 'check'), 'the margin, not the chain'),
+    **dict.fromkeys(('DIGITS', 'low_fraction', 'high_fraction', 'squares', 'bounds', 'base_margin', 'check', 'check_distribution'),
+                    'the margin, not the chain'),
     'cube_root': 'where a search begins and how it goes; that it ends at the root is asserted',
 }
 # (module, line, numeral): why the changed text means the same
@@ -86,8 +87,18 @@ def answers(stored):
     return [re.split('[:;] ', line)[-1] for line in stored.read_text().splitlines()]
 
 
+def called(case):
+    """What the program `run_calls` says of a case; a ground of one number is a zone, of the changed model's own type."""
+    if isinstance(case, call_cases.Shear) and len(case.ground) == 1:
+        case = case._replace(ground=limits.Basin(*case.ground))
+    return case.said()
+
+
 def judged(*case):
-    """What the program `run_refusals` says of a changed job, or a job's stages, which are there where it is accepted."""
+    """What the program `run_refusals` says of a changed job, or `run_calls` of a call; or a job's stages, which are there where it is
+    accepted."""
+    if isinstance(case[0], (call_cases.Shear, call_cases.Distribution)):
+        return called(*case)
     return refusal_cases.outcome(*case) if len(case) == 1 else vector(*case)
 
 
@@ -123,7 +134,9 @@ def suites():
     logs = [*(log_cases.lists(*case) for case in log_cases.all_cases()), *log_cases.blow_counts()]
     yield (soil,), log_or_velocity, logs, answers(CRATES / 'run_logs' / 'stdout')
     jobs = [(changes,) for changes in refusal_cases.all_cases()]
-    yield (limits,), judged, [*jobs, *rows], answers(CRATES / 'run_refusals' / 'stdout') + [vector(*row) for row in rows]
+    cases = call_cases.all_cases()
+    known = [*answers(CRATES / 'run_refusals' / 'stdout'), *(vector(*row) for row in rows), *call_cases.stored(cases)]
+    yield (limits, calls), judged, [*jobs, *rows, *((case,) for case in cases)], known
 
 
 def by_figures():

@@ -1,12 +1,16 @@
-"""Compares the compiled core with the model: jobs, bad jobs, soil logs, sheets; jobs and bad jobs of the Basin, and with two pairs.
+"""Compares the compiled core with the model: jobs, bad jobs, soil logs, sheets; jobs and bad jobs of the Basin, and with two pairs; shear
+calls and distributions, sound and bad.
 
-usage: python3 -m tests.compares.compare [JOBS [BAD [LOGS [SHEETS [SEED [BASIN [BASIN_BAD [PAIRS [PAIRS_BAD]]]]]]]]]
+usage: python3 -m tests.compares.compare [JOBS [BAD [LOGS [SHEETS [SEED [BASIN [BASIN_BAD [PAIRS [PAIRS_BAD
+                                         [SHEARS [SHEARS_BAD [DISTRIBUTIONS [DISTRIBUTIONS_BAD]]]]]]]]]]]]]
 
 JOBS are on sites with one pair of near-fault factors for both levels, PAIRS on sites with a pair for each. BAD, BASIN_BAD and PAIRS_BAD are drawn
 likewise and then changed; they are counted by what was drawn, though a changed factor can make two pairs of one. A quarter of the SHEETS is of
-the Basin, and a quarter has two pairs; jobs by seven numbers and by nine come on top of them. It prints the count of each stratum, the largest
-excess over the exact figure of demand 3 on sites, in the Basin and with two pairs, and the number of differences; on standard error it says how
-far it is. It needs x86-64, or RUKESHOMAJI_LIBRARY, a shared library of the core for the machine at hand.
+the Basin, and a quarter has two pairs; jobs by seven numbers and by nine come on top of them. A third each of SHEARS and of SHEARS_BAD is
+on sites with one pair, in the Basin, and on sites with two; jobs whose two calls in turn are held to the job call come on top of the
+DISTRIBUTIONS. It prints the count of each stratum, the largest excess over the exact figure of demand 3 on sites, in the Basin and with two
+pairs, of shear calls and of distributions, and the number of differences; on standard error it says how far it is. It needs x86-64, or
+RUKESHOMAJI_LIBRARY, a shared library of the core for the machine at hand.
 """
 
 import random
@@ -15,12 +19,14 @@ import time
 from concurrent import futures
 
 from tests.compares import core
+from tests.compares.compare_calls import call_tasks
 from tests.compares.compare_sheets import run_both_ways, run_sheets, run_stored_sheets
 from tests.compares.excess import SHARP
+from tests.compares.parts import A_STRATUM, MEASURED_EACH, chunks, figures_of, filled, held
 from tests.compares.tally import PREFIX, Tally, kind_of, label, refusal_words
 from tests.draws import faults, pair_faults, pairs, soil_logs
 from tests.draws.basin import basin_strata
-from tests.draws.plain_jobs import draw, draw_basin, draw_pairs, draw_site
+from tests.draws.plain_jobs import draw, draw_basin, draw_pairs, draw_site, lengths
 from tests.draws.rare import rare_strata
 from tests.draws.roof import roof_strata
 from tests.draws.sample import all_strata, draw_in
@@ -29,37 +35,26 @@ from tests.writes import log_cases
 
 JOBS, BAD, LOGS, SHEETS, SEED = 1_000_000, 120_000, 100_000, 120_000, 1
 BASIN, BASIN_BAD, PAIRS, PAIRS_BAD = 200_000, 24_000, 200_000, 24_000
-A_STRATUM, CHUNK, SHOWN = 500, 2_500, 5
+SHEARS, SHEARS_BAD, DISTRIBUTIONS, DISTRIBUTIONS_BAD = 200_000, 24_000, 200_000, 24_000
+SHOWN = 5
 BOTH_WAYS = 20          # for every so many SHEETS a job on top, by seven numbers and by nine, and each with a number more: four sheets
 SAID_EACH = 10          # seconds
 WITHOUT = 'the same without buffers'
-MEASURED_EACH = 10      # of the jobs drawn from all that is allowed, the exact figure of every tenth is worked out
-OLD = (7_000_000, 8_000_000, 9_000_000)       # what the buffers held: all cells differ
 
 
-def held(lengths):
-    """What three buffers of these lengths hold before a call."""
-    return [list(range(mark, mark + length)) for mark, length in zip(OLD, lengths)]
-
-
-def answer_of(result, lengths):
+def answer_of(result, room):
     """The reply that the model's result stands for, what the buffers hold after, and that what is only read is as it was."""
-    old = held(lengths)
-    if result[0] == 'refused':
-        return (*result[1:], 0, 0, 0, 0, 0), old, True
-    cells = (result.forces, result.shears, result.moments)
-    return ((0, 0, result.V, result.V_M, result.V_star, result.V_D, result.T),
-            [written + rest[len(written):] for written, rest in zip(cells, old)], True)
+    return figures_of(result), filled(result, room), True
 
 
-def expected_job(ground, frame, weights, heights, lengths):
+def expected_job(ground, frame, weights, heights, room):
     """The model's answer."""
-    return answer_of(jobs.job(ground, frame, weights, heights, lengths), lengths)
+    return answer_of(jobs.job(ground, frame, weights, heights, room), room)
 
 
-def got_job(library, ground, frame, weights, heights, lengths):
+def got_job(library, ground, frame, weights, heights, room):
     """The core's answer."""
-    return core.job(library, ground, frame, weights, heights, held(lengths))
+    return core.job(library, ground, frame, weights, heights, held(room))
 
 
 def compare_job(tally, library, stratum, call, measured):
@@ -70,11 +65,6 @@ def compare_job(tally, library, stratum, call, measured):
     tally.compare(label(call, WITHOUT), call, core.figures(library, *call[:4]), expected[0])
     if measured:
         tally.largest[kind_of(result.ground)].measure(result)
-
-
-def lengths(rng, weights):
-    """Buffers as long as the list, or longer."""
-    return tuple(len(weights) + (rng.choice((0, 0, 1)) if rng.random() < 0.99 else rng.randrange(1_000)) for _ in OLD)
 
 
 def with_buffers(rng, inputs):
@@ -191,11 +181,6 @@ def run(task):
     return tally
 
 
-def chunks(function, seed, count):
-    """A count in parts, each with its seed."""
-    return [(function, f'{function.__name__} {seed} {start}', min(CHUNK, count - start)) for start in range(0, count, CHUNK)]
-
-
 def strata(draw_ground=draw_site):
     """Every stratum of sites, of the Basin or of two pairs, with the jobs drawn for it; those of the roof force are on each of them."""
     roof = roof_strata(draw_ground, A_STRATUM)
@@ -237,14 +222,15 @@ def told(tallies, parts):
 
 
 def main(job_count=JOBS, bad=BAD, logs=LOGS, sheets=SHEETS, seed=SEED, basin=BASIN, basin_bad=BASIN_BAD, two_pairs=PAIRS,
-         two_pairs_bad=PAIRS_BAD):
-    """Run all, print all; 1 where anything differs. No fewer jobs are drawn than the strata ask for."""
+         two_pairs_bad=PAIRS_BAD, shears=SHEARS, shears_bad=SHEARS_BAD, distributions=DISTRIBUTIONS, distributions_bad=DISTRIBUTIONS_BAD):
+    """Run all, print all; 1 where anything differs. No fewer jobs and calls are drawn than the strata ask for."""
     core.build()
     tasks = [*job_tasks(seed, draw_site, run_plain, job_count - len(SHARP)), (run_sharp, seed, 0)]
     tasks += [(run_systematic, seed, 0), *chunks(run_bad, seed, bad)]
     tasks += [(run_systematic_logs, seed, 0), *chunks(run_logs, seed, logs)]
     tasks += [(run_stored_sheets, seed, 0), *chunks(run_sheets, seed, sheets), *chunks(run_both_ways, seed, sheets // BOTH_WAYS)]
     tasks += [*basin_tasks(seed, basin, basin_bad), *pair_tasks(seed, two_pairs, two_pairs_bad)]
+    tasks += call_tasks(seed, shears, shears_bad, distributions, distributions_bad)
     total = Tally()
     with futures.ProcessPoolExecutor() as pool:     # a core that crashes ends this with an error
         for tally in told(pool.map(run, tasks), len(tasks)):

@@ -80,9 +80,13 @@ def load():
         for name, lists in (('job', 5), ('figures', 2)):
             entry = getattr(library, f'rukeshomaji_{ground}{name}')
             entry.argtypes = [kind, ctypes.POINTER(Frame), *slices * lists, ctypes.POINTER(Figures)]
+        entry = getattr(library, f'rukeshomaji_{ground}shear_call')
+        entry.argtypes = [kind, ctypes.POINTER(Frame), U64, U64, ctypes.POINTER(Figures)]
+    library.rukeshomaji_distribution.argtypes = [U64, U64, *slices * 5, ctypes.POINTER(U64)]
     library.rukeshomaji_site_class.argtypes = [*slices * 3, ctypes.POINTER(SiteClass)]
     library.rukeshomaji_sheet.argtypes = [ctypes.c_char_p, U64, ctypes.c_char_p, ctypes.POINTER(Listing)]
-    for name in ('job', 'figures', 'basin_job', 'basin_figures', 'site_class', 'sheet', 'version', 'edition', 'source'):
+    for name in ('job', 'figures', 'basin_job', 'basin_figures', 'shear_call', 'basin_shear_call', 'distribution', 'site_class', 'sheet',
+                 'version', 'edition', 'source'):
         getattr(library, f'rukeshomaji_{name}').restype = U64
     return library
 
@@ -147,6 +151,23 @@ def figures(library, ground, frame, weights, heights):
     """(number, place, V, V_M, V*, V_D, T), without buffers."""
     (array, reply), (entry, given) = painted(Figures), entry_of(library, 'figures', ground)
     return answer(entry(given, Frame(*frame), *lent(weights), *lent(heights), reply), array)
+
+
+def shear_call(library, ground, frame, weight, height):
+    """(number, place, V, V_M, V*, V_D, T), and whether what is only read is as it was."""
+    (array, reply), (entry, given), line = painted(Figures), entry_of(library, 'shear_call', ground), Frame(*frame)
+    number = entry(given, line, weight, height, reply)
+    read = numbers_of(given) if isinstance(given, Site) else (given,), numbers_of(line)
+    return answer(number, array), read == (tuple(limits.ground_of(ground)), tuple(frame))
+
+
+def distribution(library, base_shear, period, weights, heights, buffers):
+    """(number, place), what the three buffers hold after, and whether what is only read is as it was."""
+    out, lists, (array, place, _) = [lent_out(each) for each in buffers], [lent(weights), lent(heights)], lent_out([PAINT])
+    slices = (part for _, pointer, length in out for part in (pointer, length))
+    number = library.rukeshomaji_distribution(base_shear, period, *lists[0], *lists[1], *slices, place)
+    same = [list(each) for each, _ in lists] == [list(weights), list(heights)]
+    return answer(number, array), [cells_of(each) for each, _, _ in out], same
 
 
 def site_class(library, thicknesses, kinds, values):

@@ -1,4 +1,4 @@
-"""How far printed shears come above the exact figure of demand 3: the largest excess seen, and the job that shows it.
+"""How far printed shears come above the exact figure of demand 3: the largest excess seen, and the job or call that shows it.
 
 Demand 3 grants six millionths of I*W/(1.4*alpha-y) and some newtons. Millionths are counted beyond the newtons, since a
 light job has a millionth far below a newton, and newtons beyond the six millionths. The exact figure is the chain at roots
@@ -25,16 +25,23 @@ def words(ground):
 
 
 class Excess(NamedTuple):
-    """An excess, and the job that shows it."""
+    """An excess, and the job or call that shows it."""
 
     size: object
     job: object
 
 
+def shear_words(call):
+    """A job or a shear call, as far as its base shear depends on it."""
+    return f'{words(call.ground)} frame {tuple(call.frame)}'
+
+
 class Largest:
     """The largest excess by part and unit, over the jobs measured."""
 
-    def __init__(self, where):
+    parts, what = NEWTONS, 'jobs'
+
+    def __init__(self, where=''):
         self.where, self.seen, self.jobs = where, {}, 0
 
     def keep(self, key, excess):
@@ -42,11 +49,15 @@ class Largest:
         if key not in self.seen or excess.size > self.seen[key].size:
             self.seen[key] = excess
 
-    def measure(self, job):
-        """One accepted job; demand 3 is asserted of it."""
+    def over(self, job):
+        """The excess of each part, in N; demand 3 is asserted of the job."""
         over = exact.check(job)
+        return {'base': over.V_D, 'storey': max(over.storeys)}
+
+    def measure(self, job):
+        """One accepted job."""
         millionth = exact.shear_unit(job) / job.s
-        for part, excess in (('base', over.V_D), ('storey', max(over.storeys))):
+        for part, excess in self.over(job).items():
             self.keep((part, 'N'), Excess(max(0, excess - MARGIN * millionth), job))
             self.keep((part, 'millionths'), Excess(max(0, excess - NEWTONS[part]) / millionth, job))
         self.jobs += 1
@@ -57,12 +68,51 @@ class Largest:
             self.keep(key, excess)
         self.jobs += other.jobs
 
-    def lines(self):
-        """What was seen beside what demand 3 grants."""
-        yield f'largest excess over the exact figure, of {self.jobs} jobs {self.where}'
-        for part, newtons in NEWTONS.items():
-            beyond, most = self.seen[part, 'millionths'], self.seen[part, 'N']
+    def words(self, job):
+        """One of the jobs."""
+        return f'{shear_words(job)} {len(job.weights)} levels, {job.W} kN, top {job.heights[-1]}'
+
+    def part_lines(self):
+        """What was seen of each part beside what demand 3 grants."""
+        for part in self.parts:
+            beyond, most, newtons = self.seen[part, 'millionths'], self.seen[part, 'N'], NEWTONS[part]
             yield f'  {part}: {float(beyond.size):.4f} millionths beyond {newtons} N (granted: less than {MARGIN}), ' \
                   f'{float(most.size):.4f} N beyond {MARGIN} millionths (granted: less than {newtons})'
-            yield from (f'    {unit}: {words(job.ground)} frame {tuple(job.frame)} {len(job.weights)} levels, {job.W} kN, '
-                        f'top {job.heights[-1]}' for unit, job in (('millionths', beyond.job), ('N', most.job)))
+            yield from (f'    {unit}: {self.words(job)}' for unit, job in (('millionths', beyond.job), ('N', most.job)))
+
+    def lines(self):
+        """What was seen; nothing but the heading where nothing was measured."""
+        yield ' '.join(('largest excess over the exact figure, of', str(self.jobs), self.what, self.where)).rstrip()
+        if self.jobs:
+            yield from self.part_lines()
+
+
+class OfShears(Largest):
+    """The same of shear calls, which have a base alone."""
+
+    parts, what = ('base',), 'shear calls'
+
+    def over(self, job):
+        """The excess of V_D."""
+        return {'base': exact.check_shear_call(job).V_D}
+
+    def words(self, job):
+        """One of the calls."""
+        return f'{shear_words(job)} {job.W} kN, top {job.h}'
+
+
+class OfDistributions(Largest):
+    """The largest excess of distributions over the exact figure from the number handed in."""
+
+    what = 'distributions'
+
+    def measure(self, job):
+        """One that was taken: "less than two newtons above" is asserted of it."""
+        self.keep('N', Excess(exact.check_distribution(job), job))
+        self.jobs += 1
+
+    def part_lines(self):
+        """What was seen beside what is granted."""
+        size, over = self.seen['N']
+        yield f'  storey: {float(size):.4f} N (granted: less than 2)'
+        yield f'    N: {over.base_shear} N at {over.period} ms, weights {over.weights}, heights {over.heights}'

@@ -48,11 +48,24 @@ static void without_buffers(const char *name, uint64_t zone) {
     }
 }
 
+/* the distribution with each set of lists and buffers; its place comes back through a pointer */
+static void distributions(void) {
+    for (unsigned set = 0; set < 32; set++) {
+        uint64_t cells[3][LEVELS] = {{7, 7, 7}, {8, 8, 8}, {9, 9, 9}}, place = PAINT;
+        uint64_t number = rukeshomaji_distribution(1071429, 1000, LIST(weights, 0), LIST(heights, 1), LIST(cells[0], 2), LIST(cells[1], 3),
+                                                   LIST(cells[2], 4), &place);
+        printf("distribution %u: %" PRIu64 " %" PRIu64, set, number, place);
+        for (int i = 0; i < 3 * LEVELS; i++) printf(" %" PRIu64, cells[i / LEVELS][i % LEVELS]);
+        printf("\n");
+    }
+}
+
 int main(void) {
     jobs("job", 0);
     jobs("basin_job", 3);
     without_buffers("figures", 0);
     without_buffers("basin_figures", 3);
+    distributions();
     for (unsigned set = 0; set < 8; set++) {
         RukeshomajiClass c = {PAINT, PAINT};
         uint64_t number = rukeshomaji_site_class(LIST(thicknesses, 0), LIST(kinds, 1), LIST(values, 2), &c);

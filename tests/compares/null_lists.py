@@ -14,14 +14,14 @@ import sys
 import tempfile
 
 from tests.compares import core
-from tests.model import job as jobs, limits, sheet, soil
+from tests.model import calls, job as jobs, limits, sheet, soil
 
 SITE, FRAME = limits.one_pair(80, 45, 100, 55, 100, 100, 1), limits.Frame(2, 1000, 480, 100, 150)
-LEVELS = 3
+LEVELS, BASE_SHEAR, PERIOD = 3, 1_071_429, 1_000
 BASIN = limits.Basin(3)
 JOB, FIGURES = ([5000] * LEVELS, [100, 200, 300], [7] * LEVELS, [8] * LEVELS, [9] * LEVELS), ([5000] * LEVELS, [100, 200, 300])
 LISTS = {
-    'job': JOB, 'basin_job': JOB, 'figures': FIGURES, 'basin_figures': FIGURES,
+    'job': JOB, 'basin_job': JOB, 'figures': FIGURES, 'basin_figures': FIGURES, 'distribution': JOB,
     'site_class': ([1000] * LEVELS, [1, 2, 3], [3000, 20, 40]),
     'sheet': (sheet.write(SITE, FRAME, [5000] * LEVELS, [100, 200, 300]),),
 }
@@ -37,6 +37,12 @@ def job_line(result):
     return [*result[1:], 0, 0, 0, 0, 0] if result[0] == 'refused' else [0, 0, result.V, result.V_M, result.V_star, result.V_D, result.T]
 
 
+def held_after(result):
+    """Every cell of the three buffers."""
+    cells = JOB[2:] if result[0] == 'refused' else (result.forces, result.shears, result.moments)
+    return [cell for buffer in cells for cell in buffer]
+
+
 def ground_of(entry):
     """The ground that an entry is called with."""
     return BASIN if entry.startswith('basin_') else SITE
@@ -47,8 +53,10 @@ def by_model(entry, lists):
     empty = [each if each is not None else type(old)() for each, old in zip(lists, LISTS[entry])]
     if entry.endswith('job'):
         result = jobs.job(ground_of(entry), FRAME, *empty[:2], tuple(map(len, empty[2:])))
-        cells = JOB[2:] if result[0] == 'refused' else (result.forces, result.shears, result.moments)
-        return [*job_line(result), *(cell for buffer in cells for cell in buffer)]
+        return [*job_line(result), *held_after(result)]
+    if entry == 'distribution':
+        result = calls.distribution(BASE_SHEAR, PERIOD, *empty[:2], tuple(map(len, empty[2:])))
+        return [*(result[1:] if result[0] == 'refused' else (0, 0)), *held_after(result)]
     if entry.endswith('figures'):
         return job_line(jobs.job(ground_of(entry), FRAME, *empty, (len(empty[0]),) * 3))
     if entry == 'site_class':
@@ -75,9 +83,13 @@ def by_ctypes(library, entry, lists):
     if entry == 'site_class':
         array, reply = core.painted(core.SiteClass)
         return list(core.answer(library.rukeshomaji_site_class(*arguments, reply), array))
-    array, reply = core.painted(core.Figures)
-    call, ground = core.entry_of(library, entry.removeprefix('basin_'), ground_of(entry))
-    number = call(ground, core.Frame(*FRAME), *arguments, reply)
+    if entry == 'distribution':
+        array, place, _ = core.lent_out([core.PAINT])
+        number = library.rukeshomaji_distribution(BASE_SHEAR, PERIOD, *arguments, place)
+    else:
+        array, reply = core.painted(core.Figures)
+        call, ground = core.entry_of(library, entry.removeprefix('basin_'), ground_of(entry))
+        number = call(ground, core.Frame(*FRAME), *arguments, reply)
     held = [cell for (lent_to, _), old in zip(pairs[2:], LISTS[entry][2:]) for cell in (old if lent_to is None else lent_to)]
     return [*core.answer(number, array), *held]
 

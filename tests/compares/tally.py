@@ -1,8 +1,8 @@
-"""What a comparison has compared: counted by stratum, with what differed and the largest excess on each kind of ground."""
+"""What a comparison has compared: counted by stratum, with what differed and the largest excess on each kind of ground and of each call."""
 
 from collections import Counter
 
-from tests.compares.excess import Largest
+from tests.compares.excess import Largest, OfDistributions, OfShears
 from tests.model import limits
 
 PREFIX = {'site': '', 'basin': 'Basin: ', 'pairs': 'two pairs: '}       # of a stratum's name, by the kind of ground
@@ -10,11 +10,13 @@ NEAR_FAULT = 6
 
 
 class Tally:
-    """What was compared, by stratum, what differed, and the largest excess on sites, in the Basin and with two pairs."""
+    """What was compared, by stratum, what differed, and the largest excess: of jobs on sites, in the Basin and with two pairs, of shear
+    calls, of distributions."""
 
     def __init__(self):
         self.counts, self.compared, self.differences = Counter(), 0, []
-        self.largest = {'site': Largest('on sites'), 'basin': Largest('in the Basin'), 'pairs': Largest('with two pairs')}
+        self.largest = {'site': Largest('on sites'), 'basin': Largest('in the Basin'), 'pairs': Largest('with two pairs'),
+                        'shears': OfShears(), 'distributions': OfDistributions()}
 
     def compare(self, stratum, call, got, expected):
         """Count one comparison."""
@@ -28,8 +30,8 @@ class Tally:
         self.counts.update(other.counts)
         self.compared += other.compared
         self.differences += other.differences
-        for ground, largest in self.largest.items():
-            largest.add(other.largest[ground])
+        for name, largest in self.largest.items():
+            largest.add(other.largest[name])
 
 
 def kind_of(ground):

@@ -1,5 +1,6 @@
-"""01's 'Errors that look right', some of the Basin, some of two pairs of near-fault factors and some of the roof force, each put into the model:
-how many of the comparisons with the compiled core show it.
+"""01's 'Errors that look right', some of the Basin, some of two pairs of near-fault factors, some of the roof force and some of the shear
+call and the distribution, each put into the model: how many of the comparisons with the compiled core show it, and of the last how many of
+the stored cases of crates/run_calls.
 
 usage: python3 -m tests.compares.wrong_models [JOBS [SEED]]        after tests/compares/compare.py has built the archive
 """
@@ -11,14 +12,16 @@ from fractions import Fraction
 from math import ceil
 from unittest import mock
 
-from tests.compares import core
-from tests.compares.compare import expected_job, got_job, lengths
+from tests.compares import core, wrong_calls
+from tests.compares.compare import expected_job, got_job
+from tests.compares.compare_calls import expected_distribution, expected_shear, got_distribution
 from tests.compares.tally import NEAR_FAULT
 from tests.draws import faults, pair_faults
-from tests.draws.plain_jobs import draw, draw_basin, draw_pairs, draw_site
+from tests.draws.plain_jobs import draw, draw_basin, draw_pairs, draw_site, lengths
 from tests.draws.roof import period_strata
 from tests.draws.sample import draw_in
 from tests.model import basin as basins, limits, response, site as sites, storeys
+from tests.writes import call_cases
 
 JOBS, SEED = 10_000, 1
 
@@ -210,24 +213,44 @@ def roof_calls(rng, count):
         yield (*inputs, lengths(rng, inputs.weights))
 
 
-def unseen(library, calls, where, errors):
-    """Print how many calls show each error; how many errors are not seen at all."""
-    count, answers = 0, [got_job(library, *call) for call in calls]
+DISTRIBUTION_ERRORS = {
+    **wrong_calls.DISTRIBUTION_ERRORS,
+    'a roof force at every period': ROOF_ERRORS['a roof force at every T'],
+    'each storey force rounded alone': ERRORS['each storey force rounded alone'],
+}
+
+
+def unseen(calls, answers, expected, where, errors):
+    """Print how many calls show each error, by an answer that is not the model's; how many errors are not seen at all."""
+    count = 0
     for name, patches in {'nothing, the model as it is': [], **errors}.items():
         with made(patches):
-            shown = sum(expected_job(*call) != answer for call, answer in zip(calls, answers))
+            shown = sum(expected(*call) != answer for call, answer in zip(calls, answers))
         count += (shown == 0) == bool(patches)
         print(f'{shown:7} of {len(calls)} {where} show: {name}')
     return count
 
 
+def unseen_stored(kind, where, errors):
+    """The same of the stored cases of a kind."""
+    cases, answers = zip(*wrong_calls.stored(kind))
+    return unseen([(case,) for case in cases], answers, kind.said, where, errors)
+
+
 def main(jobs=JOBS, seed=SEED):
-    """Try the errors on sites, those of the Basin, of two pairs and of the roof force; 1 where one is not seen at all."""
+    """Try the errors on sites, those of the Basin, of two pairs, of the roof force and of the two calls; 1 where one is not seen at all."""
+    count = unseen_stored(call_cases.Shear, 'stored shear calls', wrong_calls.SHEAR_ERRORS)
+    count += unseen_stored(call_cases.Distribution, 'stored distributions', DISTRIBUTION_ERRORS)
     rng, library = random.Random(seed), core.load()
-    count = unseen(library, list(site_calls(rng, jobs)), 'on sites', ERRORS)
-    count += unseen(library, list(basin_calls(rng, jobs)), 'in the Basin', BASIN_ERRORS)
-    count += unseen(library, list(pair_calls(rng, jobs)), 'with two pairs', PAIR_ERRORS)
-    count += unseen(library, list(roof_calls(rng, jobs)), 'at the ends of the roof force', ROOF_ERRORS)
+    for calls, got, expected, where, errors in (
+            (site_calls, got_job, expected_job, 'on sites', ERRORS),
+            (basin_calls, got_job, expected_job, 'in the Basin', BASIN_ERRORS),
+            (pair_calls, got_job, expected_job, 'with two pairs', PAIR_ERRORS),
+            (roof_calls, got_job, expected_job, 'at the ends of the roof force', ROOF_ERRORS),
+            (wrong_calls.shear_calls, core.shear_call, expected_shear, 'shear calls', wrong_calls.SHEAR_ERRORS),
+            (wrong_calls.distributions, got_distribution, expected_distribution, 'distributions', DISTRIBUTION_ERRORS)):
+        drawn = list(calls(rng, jobs))
+        count += unseen(drawn, [got(library, *call) for call in drawn], expected, where, errors)
     return 1 if count else 0
 
 

@@ -63,3 +63,8 @@ def draw(rng, draw_ground=draw_site):
     heaviest = rng.choice((3, 1_000, 20_000))
     weights = [rng.randint(1, heaviest) for _ in range(count)]
     return Inputs(draw_ground(rng), draw_frame(rng), weights, draw_heights(rng, count))
+
+
+def lengths(rng, weights):
+    """Three buffers as long as the list, or longer."""
+    return tuple(len(weights) + (rng.choice((0, 0, 1)) if rng.random() < 0.99 else rng.randrange(1_000)) for _ in range(3))

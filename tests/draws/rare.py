@@ -4,7 +4,7 @@ from tests.draws.plain_jobs import Inputs
 from tests.draws.sample import RATIOS
 from tests.draws.strata import Stratum, ratio_of
 from tests.model import limits, response, shears, site as sites
-from tests.model.job import HAZARDS, made_by
+from tests.model.calls import HAZARDS, made_by
 
 TIES = (('V', 'V_M'), ('V', 'V_star'), ('V_M', 'V_star'), ('V', 'V_M', 'V_star'))
 

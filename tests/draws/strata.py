@@ -5,7 +5,7 @@ from math import ceil, floor
 from typing import Callable, NamedTuple
 
 from tests.model import limits, response, shears
-from tests.model.job import made_by
+from tests.model.calls import made_by
 
 CORNERS = {'0.2': Fraction(1, 5), '0.6': Fraction(3, 5), '1': Fraction(1), '2.5': Fraction(5, 2)}
 SIDES = ('below', 'on', 'above')

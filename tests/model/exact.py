@@ -1,4 +1,4 @@
-"""The exact figure of demand 3: "the same chain with no rounding after T"."""
+"""The exact figure of demand 3: "the same chain with no rounding after T"; of a shear handed in, its storeys from that number."""
 
 from fractions import Fraction
 from math import ceil, floor, isqrt
@@ -94,29 +94,61 @@ def roof_part(T):
     return Fraction(0) if seconds <= Fraction(7, 10) else min(seconds * 7 / 100, Fraction(1, 4))
 
 
-def chain(job, roots):
-    """The exact shears of an accepted job at its T, with a root fraction for each of V, V_M, V*."""
-    R, T, unit = job.frame.R, job.T, shear_unit(job)
-    design, mce, star = hazards(job.ground)
-    (design_capacity, part), mce_capacity = capacity_and_star(job.ground, R), Fraction(R, 100)
+def base_chain(call, roots):
+    """The exact V, V_M, V* and V_D of an accepted job or shear call at its T, with a root fraction for each of V, V_M, V*."""
+    R, T, unit = call.frame.R, call.T, shear_unit(call)
+    design, mce, star = hazards(call.ground)
+    (design_capacity, part), mce_capacity = capacity_and_star(call.ground, R), Fraction(R, 100)
     V = unit * modified(spectrum(*design, T) / factor(*design, T, design_capacity, roots[0]))
     V_M = unit * modified(spectrum(*mce, T) / factor(*mce, T, mce_capacity, roots[1]))
     F = factor(*star, T, design_capacity, roots[2])
     V_star = unit * modified(spectrum(*star, T) / F) * F * part
-    V_D = max(V, V_M, V_star)
-    F_t = roof_part(T) * V_D
-    products = [weight * height for weight, height in zip(job.weights, job.heights)]
+    return V, V_M, V_star, max(V, V_M, V_star)
+
+
+def storey_chain(base_shear, T, weights, heights):
+    """The exact storey shears of a base shear at T, lowest level first."""
+    F_t = roof_part(T) * base_shear
+    products = [weight * height for weight, height in zip(weights, heights)]
     parts = [Fraction(sum(products[x:]), sum(products)) for x in range(len(products))]
-    return Shears(V, V_M, V_star, V_D, [F_t + (V_D - F_t) * part for part in parts])
+    return [F_t + (base_shear - F_t) * part for part in parts]
 
 
-def bounds(job, digits=DIGITS):
+def chain(job, roots):
+    """The exact shears of an accepted job at its T: "Demand 3's storey part speaks of the two together"."""
+    *base, V_D = base_chain(job, roots)
+    return Shears(*base, V_D, storey_chain(V_D, job.T, job.weights, job.heights))
+
+
+def base_of(call, roots):
+    """The exact shears of an accepted shear call, which has no storeys."""
+    return Shears(*base_chain(call, roots), [])
+
+
+def bounds(call, digits=DIGITS, by=chain):
     """Two chains: high, high and low fractions (none printed is below it); low, low and high ones."""
-    of_V, of_V_M, of_star = squares(job.ground, job.frame.R)
+    of_V, of_V_M, of_star = squares(call.ground, call.frame.R)
     high, low = high_fraction, low_fraction
-    below = chain(job, (high(of_V, digits), high(of_V_M, digits), low(of_star, digits)))
-    above = chain(job, (low(of_V, digits), low(of_V_M, digits), high(of_star, digits)))
+    below = by(call, (high(of_V, digits), high(of_V_M, digits), low(of_star, digits)))
+    above = by(call, (low(of_V, digits), low(of_V_M, digits), high(of_star, digits)))
     return below, above
+
+
+def base_margin(call):
+    """Six millionths of I*W/(1.4*alpha-y) plus 1 N."""
+    return 6 * shear_unit(call) / call.s + 1
+
+
+def base_rows(call, below, above):
+    """Each printed base shear, its least and its limit."""
+    return [(getattr(call, name), getattr(below, name), getattr(above, name) + base_margin(call)) for name in ('V', 'V_M', 'V_star', 'V_D')]
+
+
+def excesses(rows, call):
+    """Assert that each printed figure is at least its least and below its limit; how far each is above its least."""
+    for row, (printed, least, limit) in enumerate(rows):
+        assert least <= printed < limit, (row, printed, least, limit, call)
+    return [printed - least for printed, least, _ in rows]
 
 
 def check(job, digits=DIGITS):
@@ -126,12 +158,20 @@ def check(job, digits=DIGITS):
     shear by less than 2 N more.
     """
     below, above = bounds(job, digits)
-    base = 6 * shear_unit(job) / job.s + 1
-    rows = [(getattr(job, name), getattr(below, name), getattr(above, name) + base)
-            for name in ('V', 'V_M', 'V_star', 'V_D')]
+    margin = base_margin(job) + 2
     storeys = zip(job.shears, below.storeys, above.storeys)
-    rows += [(printed, least, most + base + 2) for printed, least, most in storeys]
-    for row, (printed, least, limit) in enumerate(rows):
-        assert least <= printed < limit, (row, printed, least, limit, job)
-    excess = [printed - least for printed, least, _ in rows]
+    rows = base_rows(job, below, above) + [(printed, least, most + margin) for printed, least, most in storeys]
+    excess = excesses(rows, job)
     return Shears(*excess[:4], excess[4:])
+
+
+def check_shear_call(call, digits=DIGITS):
+    """Assert demand 3 for the base shears of a shear call; the excess of printed over exact as `Shears`, of no storey."""
+    return Shears(*excesses(base_rows(call, *bounds(call, digits, base_of)), call), [])
+
+
+def check_distribution(over):
+    """Assert of a shear handed in that "each storey shear is at least its exact figure from that number and less than two newtons above";
+    the largest excess of printed over exact."""
+    exact = storey_chain(over.base_shear, over.period, over.weights, over.heights)
+    return max(excesses([(printed, least, least + 2) for printed, least in zip(over.shears, exact)], over))

@@ -2,10 +2,7 @@
 
 from typing import NamedTuple
 
-from . import basin as basins, limits, response, shears, site as sites, storeys
-
-
-HAZARDS = ('design', 'mce', 'star')
+from . import calls, limits, response, shears
 
 
 class Job(NamedTuple):
@@ -37,38 +34,14 @@ class Job(NamedTuple):
     moments: list
 
 
-def made_by(ground):
-    """What makes each hazard of a ground, and says what divides V* there."""
-    return basins if isinstance(ground, limits.Basin) else sites
-
-
 def job(ground, frame, weights, heights, buffer_lengths=(), s=response.UNIT):
-    """('refused', number, place), or the `Job` by "From map values to shear"."""
+    """('refused', number, place), or the `Job`: the base shear of the sum of the weights and the last height, distributed at its T."""
     refusal = limits.judge(ground, frame, weights, heights, buffer_lengths)
     if refusal is not None:
         return ('refused', *refusal)
-    ground, frame = limits.ground_of(ground), limits.Frame(*frame)
     weights, heights = list(weights), list(heights)
-    W = sum(weights)
-    t = response.approximate_period(frame.kind, heights[-1])
-    T = response.period(t, frame.calculated_period)
-
-    design, mce, star = (shears.respond(*made_by(ground).hazard(name, ground, frame.R), T, s) for name in HAZARDS)
-
-    q = response.ratio(design.spectrum, design.lower_factor, s)
-    m = response.modified_ratio(q, s)
-    q_M = response.ratio(mce.spectrum, mce.lower_factor, s)
-    m_M = response.modified_ratio(q_M, s)
-    p = response.p_of_star(star.spectrum, star.upper_factor)
-
-    V = shears.V(frame, m, W, s)
-    V_M = shears.V(frame, m_M, W, s)
-    V_star = shears.V_star(frame, p, W, s, made_by(ground).V_STAR)
-    V_D = shears.V_D(V, V_M, V_star)
-
-    F_t = storeys.F_t(T, V_D)
-    storey_shears = storeys.shears(V_D, F_t, weights, heights)
-    forces = storeys.forces(storey_shears)
-    moments = storeys.overturning(forces, heights)
-    return Job(ground, frame, weights, heights, s, W, t, T, design, mce, star, q, m, q_M, m_M, p,
-               V, V_M, V_star, V_D, F_t, forces, storey_shears, moments)
+    base = calls.base_figures(limits.ground_of(ground), limits.Frame(*frame), sum(weights), heights[-1], s)
+    over = calls.distributed(base.V_D, base.T, weights, heights)
+    return Job(base.ground, base.frame, weights, heights, s, base.W, base.t, base.T, base.design, base.mce, base.star,
+               base.q, base.m, base.q_M, base.m_M, base.p, base.V, base.V_M, base.V_star, base.V_D,
+               over.F_t, over.forces, over.shears, over.moments)

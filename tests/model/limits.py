@@ -1,4 +1,4 @@
-"""Ranges of the quantities and the refusals of a job, in their order."""
+"""Ranges of the quantities and the refusals of a job, of a shear call and of a distribution, in their order."""
 
 from typing import NamedTuple
 
@@ -19,6 +19,9 @@ I_VALUES = (100, 125, 150)
 ALPHA_Y = range(100, 200 + 1)
 KIND = (1, 2, 3, 4)
 CALCULATED_PERIOD = range(0, 60_000 + 1)
+TOTAL_WEIGHT = range(1, 1_000_000 + 1)
+BASE_SHEAR = range(1, 1_200_000_000 + 1)
+PERIOD = range(0, 9_999 + 1)
 
 
 class Site(NamedTuple):
@@ -129,3 +132,42 @@ def refusals(ground, frame, weights, heights, buffer_lengths):
 def judge(ground, frame, weights, heights, buffer_lengths=()):
     """None, or (number, place): "The lowest number that applies is given, at its lowest place"."""
     return next(refusals(ground, frame, weights, heights, buffer_lengths), None)
+
+
+def total_refusals(weight, height):
+    """Refusals of what a shear call has in place of levels: "a weight or height out of range is 3 or 4 at place 0"."""
+    if weight not in TOTAL_WEIGHT:
+        yield 3, 0
+    if height not in HEIGHT:
+        yield 4, 0
+
+
+def shear_call_refusals(ground, frame, weight, height):
+    """Every refusal that applies to a shear call, in order: 3, 4, then those of ground and frame as in a job."""
+    yield from total_refusals(weight, height)
+    yield from ground_refusals(ground_of(ground))
+    yield from frame_refusals(Frame(*frame))
+
+
+def judge_shear_call(ground, frame, weight, height):
+    """None, or the first (number, place)."""
+    return next(shear_call_refusals(ground, frame, weight, height), None)
+
+
+def handed_in_refusals(base_shear, period):
+    """Refusals of the shear that is distributed: "19, base shear out of range, then 20, period out of range", place 0."""
+    if base_shear not in BASE_SHEAR:
+        yield 19, 0
+    if period not in PERIOD:
+        yield 20, 0
+
+
+def distribution_refusals(base_shear, period, weights, heights, buffer_lengths):
+    """Every refusal that applies to a distribution, in order: 19 and 20 "both after 1 to 4"."""
+    yield from level_refusals(weights, heights, buffer_lengths)
+    yield from handed_in_refusals(base_shear, period)
+
+
+def judge_distribution(base_shear, period, weights, heights, buffer_lengths=()):
+    """None, or the first (number, place)."""
+    return next(distribution_refusals(base_shear, period, weights, heights, buffer_lengths), None)

@@ -7,7 +7,8 @@ from fractions import Fraction
 from math import ceil, floor
 
 from tests.model import basin as basins, limits, response, sheet, site as sites, storeys
-from tests.model.job import HAZARDS, job, made_by
+from tests.model.calls import HAZARDS, made_by
+from tests.model.job import job
 
 UNIT = response.UNIT
 CLASS_NAMES = {1: 'hard', 2: 'normal', 3: 'soft'}

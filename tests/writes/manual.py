@@ -13,7 +13,7 @@ from math import ceil
 
 from tests.model import exact, limits, soil, storeys
 from tests.model.sheet import listing
-from tests.writes import by_hand, near_fault, roof
+from tests.writes import by_hand, calls, near_fault, roof
 from tests.writes.by_hand import code, comma, decimal, table
 
 ROOT = pathlib.Path(__file__).resolve().parents[2]
@@ -137,6 +137,12 @@ def alone(worked):
             'lowest_force': comma(worked.forces[0]), 'lowest_exact': decimal(lowest)}
 
 
+def calls_names():
+    """What the page on the shear call and the distribution names."""
+    return {**calls.names(example('office')), **heaviest(), 'total_weight': ranged(limits.TOTAL_WEIGHT), 'top_height': ranged(limits.HEIGHT),
+            'base_shears': ranged(limits.BASE_SHEAR), 'periods': ranged(limits.PERIOD)}
+
+
 def filled(page, names):
     """A page with its names filled in; each is used."""
     text = (PAGES / page).read_text()
@@ -150,7 +156,8 @@ def written():
     """Each page that is filled, by its name."""
     pages = {'worked.md': by_hand.names(example('office')), 'soft_ground.md': by_hand.names(example('soft_ground')),
              'near_fault.md': near_fault.names(example('near_fault')), 'basin.md': by_hand.names(example('basin')),
-             'roof_force.md': roof.names(*map(example, ('office', 'soft_ground', 'tower'))), 'rounding.md': rounding_names(), 'soil.md': soil_names()}
+             'roof_force.md': roof.names(*map(example, ('office', 'soft_ground', 'tower'))), 'rounding.md': rounding_names(), 'soil.md': soil_names(),
+             'shear_and_storeys.md': calls_names()}
     assert {path.name for path in PAGES.iterdir()} == pages.keys()
     return {page: filled(page, names) for page, names in pages.items()}
 

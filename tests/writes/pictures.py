@@ -9,8 +9,10 @@ import sys
 from fractions import Fraction
 from xml.sax.saxutils import escape
 
-from tests.model import basin as basins, exact, limits, response, site as sites
+from tests.model import basin as basins, calls, exact, limits, response, site as sites
 from tests.model.job import job
+from tests.writes import by_hand
+from tests.writes.calls import scaled
 
 ROOT = pathlib.Path(__file__).resolve().parents[2]
 PICTURES = ROOT / 'docs' / 'manual' / 'pictures'
@@ -19,6 +21,7 @@ NEAR_FAULT = ROOT / 'examples' / 'near_fault.sheet'
 BLUE, RED, GREEN, GREY, BLACK = '#0072b2', '#d55e00', '#00795a', '#707070', '#000000'
 CLASSES = ((1, 'hard', BLUE, ''), (2, 'normal', GREEN, '12 6'), (3, 'soft', RED, '3 5'))
 ZONES = ((1, BLUE, ''), (2, GREEN, '12 6'), (3, RED, '3 5'), (4, BLACK, '14 5 3 5'))
+PERIODS = ((700, BLUE, ''), (701, GREEN, '12 6'), (3_571, RED, '3 5'))
 UNIT = response.UNIT
 
 
@@ -353,8 +356,72 @@ def basin():
     return picture.svg()
 
 
+def box(picture, left, top, right, bottom, colour, lines):
+    """A frame with lines of text in it, the first bold."""
+    picture.line([(left, top), (right, top), (right, bottom), (left, bottom), (left, top)], colour, 2)
+    first = Fraction(top + bottom, 2) + 6 - 12 * (len(lines) - 1)
+    for place, words in enumerate(lines):
+        picture.words(Fraction(left + right, 2), first + 24 * place, words, anchor='middle', colour=colour, weight='' if place else 'bold')
+
+
+def arrow(picture, points, colour, dash=''):
+    """A line that ends in a head; its last stretch goes right or down."""
+    picture.line(points, colour, 2, dash)
+    (before, _), (x, y) = points[-2:]
+    head = [(x - 9, y - 5), (x, y), (x - 9, y + 5)] if before < x else [(x - 5, y - 9), (x, y), (x + 5, y - 9)]
+    picture.line(head, colour, 2)
+
+
+def two_calls():
+    """How a job is made of the shear call and the distribution, and where a program hands in numbers of its own."""
+    picture = Picture(1080, 470, 'A job is the shear call and then the distribution')
+    picture.words(40, 36, 'A job is the shear call, and then the distribution of its V_D at its T', size=19, weight='bold')
+    given = ((70, 'site or zone, frame'), (112, 'total weight: the sum of the weights'), (154, 'top height: the last height'))
+    for y, words in given:
+        picture.words(366, y + 42, words, anchor='end')
+        arrow(picture, [(376, y + 36), (430, y + 36)], BLACK)
+    box(picture, 430, 80, 650, 216, BLUE, ('shear call', '000, up to (20)'))
+    box(picture, 430, 306, 650, 442, GREEN, ('distribution', '000, (21) and (23)'))
+    arrow(picture, [(650, 148), (704, 148)], BLACK)
+    picture.words(714, 154, 'V, V_M, V*, V_D, T')
+    arrow(picture, [(540, 216), (540, 306)], BLACK)
+    picture.words(552, 267, 'in a job: V_D is the base shear, T is the period')
+    picture.words(366, 350, 'weights and heights of the levels', anchor='end')
+    arrow(picture, [(376, 344), (430, 344)], BLACK)
+    picture.words(366, 410, 'or a base shear and a period', anchor='end', colour=RED)
+    picture.words(366, 432, 'of your own', anchor='end', colour=RED)
+    arrow(picture, [(376, 414), (430, 414)], RED, '6 4')
+    arrow(picture, [(650, 374), (704, 374)], BLACK)
+    picture.words(714, 380, 'force, shear and moment of each level')
+    return picture.svg()
+
+
+def periods():
+    """The storey shears of one base shear with three periods."""
+    office = by_hand.read(SHEET.read_bytes())
+    base_shear, heights = scaled(office).base_shear, [0, *office.heights]
+    picture = Picture(960, 600, 'The storey shears of one base shear with three periods')
+    axes = Axes(picture, (110, 70, 890, 520), 1_000_000, 350)
+    axes.frame('shear of the storey (N)', 'height above base (dm)', [(each, f'{each:,}') for each in range(0, 1_000_001, 200_000)],
+               [(each, str(each)) for each in heights])
+    for place, (period, colour, dash) in enumerate(PERIODS):
+        over = calls.distribution(base_shear, period, office.weights, office.heights)
+        points = [(0, heights[-1])]
+        for level in reversed(range(len(over.shears))):
+            points += [(over.shears[level], heights[level + 1]), (over.shears[level], heights[level])]
+        axes.curve(points, colour, dash)
+        y = 192 + 26 * place
+        picture.line([(606, y - 6), (656, y - 6)], colour, 3, dash)
+        picture.words(666, y, f'{period:,} ms: F_t = {over.F_t:,} N', size=16)
+    picture.words(606, 166, 'period and roof force', size=16)
+    for level in range(len(office.heights)):
+        axes.words(0, Fraction(heights[level] + heights[level + 1], 2), f'storey {level + 1}', right=14, down=6, colour=GREY)
+    picture.words(110, 36, f'The worked building, base shear {base_shear:,} N: what the period does', size=19, weight='bold')
+    return picture.svg()
+
+
 DRAWN = {'spectrum': spectrum, 'factor': factor, 'modified': modified, 'storeys': storeys, 'classes': classes, 'near_fault': near_fault,
-         'basin': basin, 'roof_force': roof_force}
+         'basin': basin, 'roof_force': roof_force, 'two_calls': two_calls, 'periods': periods}
 
 
 def wrong():

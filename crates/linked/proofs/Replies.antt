@@ -11,12 +11,14 @@ use Rattle.whole.proofs.Unique.{determined}
 use Rattle.limits.specs.declared.frame.FrameValues.{FrameValues}
 use Rattle.limits.specs.declared.ground.GroundValues.{GroundValues}
 use Rattle.limits.specs.declared.refusal.Refusal.{Refusal}
+use Rattle.limits.specs.declared.refusal.Verdict.{Verdict}
+use Rattle.limits.specs.declared.refusal.Verdict.the-variants.{Passed, Refused as RefusedVerdict}
 use Rattle.limits.specs.Order.{InOrder}
-use Rattle.limits.specs.Outcome.{Outcome, accepted, refused, number, place, refusalOf}
+use Rattle.limits.specs.Outcome.{Outcome, accepted, refused, number, place, refusalOf, verdictOutcome}
 use Rattle.job.specs.declared.FiguresAnswer.{FiguresAnswer}
-use Rattle.job.specs.Distribution.{Buffers, shortest}
+use Rattle.job.specs.Distribution.{Columns, distributionOf, doneOnly, Buffers, shortest, filled, Distributed}
 use Rattle.job.specs.Job.{Results, jobOf, figuresOnly, written, Figured, Answers}
-use Rattle.job.specs.ShearCall.{answerOutcome}
+use Rattle.job.specs.ShearCall.{shearCallOf, answerOutcome, Sheared}
 use Rattle.job.proofs.Calls.{answerOf, says-outcome}
 use Rattle.sheet.proofs.Foremost.{applies-in-order, refused-applies}
 use Rattle.sheet.proofs.OnePair.{siteSheet, accepted-repeated}
@@ -25,7 +27,7 @@ use Rattle.sheet.specs.Laid.{siteLine}
 use Rattle.sheet.specs.Layouts.{LaidLine}
 use Rattle.sheet.specs.Listing.{refusal, listing, outcomeOf, sheetListing, Puts}
 use Rattle.sheet.specs.Sheet.{onePairLayout, pairTwice, frameValues}
-use Rattle.linked.specs.Linked.{Replies, FiguresReply, JobReplies, FiguresReplies, LogReplies, SheetReplies}
+use Rattle.linked.specs.Linked.{Replies, FiguresReply, JobReplies, FiguresReplies, ShearCallReplies, DistributionReplies, LogReplies, SheetReplies}
 
 -- ---- a reply to an outcome is one to an equal outcome, and there is no second
 module _ {A : Type 0} {f : A → List ℕ} {k : ℕ} where
@@ -71,16 +73,66 @@ module _ (g : GroundValues) (m ws hs : List ℕ) where
       → (n ≡ n′) × (r ≡ r′)
   one-figures-reply p q = replies-unique p q
 
+-- `rukeshomaji_shear_call`, and that of the Basin
+module _ (g : GroundValues) (m : List ℕ) (W h : ℕ) where
+  pub shear-call-replies : (s : GroundValues) (f : FrameValues) (a : FiguresAnswer) {n : ℕ} {r : List ℕ} → s ≡ g → f ≡ frameValues m
+      → Sheared s f W h a → FiguresReply (answerOutcome a) n r → ShearCallReplies g m W h n r
+  shear-call-replies s f a es ef t p =
+      replies-as (t ∙ ap₂ (λ (s : GroundValues) (f : FrameValues). shearCallOf s f W h) es ef) p
+
+  pub replied-sheared : (n : ℕ) (r : List ℕ) → ShearCallReplies g m W h n r
+      → (a : FiguresAnswer) × Sheared g (frameValues m) W h a × FiguresReply (answerOutcome a) n r
+  replied-sheared n r p =
+      let o = shearCallOf g (frameValues m) W h in
+      (answerOf o, says-outcome o, replies-as (sym (says-outcome o)) p)
+
+  pub one-shear-call-reply : {n n′ : ℕ} {r r′ : List ℕ} → ShearCallReplies g m W h n r → ShearCallReplies g m W h n′ r′
+      → (n ≡ n′) × (r ≡ r′)
+  one-shear-call-reply p q = replies-unique p q
+
+-- `rukeshomaji_distribution`
+refused-number : {A : Type 0} (o : Outcome A) → (refusalOf o .number ≡ number o) × (refusalOf o .place ≡ place o)
+refused-number (accepted a) = (refl, refl)
+refused-number (refused n p) = (refl, refl)
+
+done-refusal : {A : Type 0} (o : Outcome A) → refusalOf (doneOnly o) ≡ refusalOf o
+done-refusal (accepted a) = refl
+done-refusal (refused n p) = refl
+
+module _ (v T : ℕ) (ws hs : List ℕ) (b : Buffers) where
+  pub distribution-replies : (a : Verdict) (r : Refusal) (b′ : Buffers) → Distributed v T ws hs b a b′ → r ≡ refusalOf (verdictOutcome a)
+      → DistributionReplies v T ws hs b (r .number) (r .place) b′
+  distribution-replies a r b′ t e =
+      let o = distributionOf v T ws hs (shortest b) in
+      let same = e ∙ ap refusalOf (t .0) ∙ done-refusal o in
+      record {
+        returned = ap (λ (x : Refusal). x .number) same ∙ refused-number o .0;
+        placed = ap (λ (x : Refusal). x .place) same ∙ refused-number o .1;
+        buffers = t .1;
+      }
+
+  -- and the other way: what is proved of an answer of the core holds of the reply that says it
+  pub replied-distributed : (n p : ℕ) (b′ : Buffers) → DistributionReplies v T ws hs b n p b′
+      → (a : Verdict) × Distributed v T ws hs b a b′ × (n ≡ number (verdictOutcome a)) × (p ≡ place (verdictOutcome a))
+  replied-distributed n p b′ t = go (distributionOf v T ws hs (shortest b)) refl
+    where
+      go : (o : Outcome Columns) → distributionOf v T ws hs (shortest b) ≡ o
+          → (a : Verdict) × Distributed v T ws hs b a b′ × (n ≡ number (verdictOutcome a)) × (p ≡ place (verdictOutcome a))
+      go (accepted c) e = (Passed, (sym (ap doneOnly e), t .buffers), t .returned ∙ ap number e, t .placed ∙ ap place e)
+      go (refused k q) e =
+          (RefusedVerdict (record { number = k; place = q }), (sym (ap doneOnly e), t .buffers), t .returned ∙ ap number e, t .placed ∙ ap place e)
+
+  pub one-distribution-reply : {n n′ p p′ : ℕ} {c c′ : Buffers} → DistributionReplies v T ws hs b n p c
+      → DistributionReplies v T ws hs b n′ p′ c′ → (n ≡ n′) × (p ≡ p′) × (c ≡ c′)
+  one-distribution-reply x y =
+      (determined (x .returned) (y .returned), determined (x .placed) (y .placed), determined (x .buffers) (y .buffers))
+
 -- `rukeshomaji_site_class`
 pub one-log-reply : (ds ks xs : List ℕ) {n n′ : ℕ} {r r′ : List ℕ} → LogReplies ds ks xs n r → LogReplies ds ks xs n′ r′
     → (n ≡ n′) × (r ≡ r′)
 one-log-reply ds ks xs p q = replies-unique p q
 
 -- `rukeshomaji_sheet`
-refused-number : {A : Type 0} (o : Outcome A) → (refusalOf o .number ≡ number o) × (refusalOf o .place ≡ place o)
-refused-number (accepted a) = (refl, refl)
-refused-number (refused n p) = (refl, refl)
-
 pub sheet-replies : (s : List ℕ) {old held : List ℕ} (p : Put) → Puts (outcomeOf s) old held p
     → SheetReplies s old (p .refusal .number) held (p .refusal .place ∷ p .length ∷ [])
 unfolding sheetListing

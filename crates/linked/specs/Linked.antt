@@ -4,6 +4,9 @@
 --   onSite l, inBasin z           the ground of the nine numbers l of a site, and of a zone z
 --   JobReplies g m ws hs b n r b′   so for the job of a ground g and a frame line m; b′ is what the buffers hold that held b
 --   FiguresReplies, LogReplies    so for the five figures alone, and for a soil log
+--   ShearCallReplies g m W h n r  so for the shear call of a total weight W and a top height h
+--   DistributionReplies v T ws hs b n p b′    n is the number of the distribution of a base shear v at a period T, p its place; b′ is what the buffers
+--                                 hold that held b
 --   SheetReplies s old n held r   n is the number of the outcome of a sheet s; an array that held old holds its listing in the first bytes, the
 --                                 rest as it was; r is its place, and the length of the listing
 --   version, edition, source      of the library, of the code, of the rules: three things
@@ -19,9 +22,9 @@ use Rattle.limits.specs.Outcome.{Outcome, number, place, values}
 use Rattle.base_shear.specs.declared.Figures.{Figures}
 use Rattle.soil.specs.Class.{table3, classNumber}
 use Rattle.soil.specs.Log.{siteClass}
-use Rattle.job.specs.Distribution.{Buffers, shortest}
+use Rattle.job.specs.Distribution.{distributionOf, Buffers, shortest, filled}
 use Rattle.job.specs.Job.{jobOf, figuresOnly, written}
-use Rattle.job.specs.ShearCall.{five}
+use Rattle.job.specs.ShearCall.{shearCallOf, five}
 use Rattle.sheet.specs.Sheet.{siteValues, frameValues}
 use Rattle.sheet.specs.Listing.{outcomeOf, sheetListing}
 
@@ -49,6 +52,14 @@ JobReplies g m ws hs b n r b′ =
 abbrev pub FiguresReplies : GroundValues → List ℕ → List ℕ → List ℕ → ℕ → List ℕ → Type 0
 FiguresReplies g m ws hs n r = FiguresReply (figuresOnly (jobOf g (frameValues m) ws hs (length ws))) n r
 
+abbrev pub ShearCallReplies : GroundValues → List ℕ → ℕ → ℕ → ℕ → List ℕ → Type 0
+ShearCallReplies g m W h n r = FiguresReply (shearCallOf g (frameValues m) W h) n r
+
+pub record DistributionReplies (v T : ℕ) (ws hs : List ℕ) (b : Buffers) (n p : ℕ) (b′ : Buffers) : Type 0 where
+  pub returned : n ≡ number (distributionOf v T ws hs (shortest b))
+  pub placed : p ≡ place (distributionOf v T ws hs (shortest b))
+  pub buffers : b′ ≡ filled (distributionOf v T ws hs (shortest b)) b
+
 abbrev pub LogReplies : List ℕ → List ℕ → List ℕ → ℕ → List ℕ → Type 0
 LogReplies ds ks xs n r = ClassReply (siteClass table3 ds ks xs) n r
 
@@ -58,7 +69,7 @@ pub record SheetReplies (s old : List ℕ) (n : ℕ) (held r : List ℕ) : Type 
   pub listed : held ≡ laid (sheetListing s) old
 
 abbrev pub version : ℕ
-version = 2_001_000
+version = 2_002_000
 
 abbrev pub edition : ℕ
 edition = 2_005

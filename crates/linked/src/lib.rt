@@ -4,6 +4,7 @@ use arrays::frame_values;
 use arrays::put_class;
 use arrays::put_figures;
 use arrays::site_values;
+use job::distribution::distribution;
 use limits::ground::GroundValues;
 use sheet::listing::LONGEST;
 use sheet::put_in_array;
@@ -11,10 +12,10 @@ use sheet::put_in_array;
 pub mod arrays;
 
 ghost use mathlib.Core.Path.{_≡_};
-ghost use Rattle.linked.specs.Linked.{onSite, inBasin, JobReplies, FiguresReplies, LogReplies, SheetReplies, version, edition, source};
+ghost use Rattle.linked.specs.Linked.{onSite, inBasin, JobReplies, FiguresReplies, ShearCallReplies, DistributionReplies, LogReplies, SheetReplies, version, edition, source};
 
 // The version of the library: 1,000,000 times the major number, 1,000 times the minor one, and the last.
-pub const VERSION: u64 = 2_001_000;
+pub const VERSION: u64 = 2_002_000;
 
 // The edition of the code: Taiwan's of 2005.
 pub const EDITION: u64 = 2_005;
@@ -101,6 +102,68 @@ pub extern "C" fn rukeshomaji_basin_figures(
     let f = frame_values(frame);
     let a = job::figures::figures(GroundValues::Basin(zone), f, weights, heights);
     put_figures(figures, a)
+}
+
+// The shear call on a site: V, V_M, V*, V_D and T of a total weight in kN and a top height in dm.
+#[no_mangle]
+pub extern "C" fn rukeshomaji_shear_call(
+    site: &[u64; 9],
+    frame: &[u64; 5],
+    weight: u64,
+    height: u64,
+    figures: &mut [u64; 6],
+) -> u64
+    ensures { λ n. ⌜ ShearCallReplies (onSite (now (site .entry))) (now (frame .entry)) weight height n (now (figures .exit)) ⌝ }
+{
+    let ground = GroundValues::Site(site_values(site));
+    let f = frame_values(frame);
+    let a = job::shear_call::shear_call(ground, f, weight, height);
+    put_figures(figures, a)
+}
+
+// The shear call in a zone of the Taipei Basin.
+#[no_mangle]
+pub extern "C" fn rukeshomaji_basin_shear_call(
+    zone: u64,
+    frame: &[u64; 5],
+    weight: u64,
+    height: u64,
+    figures: &mut [u64; 6],
+) -> u64
+    ensures { λ n. ⌜ ShearCallReplies (inBasin zone) (now (frame .entry)) weight height n (now (figures .exit)) ⌝ }
+{
+    let f = frame_values(frame);
+    let a = job::shear_call::shear_call(GroundValues::Basin(zone), f, weight, height);
+    put_figures(figures, a)
+}
+
+// The distribution of a base shear in N at a period in ms: a force, a shear and an overturning moment of each level in the lent buffers, its
+// place in `place`.
+#[no_mangle]
+pub extern "C" fn rukeshomaji_distribution(
+    base_shear: u64,
+    period: u64,
+    weights: &[u64],
+    heights: &[u64],
+    forces: &mut [u64],
+    shears: &mut [u64],
+    overturnings: &mut [u64],
+    place: &mut u64,
+) -> u64
+    ensures { λ n. ⌜ DistributionReplies «base_shear» period (now (weights .entry)) (now (heights .entry)) (record { forces = now (forces .entry); shears = now (shears .entry); overturnings = now (overturnings .entry) }) n (now (place .exit)) (record { forces = now (forces .exit); shears = now (shears .exit); overturnings = now (overturnings .exit) }) ⌝ }
+{
+    let a = distribution(
+        base_shear,
+        period,
+        weights,
+        heights,
+        forces,
+        shears,
+        overturnings,
+    );
+    let refusal = a.refusal();
+    *place = refusal.place;
+    refusal.number
 }
 
 // The site class of a soil log: place and class.

@@ -24,7 +24,8 @@ use Rattle.job.specs.declared.FiguresAnswer.the-variants.{Taken, Refused}
 use Rattle.job.specs.Distribution.{Buffers}
 use Rattle.job.specs.Job.{Results, resultsAt, jobOf, Answers}
 use Rattle.job.proofs.Answered.{taken-accepted, refused-judged}
-use Rattle.job.proofs.Independent.{forces-cells, shears-cells, overturnings-cells, taken-written}
+use Rattle.job.proofs.Columns.{forces-cells, shears-cells, overturnings-cells}
+use Rattle.job.proofs.Independent.{taken-written}
 use Rattle.job.proofs.Stages.{job-refused, job-accepted}
 use Rattle.sheet.specs.Listing.{Levelled}
 
@@ -58,13 +59,13 @@ module _ (s : GroundValues) (f : FrameValues) (ws hs : List ℕ) where
 
     -- the cells of the levels, and how many they are
     pub forces-cut : length (take (length ws) (b′ .forces)) ≡ length ws
-    forces-cut = ap length (taken-written s f ws hs lent n b′ a .forces) ∙ forces-cells n ws hs
+    forces-cut = ap length (taken-written s f ws hs lent n b′ a .forces) ∙ forces-cells (n .t) (n .vd) ws hs
 
     pub shears-cut : length (take (length ws) (b′ .shears)) ≡ length ws
-    shears-cut = ap length (taken-written s f ws hs lent n b′ a .shears) ∙ shears-cells n ws hs
+    shears-cut = ap length (taken-written s f ws hs lent n b′ a .shears) ∙ shears-cells (n .t) (n .vd) ws hs
 
     pub overturnings-cut : length (take (length ws) (b′ .overturnings)) ≡ length ws
-    overturnings-cut = ap length (taken-written s f ws hs lent n b′ a .overturnings) ∙ overturnings-cells n ws hs
+    overturnings-cut = ap length (taken-written s f ws hs lent n b′ a .overturnings) ∙ overturnings-cells (n .t) (n .vd) ws hs
 
     pub cut-levelled : Levelled (take (length ws) (b′ .forces)) (take (length ws) (b′ .shears))
         (take (length ws) (b′ .overturnings))

@@ -12,7 +12,7 @@ use Rattle.limits.specs.Outcome.{Outcome, accepted, refused, zeros, _>>=_}
 use Rattle.limits.proofs.Accepted.{given-allowed}
 use Rattle.base_shear.specs.declared.Figures.{Figures}
 use Rattle.job.specs.Job.{resultsAt}
-use Rattle.job.proofs.Independent.{forces-cells, shears-cells, overturnings-cells}
+use Rattle.job.proofs.Columns.{forces-cells, shears-cells, overturnings-cells}
 use Rattle.job.proofs.Stages.{job-refused, job-accepted}
 use Rattle.sheet.proofs.Listings.{baseLine, results-listing-room, refusal-room}
 use Rattle.sheet.specs.declared.listing.Listing.{Listing}
@@ -29,12 +29,12 @@ results-short : (n : Figures) (ws hs : List ℕ) → length ws ≤ 50 → length
 unfolding listing
 results-short n ws hs few =
     let r = resultsAt n ws hs in
-    let same = forces-cells n ws hs in
+    let same = forces-cells (n .t) (n .vd) ws hs in
     results-listing-short n (r .forces) (r .shears) (r .overturnings)
     (record {
       shears =
-          shears-cells n ws hs ∙ sym same;
-      overturnings = overturnings-cells n ws hs ∙ sym same;
+          shears-cells (n .t) (n .vd) ws hs ∙ sym same;
+      overturnings = overturnings-cells (n .t) (n .vd) ws hs ∙ sym same;
       few = omega (arith, same);
     })
 

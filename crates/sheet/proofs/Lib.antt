@@ -5,6 +5,7 @@ pub mod LaidRead
 pub mod ReadLaid
 pub mod Otherwise
 pub mod Foremost
+pub mod TwoCalls
 pub mod LevelLine
 pub mod Gathering
 pub mod Fitting

@@ -3,7 +3,8 @@
 from fractions import Fraction
 
 from tests.model import basin, exact, limits, response
-from tests.model.job import HAZARDS, job
+from tests.model.calls import HAZARDS
+from tests.model.job import job
 
 FRAME = limits.Frame(2, 1000, 480, 100, 150)
 WEIGHTS, HEIGHTS = [5000, 5000, 5000], [100, 200, 300]
