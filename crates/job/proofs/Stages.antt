@@ -3,17 +3,36 @@
 use mathlib.Core.Path.{_≡_, sym, ap, _∙_}
 use mathlib.Core.List.{List}
 use Prim.Native.Nat.{ℕ}
-use Rattle.whole.specs.Cells.{laid}
+use native.Mathlib.Omega.{arith}
+use Rattle.whole.specs.Cells.{laid, sum}
 use Rattle.limits.specs.declared.frame.FrameValues.{FrameValues}
 use Rattle.limits.specs.declared.ground.GroundValues.{GroundValues}
 use Rattle.limits.specs.declared.judging.Given.{Given}
 use Rattle.limits.specs.declared.refusal.Refusal.{Refusal}
+use Rattle.limits.specs.Allowed.{AllowedGiven, AllowedShearCall}
 use Rattle.limits.specs.Judging.{judgedJob}
+use Rattle.limits.specs.Levels.{topHeight}
 use Rattle.limits.specs.Outcome.{Outcome, accepted, refused, _>>=_}
+use Rattle.limits.proofs.AcceptedCalls.{given-building}
 use Rattle.base_shear.specs.declared.Figures.{Figures}
 use Rattle.job.specs.declared.FiguresAnswer.the-variants.{Taken, Refused}
 use Rattle.job.specs.Distribution.{Buffers, shortest}
 use Rattle.job.specs.Job.{Results, givenFigures, resultsAt, resultsOf, jobOf, figuresOnly, written, Answers}
+use Rattle.job.specs.ShearCall.{buildingFigures}
+
+-- the levels of an allowed job as a building, of a total weight and a top height that are theirs
+pub building-of : (g : Given) (ws hs : List ℕ) (W h : ℕ) → AllowedGiven g ws hs → W ≡ sum ws → h ≡ topHeight hs → AllowedShearCall g W h
+building-of g ws hs W h a ew eh =
+    let all = given-building g ws hs a in
+    record {
+      ground = all .ground;
+      frame = all .frame;
+      building = record { weight = omega (arith, all .building .weight); top = omega (arith, all .building .top) };
+    }
+
+pub figures-of : (g : Given) (ws hs : List ℕ) (W h : ℕ) {n : Figures} → n ≡ buildingFigures g W h → W ≡ sum ws → h ≡ topHeight hs
+    → n ≡ givenFigures g ws hs
+figures-of g ws hs W h e ew eh = e ∙ λ i. buildingFigures g (ew i) (eh i)
 
 module _ (s : GroundValues) (f : FrameValues) (ws hs : List ℕ) (room : ℕ) where
   pub job-refused : {n p : ℕ} → judgedJob s f ws hs room ≡ refused n p → jobOf s f ws hs room ≡ refused n p

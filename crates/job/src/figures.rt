@@ -12,9 +12,9 @@ ghost use mathlib.Core.Path.{_≡_};
 ghost use Rattle.whole.specs.Cells.{sum};
 ghost use Prim.Native.Nat.{_≤_, _<_};
 ghost use lib.ListN.{length};
-ghost use Rattle.limits.specs.Allowed.{AllowedGiven, AllowedShearCall};
+ghost use Rattle.limits.specs.Allowed.{AllowedShearCall};
 ghost use Rattle.limits.specs.Levels.{topHeight, totalMost};
-ghost use Rattle.job.specs.Job.{Figured, givenFigures};
+ghost use Rattle.job.specs.Job.{Figured};
 ghost use Rattle.job.specs.ShearCall.{buildingFigures};
 
 // W: the weights of all levels.
@@ -49,14 +49,6 @@ pub fn building_figures(given: Given, weight: u64, height: u64) -> Figures
     base_figures(hazards, given.frame, weight, height)
 }
 
-// The five figures of a judged ground and frame, and levels.
-pub fn given_figures(given: Given, weights: &[u64], heights: &[u64]) -> Figures
-    requires { ⌜ AllowedGiven given (now weights) (now heights) ⌝ }
-    ensures { λ r. ⌜ r ≡ givenFigures given (now (weights .entry)) (now (heights .entry)) ⌝ }
-{
-    building_figures(given, total_weight(weights), top_height(heights))
-}
-
 // The five figures of unjudged values, or the refusal, with no buffer to write to.
 pub fn figures(
     ground: GroundValues,
@@ -70,5 +62,6 @@ pub fn figures(
     let GivenAnswer::Taken(given) = g else {
         return FiguresAnswer::Refused(g.refusal());
     };
-    FiguresAnswer::Taken(given_figures(given, weights, heights))
+    let f = building_figures(given, total_weight(weights), top_height(heights));
+    FiguresAnswer::Taken(f)
 }

@@ -1,7 +1,9 @@
 // The job, and the two calls that it is made of.
 use base_shear::Figures;
 use distribution::shortest;
-use figures::given_figures;
+use figures::building_figures;
+use figures::top_height;
+use figures::total_weight;
 use limits::frame::FrameValues;
 use limits::ground::GroundValues;
 use limits::judging::GivenAnswer;
@@ -58,7 +60,7 @@ pub fn job(
             place: r.place,
         });
     };
-    let f = given_figures(given, weights, heights);
+    let f = building_figures(given, total_weight(weights), top_height(heights));
     fill_storeys(f.t, f.vd, weights, heights, shears, forces, overturnings);
     FiguresAnswer::Taken(f)
 }

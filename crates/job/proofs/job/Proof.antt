@@ -1,17 +1,18 @@
 -- `job::job` meets its contract. Assumes nothing.
 use borrow.Author.Needs.{needs}
-use mathlib.Core.Path.{refl, sym, ap, subst, _∙_}
-use Prim.Native.Nat.{ℕ, min}
+use mathlib.Core.Path.{refl, sym, subst}
 use native.Mathlib.Omega.{arith}
 use lib.ListN.{length}
+use Prim.Native.Nat.{_≤_}
 use Rattle.limits.proofs.Accepted.{given-allowed}
-use Rattle.limits.proofs.AcceptedCalls.{given-building}
+use Rattle.limits.proofs.AcceptedCalls.{levels-building, given-building}
 use Rattle.limits.proofs.Stages.{says, stopped}
+use Rattle.limits.specs.Allowed.{AllowedGiven}
 use Rattle.limits.specs.Judging.{givenOutcome}
 use Rattle.base_shear.specs.declared.Figures.{Figures}
 use Rattle.storeys.specs.Reach.{Load}
 use Rattle.job.specs.Job.{givenFigures}
-use Rattle.job.proofs.Stages.{refused-answers, accepted-answers}
+use Rattle.job.proofs.Stages.{building-of, figures-of, refused-answers, accepted-answers}
 use Rattle.job.proofs.GivenReached.{given-between, load, standing}
 use Rattle.job.proofs.job.Statement.{statement}
 use Rattle.job.proofs.job.Tie as tie
@@ -35,24 +36,38 @@ returns : tie.Need-returns
 returns c =
     let a = c .before .before .before .before .before .before .before .before .before .before .args in
     let e = stopped givenOutcome _ _ (c .before .before .before .judged .ensures) (c .before .enum-told .given .1) refl (c .refusal .ensures) in
-    let room = c .before .before .before .before .shortest .ensures in
-    refused-answers (a .ground) (a .frame) (a .weights .now) (a .heights .now) _ _ room _ e
+    refused-answers (a .ground) (a .frame) (a .weights .now) (a .heights .now) _ _ (c .before .before .before .before .shortest .ensures) _ e
 
-given-figures-requires : tie.Need-given-figures-requires
-given-figures-requires c κs =
+-- what is known once the judgments have accepted
+allowed : (c : tie.After-known-told) → let a = c .before .before .before .before .before .before .before .before .before .before .args in
+    AllowedGiven (c .before .g .given .0 .0) (a .weights .now) (a .heights .now) × (length (a .weights .now) ≤ c .before .before .before .before .shortest .result)
+allowed c =
     let a = c .before .before .before .before .before .before .before .before .before .before .args in
     let e = says givenOutcome (c .before .before .before .judged .ensures) (c .before .g .given .1) in
-    given-allowed (a .ground) (a .frame) (a .weights .now) (a .heights .now) _ (c .before .g .given .0 .0) e .0
+    given-allowed (a .ground) (a .frame) (a .weights .now) (a .heights .now) _ (c .before .g .given .0 .0) e
+
+total-weight-requires : tie.Need-total-weight-requires
+total-weight-requires c κs =
+    let a = c .before .before .before .before .before .before .before .before .before .before .args in
+    levels-building (a .weights .now) (a .heights .now) (allowed c .0 .levels) .weight .1
+
+top-height-requires : tie.Need-top-height-requires
+top-height-requires c κs = let l = allowed (c .before) .0 .levels in omega (arith, l .same, l .some)
+
+building-figures-requires : tie.Need-building-figures-requires
+building-figures-requires c κs =
+    let a = c .before .before .before .before .before .before .before .before .before .before .before .before .args in
+    building-of (c .before .before .before .g .given .0 .0) (a .weights .now) (a .heights .now) _ _ (allowed (c .before .before) .0) (c .before .total-weight .ensures) (c .top-height .ensures)
 
 fill-storeys-requires : tie.Need-fill-storeys-requires
 fill-storeys-requires c κs =
-    let a = c .before .before .before .before .before .before .before .before .before .before .before .before .before .before .args in
-    let g = c .before .before .before .before .before .g .given .0 .0 in
-    let e = says givenOutcome (c .before .before .before .before .before .before .before .judged .ensures) (c .before .before .before .before .before .g .given .1) in
-    let all = given-allowed (a .ground) (a .frame) (a .weights .now) (a .heights .now) _ g e in
-    let n = c .before .before .before .given-figures .ensures in
-    let short = c .before .before .before .before .before .before .before .before .shortest .ensures in
-    let l = subst (λ (n : Figures). Load (n .t) (n .vd)) (sym n) (load (givenFigures g (a .weights .now) (a .heights .now)) (given-between g _ _ (given-building g (a .weights .now) (a .heights .now) (all .0)))) in (
+    let a = c .before .before .before .before .before .before .before .before .before .before .before .before .before .before .before .before .args in
+    let g = c .before .before .before .before .before .before .before .g .given .0 .0 in
+    let all = allowed (c .before .before .before .before .before .before) in
+    let n = figures-of g (a .weights .now) (a .heights .now) _ _ (c .before .before .before .building-figures .ensures) (c .before .before .before .before .before .total-weight .ensures) (c .before .before .before .before .top-height .ensures) in
+    let short = c .before .before .before .before .before .before .before .before .before .before .shortest .ensures in
+    let between = given-between g _ _ (given-building g (a .weights .now) (a .heights .now) (all .0)) in
+    let l = subst (λ (n : Figures). Load (n .t) (n .vd)) (sym n) (load (givenFigures g (a .weights .now) (a .heights .now)) between) in (
       record { part = l .part; shear = omega (arith, l .shear) },
       standing (a .weights .now) (a .heights .now) (all .0 .levels),
       omega (arith, all .1),
@@ -71,11 +86,11 @@ same-length-3 c = search needs
 
 returns-2 : tie.Need-returns-2
 returns-2 c =
-    let a = c .before .before .before .before .before .before .before .before .before .before .before .before .before .before .before .before .before .before .before .before .before .args in
-    let e = says givenOutcome (c .before .before .before .before .before .before .before .before .before .before .before .before .before .before .judged .ensures) (c .before .before .before .before .before .before .before .before .before .before .before .before .g .given .1) in
-    let short = c .before .before .before .before .before .before .before .before .before .before .before .before .before .before .before .shortest .ensures in
+    let a = c .before .before .before .before .before .before .before .before .before .before .before .before .before .before .before .before .before .before .before .before .before .before .before .args in
+    let e = says givenOutcome (c .before .before .before .before .before .before .before .before .before .before .before .before .before .before .before .before .judged .ensures) (c .before .before .before .before .before .before .before .before .before .before .before .before .before .before .g .given .1) in
+    let n = figures-of (c .before .before .before .before .before .before .before .before .before .before .before .before .before .before .g .given .0 .0) (a .weights .now) (a .heights .now) _ _ (c .before .before .before .before .before .before .before .before .before .before .building-figures .ensures) (c .before .before .before .before .before .before .before .before .before .before .before .before .total-weight .ensures) (c .before .before .before .before .before .before .before .before .before .before .before .top-height .ensures) in
     let cells = c .before .before .before .before .before .before .fill-storeys .ensures in
-    accepted-answers (a .ground) (a .frame) (a .weights .now) (a .heights .now) _ _ short _ _ e (c .before .before .before .before .before .before .before .before .before .before .given-figures .ensures) (cells .0) (cells .1) (cells .2)
+    accepted-answers (a .ground) (a .frame) (a .weights .now) (a .heights .now) _ _ (c .before .before .before .before .before .before .before .before .before .before .before .before .before .before .before .before .before .shortest .ensures) _ _ e n (cells .0) (cells .1) (cells .2)
 
 pub job-spec : {M : Type 1} → statement M
 job-spec =
@@ -87,7 +102,9 @@ job-spec =
     enum-told
     refusal-requires
     returns
-    given-figures-requires
+    total-weight-requires
+    top-height-requires
+    building-figures-requires
     fill-storeys-requires
     same-length
     same-length-2

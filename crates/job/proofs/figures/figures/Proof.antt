@@ -1,12 +1,15 @@
 -- `job::figures::figures` meets its contract. Assumes nothing.
 use borrow.Author.Needs.{needs}
 use mathlib.Core.Path.{refl, sym, ap, _∙_}
+use native.Mathlib.Omega.{arith}
 use lib.ListN.{length}
 use Rattle.limits.proofs.Accepted.{given-allowed}
+use Rattle.limits.proofs.AcceptedCalls.{levels-building}
 use Rattle.limits.proofs.Stages.{says, stopped}
+use Rattle.limits.specs.Allowed.{AllowedGiven}
 use Rattle.limits.specs.Judging.{givenOutcome}
 use Rattle.limits.specs.Outcome.{accepted}
-use Rattle.job.proofs.Stages.{job-refused, job-accepted}
+use Rattle.job.proofs.Stages.{building-of, figures-of, job-refused, job-accepted}
 use Rattle.job.specs.Job.{figuresOnly}
 use Rattle.job.proofs.figures.figures.Statement.{statement}
 use Rattle.job.proofs.figures.figures.Tie as tie
@@ -29,17 +32,31 @@ returns c =
     let e = stopped givenOutcome _ _ (c .before .before .before .judged .ensures) (c .before .enum-told .given .1) refl (c .refusal .ensures) in
     sym (ap figuresOnly (job-refused (a .ground) (a .frame) (a .weights .now) (a .heights .now) (length (a .weights .now)) e))
 
-given-figures-requires : tie.Need-given-figures-requires
-given-figures-requires c κs =
+-- what is known once the judgments have accepted
+allowed : (c : tie.After-known-told) → let a = c .before .before .before .before .before .before .args in AllowedGiven (c .before .g .given .0 .0) (a .weights .now) (a .heights .now)
+allowed c =
     let a = c .before .before .before .before .before .before .args in
     let e = says givenOutcome (c .before .before .before .judged .ensures) (c .before .g .given .1) in
     given-allowed (a .ground) (a .frame) (a .weights .now) (a .heights .now) (length (a .weights .now)) (c .before .g .given .0 .0) e .0
 
+total-weight-requires : tie.Need-total-weight-requires
+total-weight-requires c κs =
+    let a = c .before .before .before .before .before .before .args in
+    levels-building (a .weights .now) (a .heights .now) (allowed c .levels) .weight .1
+
+top-height-requires : tie.Need-top-height-requires
+top-height-requires c κs = let l = allowed (c .before) .levels in omega (arith, l .same, l .some)
+
+building-figures-requires : tie.Need-building-figures-requires
+building-figures-requires c κs =
+    let a = c .before .before .before .before .before .before .before .before .args in
+    building-of (c .before .before .before .g .given .0 .0) (a .weights .now) (a .heights .now) _ _ (allowed (c .before .before)) (c .before .total-weight .ensures) (c .top-height .ensures)
+
 returns-2 : tie.Need-returns-2
 returns-2 c =
-    let a = c .before .before .before .before .before .before .before .args in
-    let e = says givenOutcome (c .before .before .before .before .judged .ensures) (c .before .before .g .given .1) in
-    ap accepted (c .given-figures .ensures)
+    let a = c .before .before .before .before .before .before .before .before .before .args in
+    let e = says givenOutcome (c .before .before .before .before .before .before .judged .ensures) (c .before .before .before .before .g .given .1) in
+    ap accepted (figures-of (c .before .before .before .before .g .given .0 .0) (a .weights .now) (a .heights .now) _ _ (c .building-figures .ensures) (c .before .before .total-weight .ensures) (c .before .top-height .ensures))
     ∙ sym (ap figuresOnly (job-accepted (a .ground) (a .frame) (a .weights .now) (a .heights .now) (length (a .weights .now)) e))
 
 pub figures-spec : {M : Type 1} → statement M
@@ -51,5 +68,7 @@ figures-spec =
     enum-told
     refusal-requires
     returns
-    given-figures-requires
+    total-weight-requires
+    top-height-requires
+    building-figures-requires
     returns-2)
