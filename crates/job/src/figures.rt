@@ -6,7 +6,8 @@ use limits::frame::FrameValues;
 use limits::ground::GroundValues;
 use limits::judging::Given;
 use limits::judging::GivenAnswer;
-use limits::judging::judged;
+use limits::judging::judged_given;
+use limits::levels::judged_levels;
 use site::ground::ground_hazards;
 ghost use mathlib.Core.Path.{_≡_};
 ghost use Rattle.whole.specs.Cells.{sum};
@@ -58,7 +59,8 @@ pub fn figures(
 ) -> FiguresAnswer
     ensures { λ a. ⌜ Figured ground frame (now (weights .entry)) (now (heights .entry)) a ⌝ }
 {
-    let g = judged(ground, frame, weights, heights, weights.len());
+    let levels = judged_levels(weights, heights, weights.len());
+    let g = judged_given(levels, ground, frame);
     let GivenAnswer::Taken(given) = g else {
         return FiguresAnswer::Refused(g.refusal());
     };

@@ -7,7 +7,8 @@ use figures::total_weight;
 use limits::frame::FrameValues;
 use limits::ground::GroundValues;
 use limits::judging::GivenAnswer;
-use limits::judging::judged;
+use limits::judging::judged_given;
+use limits::levels::judged_levels;
 use limits::refusal::Refusal;
 use storeys::storey::fill_storeys;
 
@@ -51,7 +52,8 @@ pub fn job(
     ensures { λ a. ⌜ Answers ground frame (now (weights .entry)) (now (heights .entry)) (record { forces = now (forces .entry); shears = now (shears .entry); overturnings = now (overturnings .entry) }) a (record { forces = now (forces .exit); shears = now (shears .exit); overturnings = now (overturnings .exit) }) ⌝ }
 {
     let room = shortest(forces.len(), shears.len(), overturnings.len());
-    let g = judged(ground, frame, weights, heights, room);
+    let levels = judged_levels(weights, heights, room);
+    let g = judged_given(levels, ground, frame);
     let GivenAnswer::Taken(given) = g else {
         let r = g.refusal();
         // By its fields: handed on whole, it makes every answer of a job be copied once more.

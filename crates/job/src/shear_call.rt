@@ -1,10 +1,11 @@
 // The shear call: V, V_M, V*, V_D and T of a building without its storeys.
 use crate::FiguresAnswer;
 use crate::figures::building_figures;
+use limits::building::Building;
 use limits::frame::FrameValues;
 use limits::ground::GroundValues;
 use limits::judging::GivenAnswer;
-use limits::judging::judged_shear_call;
+use limits::judging::judged_given;
 ghost use Rattle.job.specs.ShearCall.{Sheared};
 
 // A total weight in kN, a top height in dm.
@@ -16,7 +17,8 @@ pub fn shear_call(
 ) -> FiguresAnswer
     ensures { λ a. ⌜ Sheared ground frame weight height a ⌝ }
 {
-    let g = judged_shear_call(ground, frame, weight, height);
+    let building = Building::judged(weight, height);
+    let g = judged_given(building, ground, frame);
     let GivenAnswer::Taken(given) = g else {
         return FiguresAnswer::Refused(g.refusal());
     };

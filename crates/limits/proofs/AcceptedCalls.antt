@@ -1,6 +1,6 @@
 -- What the two calls accept is allowed; and the levels of a job are a building that the shear call takes: W and h of it are in range.
 -- Assumes nothing.
-use mathlib.Core.Path.{_≡_, subst}
+use mathlib.Core.Path.{_≡_, ap, subst}
 use mathlib.Core.List.{List}
 use Prim.Native.Nat.{ℕ, _≤_}
 use native.Mathlib.Nat.{mul-le-mul-right}
@@ -18,7 +18,7 @@ use Rattle.limits.specs.Ground.{judgedGround}
 use Rattle.limits.specs.Handed.{judgedShear, judgedInUse, judgedHanded}
 use Rattle.limits.specs.Judging.{judgedGiven, judgedJob, judgedShearCall, judgedDistribution}
 use Rattle.limits.specs.Levels.{judgedLevels, topHeight}
-use Rattle.limits.specs.Outcome.{accepted}
+use Rattle.limits.specs.Outcome.{Outcome, accepted, Done}
 use Rattle.limits.proofs.Accepted.{ground-allowed, frame-allowed, levels-allowed, top-allowed}
 use Rattle.limits.proofs.Built.{range-passes}
 use Rattle.limits.proofs.Passed.{one-value, then-passed, then-done, bind-passed, within-passed}
@@ -33,7 +33,7 @@ pub shear-call-allowed : (s : GroundValues) (f : FrameValues) (W h : ℕ) (g : G
     → AllowedShearCall g W h
 unfolding judgedShearCall
 shear-call-allowed s f W h g e =
-    let building = then-passed (judgedBuilding W h) (judgedGiven s f) e in
+    let building = then-passed (judgedBuilding W h) _ e in
     let ground = bind-passed (judgedGround s) _ (building .1) in
     let frame = bind-passed (judgedFrame f) (λ y. accepted (record { ground = ground .0; frame = y })) (ground .2) in
     let same : record { ground = ground .0; frame = frame .0 } ≡ g = one-value (frame .2) in
@@ -79,6 +79,17 @@ building-passes W h a = simp (range-passes 1 1_000_000 W 3 0 (a .weight), range-
 pub handed-passes : (v t : ℕ) → AllowedHanded v t → judgedHanded v t ≡ accepted tt
 unfolding judgedHanded
 handed-passes v t a = simp (range-passes 1 1_200_000_000 v 19 0 (a .shear), range-passes 0 9_999 t 20 0 (omega arith, a .period))
+
+-- ---- what the judgment of ground and frame says, after that of the levels and after that of the building
+pub judged-job : (s : GroundValues) (f : FrameValues) (ws hs : List ℕ) (room : ℕ) {o : Outcome Done} → o ≡ judgedLevels ws hs room
+    → judgedGiven o s f ≡ judgedJob s f ws hs room
+unfolding judgedJob
+judged-job s f ws hs room e = ap (λ (x : Outcome Done). judgedGiven x s f) e
+
+pub judged-call : (s : GroundValues) (f : FrameValues) (W h : ℕ) {o : Outcome Done} → o ≡ judgedBuilding W h
+    → judgedGiven o s f ≡ judgedShearCall s f W h
+unfolding judgedShearCall
+judged-call s f W h e = ap (λ (x : Outcome Done). judgedGiven x s f) e
 
 -- ---- so a job is judged as the two calls are in turn: once its levels are accepted, as the shear call of their W and h
 pub judged-in-turn : (s : GroundValues) (f : FrameValues) (ws hs : List ℕ) (room : ℕ) → judgedLevels ws hs room ≡ accepted tt

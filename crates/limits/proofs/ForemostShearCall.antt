@@ -19,7 +19,7 @@ use Rattle.limits.specs.ShearCallApplies.{ShearCallApplies, of-building,
 use Rattle.limits.proofs.Ascending.{lowest-first, lowest-or-zone}
 use Rattle.limits.proofs.BuildingStage.{building-up-to, building-stops, building-told}
 use Rattle.limits.proofs.First as first
-use Rattle.limits.proofs.GivenApplies.{Told, then-told, told-as, given-applies, accepted-unless}
+use Rattle.limits.proofs.GivenApplies.{Told, told-as, given-applies, accepted-unless}
 use Rattle.limits.proofs.GivenStage.{ground-after, frame-after, given-told}
 use Rattle.limits.proofs.InOrder.{in-order}
 use Rattle.limits.proofs.Places.{named-call, numbered-call, numbered-basin-call}
@@ -38,8 +38,8 @@ module _ (s : GroundValues) (f : FrameValues) (W h : ℕ) where
   told : Told A (judgedShearCall s f W h)
   unfolding judgedShearCall
   told =
-      then-told A (judgedBuilding W h) _ (told-as (BuildingApplies W h) A (λ n p. of-building) (judgedBuilding W h) (building-told W h))
-      (λ _. given-told s f A (λ n p. of-ground) (λ n p. of-frame))
+      given-told s f A (judgedBuilding W h) (told-as (BuildingApplies W h) A (λ n p. of-building) (judgedBuilding W h) (building-told W h))
+      (λ n p. of-ground) (λ n p. of-frame)
 
   pub refused-applies : (n p : ℕ) → judgedShearCall s f W h ≡ refused n p → A n p
   refused-applies = given-applies A (judgedShearCall s f W h) told

@@ -9,29 +9,30 @@ use Rattle.limits.specs.Applies.{GroundApplies, FrameApplies}
 use Rattle.limits.specs.Frame.{judgedFrame}
 use Rattle.limits.specs.Ground.{judgedGround}
 use Rattle.limits.specs.Judging.{judgedGiven}
-use Rattle.limits.specs.Outcome.{Outcome, Done, _>>_}
+use Rattle.limits.specs.Outcome.{Outcome, Done}
 use Rattle.limits.proofs.FrameStage.{frame-stops, frame-later}
-use Rattle.limits.proofs.GivenApplies.{Told, bind-told, told-as}
+use Rattle.limits.proofs.GivenApplies.{Told, then-told, bind-told, told-as}
 use Rattle.limits.proofs.GroundStage.{ground-up-to, ground-stops, ground-later}
 use Rattle.limits.proofs.Precedence.{Stops, UpTo, up-to-yields, later-stops, bound-stops, value-stops}
 use Rattle.limits.proofs.Refusing.{ground-told, frame-told}
 
 module _ (s : GroundValues) (f : FrameValues) where
   module _ (o : Outcome Done) (before : UpTo 4 o) (n q : ℕ) where
-    pub ground-after : GroundApplies s n q → Stops n q (o >> judgedGiven s f)
+    pub ground-after : GroundApplies s n q → Stops n q (judgedGiven o s f)
     ground-after a =
         later-stops n q o _ (up-to-yields 4 n q o before (ground-later s n q a))
         (λ _. bound-stops n q (judgedGround s) _ (ground-stops s n q a))
 
-    pub frame-after : FrameApplies f n q → Stops n q (o >> judgedGiven s f)
+    pub frame-after : FrameApplies f n q → Stops n q (judgedGiven o s f)
     frame-after a =
         let after = frame-later f n q a in
         later-stops n q o _ (up-to-yields 4 n q o before (omega (arith, after)))
         (λ _. value-stops n q (judgedGround s) _ (up-to-yields 7 n q (judgedGround s) (ground-up-to s) after)
         (λ ground. bound-stops n q (judgedFrame f) _ (frame-stops f n q a)))
 
-  pub given-told : (A : ℕ → ℕ → Type 0) → ((n p : ℕ) → GroundApplies s n p → A n p) → ((n p : ℕ) → FrameApplies f n p → A n p)
-      → Told A (judgedGiven s f)
-  given-told A ground frame =
-      bind-told A (judgedGround s) _ (told-as (GroundApplies s) A ground (judgedGround s) (ground-told s))
-      (λ _. bind-told A (judgedFrame f) _ (told-as (FrameApplies f) A frame (judgedFrame f) (frame-told f)) (λ _. tt))
+  pub given-told : (A : ℕ → ℕ → Type 0) (o : Outcome Done) → Told A o → ((n p : ℕ) → GroundApplies s n p → A n p)
+      → ((n p : ℕ) → FrameApplies f n p → A n p) → Told A (judgedGiven o s f)
+  given-told A o first ground frame =
+      then-told A o _ first
+      (λ _. bind-told A (judgedGround s) _ (told-as (GroundApplies s) A ground (judgedGround s) (ground-told s))
+      (λ _. bind-told A (judgedFrame f) _ (told-as (FrameApplies f) A frame (judgedFrame f) (frame-told f)) (λ _. tt)))

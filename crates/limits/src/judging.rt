@@ -1,5 +1,4 @@
 // All that is judged of a job, of the shear call and of the distribution, and what is handed on where it is accepted.
-use crate::building::Building;
 use crate::frame::Frame;
 use crate::frame::FrameAnswer;
 use crate::frame::FrameValues;
@@ -11,7 +10,7 @@ use crate::levels::judged_levels;
 use crate::refusal::Refusal;
 use crate::refusal::Verdict;
 ghost use mathlib.Core.Path.{_≡_};
-ghost use Rattle.limits.specs.Judging.{judgedGiven, judgedJob, judgedShearCall, judgedDistribution, givenOutcome};
+ghost use Rattle.limits.specs.Judging.{judgedGiven, judgedDistribution, givenOutcome};
 ghost use Rattle.limits.specs.Outcome.{refusalOf, verdictOutcome};
 
 // A judged ground and frame.
@@ -37,10 +36,13 @@ impl GivenAnswer {
     }
 }
 
-// The ground, then the frame.
-pub fn judged_given(ground: GroundValues, frame: FrameValues) -> GivenAnswer
-    ensures { λ a. ⌜ givenOutcome a ≡ judgedGiven ground frame ⌝ }
+// The ground, then the frame, after a first verdict: of a job on its levels, of the shear call on its building.
+pub fn judged_given(first: Verdict, ground: GroundValues, frame: FrameValues) -> GivenAnswer
+    ensures { λ a. ⌜ givenOutcome a ≡ judgedGiven (verdictOutcome first) ground frame ⌝ }
 {
+    let Verdict::Passed = first else {
+        return GivenAnswer::Refused(first.refusal());
+    };
     let g = Ground::judged(ground);
     let GroundAnswer::Taken(ground) = g else {
         return GivenAnswer::Refused(g.refusal());
@@ -50,39 +52,6 @@ pub fn judged_given(ground: GroundValues, frame: FrameValues) -> GivenAnswer
         return GivenAnswer::Refused(f.refusal());
     };
     GivenAnswer::Taken(Given { ground, frame })
-}
-
-// All judgments of a job, one after the other: levels, ground, frame.
-pub fn judged(
-    ground: GroundValues,
-    frame: FrameValues,
-    weights: &[u64],
-    heights: &[u64],
-    room: usize,
-) -> GivenAnswer
-    ensures { λ a. ⌜ givenOutcome a ≡ judgedJob ground frame (now (weights .entry)) (now (heights .entry)) room ⌝ }
-{
-    let v = judged_levels(weights, heights, room);
-    let Verdict::Passed = v else {
-        return GivenAnswer::Refused(v.refusal());
-    };
-    judged_given(ground, frame)
-}
-
-// All judgments of the shear call: total weight and top height, ground, frame.
-pub fn judged_shear_call(
-    ground: GroundValues,
-    frame: FrameValues,
-    weight: u64,
-    height: u64,
-) -> GivenAnswer
-    ensures { λ a. ⌜ givenOutcome a ≡ judgedShearCall ground frame weight height ⌝ }
-{
-    let v = Building::judged(weight, height);
-    let Verdict::Passed = v else {
-        return GivenAnswer::Refused(v.refusal());
-    };
-    judged_given(ground, frame)
 }
 
 // All judgments of the distribution: levels, base shear and period.

@@ -15,6 +15,8 @@ use libc::STDOUT_FILENO;
 use limits::frame::FrameValues;
 use limits::ground::GroundValues;
 use limits::judging::GivenAnswer;
+use limits::judging::judged_given;
+use limits::levels::judged_levels;
 use limits::site::SiteValues;
 use rows::number;
 use rows::row;
@@ -129,13 +131,8 @@ fn judged(
 {
     let weights_end = WEIGHTS + weights;
     let heights_end = HEIGHTS + heights;
-    limits::judging::judged(
-        ground,
-        frame,
-        &job[WEIGHTS..weights_end],
-        &job[HEIGHTS..heights_end],
-        room,
-    )
+    let levels = judged_levels(&job[WEIGHTS..weights_end], &job[HEIGHTS..heights_end], room);
+    judged_given(levels, ground, frame)
 }
 
 fn say(a: GivenAnswer) {
