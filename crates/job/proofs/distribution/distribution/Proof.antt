@@ -6,7 +6,8 @@ use Rattle.limits.proofs.AcceptedCalls.{distribution-allowed}
 use Rattle.limits.proofs.Stages.{says}
 use Rattle.limits.specs.Outcome.{verdictOutcome}
 use Rattle.job.proofs.Distributed.{refused-distributed, passed-distributed}
-use Rattle.job.proofs.GivenReached.{handed-load, standing}
+use Rattle.storeys.proofs.Roof.{roof-at-most-one}
+use Rattle.job.proofs.GivenReached.{standing}
 use Rattle.job.proofs.distribution.distribution.Statement.{statement}
 use Rattle.job.proofs.distribution.distribution.Tie as tie
 
@@ -33,8 +34,8 @@ fill-storeys-requires c κs =
     let short = c .before .before .before .before .before .before .shortest .ensures in
     let e = says verdictOutcome (c .before .before .before .before .before .judged-distribution .ensures) (c .before .before .before .enum-told .given .1) in
     let all = distribution-allowed (a .shear) (a .period) (a .weights .now) (a .heights .now) _ e in
-    let l = handed-load (a .shear) (a .period) (all .2) in (
-      record { part = l .part; shear = l .shear },
+    let shear = all .2 .shear .1 in (
+      record { part = roof-at-most-one (a .period); shear = omega (arith, shear) },
       standing (a .weights .now) (a .heights .now) (all .0),
       omega (arith, all .1),
       omega (arith, all .1),
