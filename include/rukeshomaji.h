@@ -42,7 +42,7 @@ extern "C" {
 #define RUKESHOMAJI_LONGEST_LISTING 4610
 
 /* the largest total weight of a shear call, in kN, and the largest base shear of a distribution, in N */
-#define RUKESHOMAJI_MOST_WEIGHT 1000000
+#define RUKESHOMAJI_MOST_TOTAL_WEIGHT 1000000
 #define RUKESHOMAJI_MOST_BASE_SHEAR 1200000000
 
 /* Refusals: what an entry returns where it does not return 0; beside each its place. Of 1 to 15 the lowest number that applies is returned,

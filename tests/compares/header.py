@@ -22,7 +22,8 @@ PREFIX = 'RUKESHOMAJI_'
 CONSTANTS = {
     'VERSION': 'linked/lib VERSION', 'EDITION': 'linked/lib EDITION', 'SOURCE': 'linked/lib SOURCE',
     'MOST_LEVELS': 'limits/level MOST', 'MOST_LAYERS': 'limits/layer MOST', 'MOST_BYTES': 'limits/sheet BYTES_MOST',
-    'LONGEST_LISTING': 'sheet/listing LONGEST',
+    'LONGEST_LISTING': 'sheet/listing LONGEST', 'MOST_TOTAL_WEIGHT': 'limits/building WEIGHT_MOST',
+    'MOST_BASE_SHEAR': 'limits/handed SHEAR_MOST',
     'HARD': 'limits/class HARD', 'NORMAL': 'limits/class NORMAL', 'SOFT': 'limits/class SOFT',
     'STEEL': 'limits/kind STEEL', 'CONCRETE': 'limits/kind CONCRETE', 'BRACED': 'limits/kind BRACED', 'OTHER': 'limits/kind OTHER',
     'NO_PERIOD': 'limits/frame NO_PERIOD',
@@ -45,11 +46,13 @@ RANGES = [
     ('cohesionless: N: ', 'limits/layer COHESIONLESS_LEAST COHESIONLESS_MOST'), ('bytes: at most ', 'limits/sheet BYTES_MOST'),
     ('sheet over ', 'limits/sheet BYTES_MOST'), ('no level, or over ', 'limits/level MOST'), ('no layer, or over ', 'limits/layer MOST'),
     ('bytes: 1 to ', 'sheet/listing LONGEST'), ('micro-zone of the Basin: ', 'limits/zone ONE FOUR'), ('zone not ', 'limits/zone ONE FOUR'),
+    ('total weight, kN: ', 'limits/building WEIGHT_LEAST WEIGHT_MOST'), ('top height, dm: ', 'limits/level HEIGHT_LEAST HEIGHT_MOST'),
+    ('among the levels, N: ', 'limits/handed SHEAR_LEAST SHEAR_MOST'), ('roof force, ms: ', 'limits/handed PERIOD_LEAST PERIOD_MOST'),
 ]
 # what the core takes, as C declares it; the array of a struct by the parameter's name
 TYPES = {
     '&[u64]': 'const uint64_t *, uint64_t', '&mut [u64]': 'uint64_t *, uint64_t', '&[u8]': 'const char *, uint64_t',
-    '&mut [u8; LONGEST]': 'char *', 'u64': 'uint64_t',
+    '&mut [u8; LONGEST]': 'char *', '&mut u64': 'uint64_t *', 'u64': 'uint64_t',
 }
 STRUCTS = {
     'site': 'RukeshomajiSite', 'frame': 'RukeshomajiFrame', 'figures': 'RukeshomajiFigures',
@@ -119,7 +122,7 @@ def check_entries():
     entries = dict(re.findall(r'extern "C" fn (rukeshomaji_\w+)\(([^)]*)\) -> u64', text))
     for name in sorted(declared.keys() | entries.keys()):
         expected = []
-        for parameter, kind in re.findall(r'(\w+): (&(?:mut )?\[[^\]]*\]|u64\b)', entries.get(name, '')):
+        for parameter, kind in re.findall(r'(\w+): (&(?:mut )?\[[^\]]*\]|&mut u64\b|u64\b)', entries.get(name, '')):
             sized = re.fullmatch(r'&(mut )?\[u64; (\d+)\]', kind)
             if not sized:
                 expected.append(TYPES[kind])
