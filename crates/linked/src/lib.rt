@@ -161,9 +161,9 @@ pub extern "C" fn rukeshomaji_distribution(
         shears,
         overturnings,
     );
-    let refusal = a.refusal();
-    *place = refusal.place;
-    refusal.number
+    let r = a.refusal();
+    *place = r.place;
+    r.number
 }
 
 // The site class of a soil log: place and class.

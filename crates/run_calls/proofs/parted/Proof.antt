@@ -1,10 +1,10 @@
--- `run_calls::distributions::parted` lends parts that are there. Assumes nothing.
+-- `run_calls::parted` lends parts that are there. Assumes nothing.
 use borrow.Author.Needs.{needs}
 use mathlib.Core.Path.{sym}
 use native.Mathlib.Omega.{arith}
 use lib.Seq.{length-take-le}
-use Rattle.run_calls.proofs.distributions.parted.Statement.{statement}
-use Rattle.run_calls.proofs.distributions.parted.Tie as tie
+use Rattle.run_calls.proofs.parted.Statement.{statement}
+use Rattle.run_calls.proofs.parted.Tie as tie
 
 array-read-least : tie.Need-array-read-least
 array-read-least c = search needs

@@ -1,9 +1,9 @@
--- `run_calls::said::cells_said` ends. Assumes nothing.
+-- `run_calls::cells_said` ends. Assumes nothing.
 use borrow.Author.Needs.{needs}
 use Prim.Native.Nat.{_-_, _≤_}
 use lib.ListN.{length}
-use Rattle.run_calls.proofs.said.cells_said.Statement.{statement}
-use Rattle.run_calls.proofs.said.cells_said.Tie as tie
+use Rattle.run_calls.proofs.cells_said.Statement.{statement}
+use Rattle.run_calls.proofs.cells_said.Tie as tie
 
 abbrev Inv-loop : tie.InvT-loop
 Inv-loop name cells i₀ t4 i = i ≤ length cells
