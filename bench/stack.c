@@ -49,6 +49,30 @@ static void *one_basin_figures(void *p)
     return p;
 }
 
+static void *one_shear_call(void *p)
+{
+    static JobReply reply;
+    HERE();
+    kept += rukeshomaji_shear_call(&job.site, &job.frame, RUKESHOMAJI_MOST_TOTAL_WEIGHT, job.heights[LEVELS - 1], &reply);
+    return p;
+}
+
+static void *one_basin_shear_call(void *p)
+{
+    static JobReply reply;
+    HERE();
+    kept += rukeshomaji_basin_shear_call(1, &job.frame, RUKESHOMAJI_MOST_TOTAL_WEIGHT, job.heights[LEVELS - 1], &reply);
+    return p;
+}
+
+static void *one_distribution(void *p)
+{
+    static u64 place;
+    HERE();
+    kept += rukeshomaji_distribution(RUKESHOMAJI_MOST_BASE_SHEAR, 1000, job.weights, 50, job.heights, 50, forces, 50, shears, 50, moments, 50, &place);
+    return p;
+}
+
 static void *one_log(void *p)
 {
     static ClassReply reply;
@@ -88,7 +112,9 @@ int main(void)
 {
     job = fixed_job(LEVELS);
     soil = fixed_log();
-    printf("stack touched below the call: job %ld, in the Basin %ld, figures %ld, in the Basin %ld, soil log %ld, sheet %ld bytes\n",
-           depth(one_job), depth(one_basin_job), depth(one_figures), depth(one_basin_figures), depth(one_log), depth(one_sheet));
+    printf("stack touched below the call: job %ld, in the Basin %ld, figures %ld, in the Basin %ld, shear call %ld, in the Basin %ld, "
+           "distribution %ld, soil log %ld, sheet %ld bytes\n",
+           depth(one_job), depth(one_basin_job), depth(one_figures), depth(one_basin_figures), depth(one_shear_call), depth(one_basin_shear_call),
+           depth(one_distribution), depth(one_log), depth(one_sheet));
     return 0;
 }

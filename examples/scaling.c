@@ -16,12 +16,12 @@ static uint64_t required(uint64_t percent, uint64_t vd)
     return (percent * vd + 99) / 100;
 }
 
-/* What forces and deformations of the analysis are multiplied by, in millionths: percent * V_D / (100 * analysis), rounded up, so that the
- * scaled base shear is not below the required one; 1 where the analysis gives as much. The base shear of the analysis is in N, 1 or more,
- * rounded down. */
+/* What forces and deformations of the analysis are multiplied by, in millionths: the required base shear over that of the analysis, rounded up,
+ * so that the scaled base shear is not below the required one; 1 where the analysis gives as much. The base shear of the analysis is in N, 1
+ * or more, rounded down. */
 static uint64_t factor(uint64_t percent, uint64_t vd, uint64_t analysis)
 {
-    uint64_t millionths = (percent * vd * (MILLION / 100) + analysis - 1) / analysis;
+    uint64_t millionths = (required(percent, vd) * MILLION + analysis - 1) / analysis;
     return millionths > MILLION ? millionths : MILLION;
 }
 
@@ -38,8 +38,8 @@ int main(void)
     uint64_t weights[LEVELS] = {5000, 5000, 5000}, heights[LEVELS] = {100, 200, 300}, analyses[ANALYSES] = {850000, 1000000, 1100000};
     uint64_t forces[LEVELS], shears[LEVELS], overturnings[LEVELS], weight = 0, place;
     RukeshomajiFigures f;
-    if (rukeshomaji_version() / 1000000 != RUKESHOMAJI_VERSION / 1000000) {
-        fprintf(stderr, "the library is of another major version than the header\n");
+    if (rukeshomaji_version() / 1000000 != RUKESHOMAJI_VERSION / 1000000 || rukeshomaji_version() < 2002000) {
+        fprintf(stderr, "the library is of another major version than the header, or older than 2.2.0\n");
         return 2;
     }
     for (int x = 0; x < LEVELS; x++) weight += weights[x];

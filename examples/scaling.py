@@ -15,8 +15,11 @@ def required(percent, vd):
 
 
 def factor(percent, vd, analysis):
-    """What forces and deformations of the analysis are multiplied by, in millionths, rounded up; 1 where the analysis gives as much."""
-    return max(MILLION, -(-percent * vd * MILLION // (100 * analysis)))
+    """What forces and deformations of the analysis are multiplied by, in millionths, rounded up; 1 where the analysis gives as much.
+
+    The base shear of the analysis is in N, 1 or more, rounded down.
+    """
+    return max(MILLION, -(-required(percent, vd) * MILLION // analysis))
 
 
 def main():

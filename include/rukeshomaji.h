@@ -1,7 +1,7 @@
 /* Rukeshomaji: the seismic base shear of a building by Taiwan's 2005 code, in whole numbers. C99 or newer, and C++.
  *
- * examples/build.sh makes the library of x86-64 Linux, librukeshomaji.a and librukeshomaji.so; examples/ has two programs in C, one in C++ and
- * a module for Python. Pointers and 64-bit numbers are all that an entry takes and returns.
+ * examples/build.sh makes the library of x86-64 Linux, librukeshomaji.a and librukeshomaji.so; examples/ has two programs in C, one in C++,
+ * a module for Python and a program that uses it. Pointers and 64-bit numbers are all that an entry takes and returns.
  *
  * crates/linked/src/lib.rt has the contracts, numbers, places, figures and buffers, which each entry is proved to meet; this page prints them a
  * second time. What it says of threads, NULL, overlap, heap and stack is not proved (docs/LIMITS.md). Document 000 is the code's text in
@@ -182,8 +182,9 @@ uint64_t rukeshomaji_basin_job(uint64_t zone, const RukeshomajiFrame *frame, con
 uint64_t rukeshomaji_basin_figures(uint64_t zone, const RukeshomajiFrame *frame, const uint64_t *weights, uint64_t weight_count,
                                    const uint64_t *heights, uint64_t height_count, RukeshomajiFigures *figures);
 
-/* The shear call: the five figures of a building by its total weight and its top height, without levels, on a site outside the Taipei Basin.
- * With the sum of a job's weights and its last height they are those of rukeshomaji_job.
+/* The shear call, since 2.2.0: the five figures of a building by its total weight and its top height, without levels, on a site outside the
+ * Taipei Basin. With the sum of a job's weights and its last height they are those of rukeshomaji_job. With levels at hand
+ * rukeshomaji_figures judges them too.
  *
  * Given      site, frame     see above
  *            weight          total weight, kN: 1 to 1,000,000
@@ -196,7 +197,7 @@ uint64_t rukeshomaji_basin_figures(uint64_t zone, const RukeshomajiFrame *frame,
 uint64_t rukeshomaji_shear_call(const RukeshomajiSite *site, const RukeshomajiFrame *frame, uint64_t weight, uint64_t height,
                                 RukeshomajiFigures *figures);
 
-/* The shear call in the Taipei Basin: rukeshomaji_shear_call with a zone in place of the site.
+/* The shear call in the Taipei Basin, since 2.2.0: rukeshomaji_shear_call with a zone in place of the site.
  *
  * Given      zone            micro-zone of the Basin: 1 to 4
  *            frame           see above
@@ -209,7 +210,7 @@ uint64_t rukeshomaji_shear_call(const RukeshomajiSite *site, const RukeshomajiFr
 uint64_t rukeshomaji_basin_shear_call(uint64_t zone, const RukeshomajiFrame *frame, uint64_t weight, uint64_t height,
                                       RukeshomajiFigures *figures);
 
-/* The distribution: a base shear that is handed in, over the storeys. With V_D and T of a job it writes what rukeshomaji_job writes to the
+/* The distribution, since 2.2.0: a base shear that is handed in, over the storeys. With V_D and T of a job it writes what rukeshomaji_job writes to the
  * buffers.
  *
  * Given      base_shear      what is shared among the levels, N: 1 to 1,200,000,000

@@ -29,20 +29,25 @@ def building(office):
     return calls.shear_call(office.ground, office.frame, sum(office.weights), office.heights[-1])
 
 
-def required(percent, V_D):
-    """The base shear that 3.4 asks for, before rounding."""
+def asked(percent, V_D):
+    """The part of V_D that 3.4 asks for, before rounding."""
     return Fraction(percent * V_D, 100)
 
 
+def required(percent, V_D):
+    """The base shear required in N: that part, up."""
+    return ceil(asked(percent, V_D))
+
+
 def factor(percent, V_D, analysis):
-    """What 3.4 multiplies an analysis by, before rounding; 1 where it gives as much."""
-    return max(Fraction(1), required(percent, V_D) / analysis)
+    """What an analysis is multiplied by, before rounding: the base shear required over its own; 1 where it gives as much."""
+    return max(Fraction(1), Fraction(required(percent, V_D), analysis))
 
 
 def scaled(office):
     """The base shear of the page's second example: what is required of the regular building, up, over the storeys, at the T of the shear call."""
     base = building(office)
-    return calls.distribution(ceil(required(BUILDINGS['regular'], base.V_D)), base.T, office.weights, office.heights)
+    return calls.distribution(required(BUILDINGS['regular'], base.V_D), base.T, office.weights, office.heights)
 
 
 def level_lines(over):
@@ -62,7 +67,7 @@ def scaling_lines(office):
     lines = [base_line(base)]
     for analysis in ANALYSES:
         for name, percent in BUILDINGS.items():
-            figures = analysis, ceil(required(percent, base.V_D)), ceil(MILLION * factor(percent, base.V_D, analysis))
+            figures = analysis, required(percent, base.V_D), ceil(MILLION * factor(percent, base.V_D, analysis))
             lines.append('\t'.join(map(str, (name, *figures))))
     return [*lines, *level_lines(scaled(office))]
 
@@ -78,9 +83,8 @@ def factor_cell(percent, V_D, analysis):
     """The factor of one analysis for one kind of building."""
     if analysis >= required(percent, V_D):
         assert factor(percent, V_D, analysis) == 1
-        return f'not below {percent} %: none'
-    exact_factor = required(percent, V_D) / analysis
-    return f'below {percent} %: {percent} · {comma(V_D)} / (100 · {comma(analysis)}) = {in_millionths(exact_factor)}'
+        return 'not below: 1'
+    return f'below: {comma(required(percent, V_D))} / {comma(analysis)} = {in_millionths(factor(percent, V_D, analysis))}'
 
 
 def scaling_names(office):
@@ -91,8 +95,8 @@ def scaling_names(office):
     assert base_line(base) == sheet.listing(office).decode().split('\n')[0]
     needed = []
     for name, percent in BUILDINGS.items():
-        asked = required(percent, V_D)
-        needed.append((name, f'{percent} %', f'{decimal(Fraction(percent, 100))} · {comma(V_D)} = {rounded(asked, "up", ceil(asked))} N'))
+        part = asked(percent, V_D)
+        needed.append((name, f'{percent} %', f'{decimal(Fraction(percent, 100))} · {comma(V_D)} = {rounded(part, "up", required(percent, V_D))} N'))
     factors = [(comma(analysis), *(factor_cell(percent, V_D, analysis) for percent in BUILDINGS.values())) for analysis in ANALYSES]
     low, up = (Fraction(each(factor(BUILDINGS['regular'], V_D, ANALYSES[0]) * MILLION), MILLION) for each in (int, ceil))
     assert low * ANALYSES[0] < regular <= up * ANALYSES[0]
@@ -100,7 +104,7 @@ def scaling_names(office):
             'base_table': table(('V, N', 'V_M, N', 'V*, N', 'V_D, N', 'T, ms'), [tuple(map(comma, (base.V, base.V_M, base.V_star, V_D, base.T)))]),
             'required_table': table(('building', 'part of V_D', 'base shear required'), needed),
             'factor_table': table(('V_dyn, N', 'regular building', 'irregular building'), factors), 'T': comma(base.T),
-            'analysis': comma(ANALYSES[0]), 'between': comma(ANALYSES[1]), 'above': comma(ANALYSES[2]), 'regular_exact': decimal(regular),
+            'analysis': comma(ANALYSES[0]), 'between': comma(ANALYSES[1]), 'above': comma(ANALYSES[2]), 'regular': comma(regular),
             'factor_up': decimal(up, 6), 'factor_down': decimal(low, 6), 'scaled_up': decimal(up * ANALYSES[0]),
             'scaled_down': decimal(low * ANALYSES[0]), 'printed': code(scaling_lines(office))}
 
