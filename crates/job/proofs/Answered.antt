@@ -9,7 +9,7 @@ use Rattle.limits.specs.declared.judging.Given.{Given}
 use Rattle.limits.specs.declared.refusal.Refusal.{Refusal}
 use Rattle.limits.specs.Judging.{judgedJob}
 use Rattle.limits.specs.Outcome.{Outcome, accepted, refused, number, place, values}
-use Rattle.limits.proofs.Passed.{never, one-value}
+use Rattle.limits.proofs.Passed.{never, one-value, one-refusal}
 use Rattle.limits.proofs.Reading.{success, refusal}
 use Rattle.base_shear.specs.declared.Figures.{Figures}
 use Rattle.job.specs.declared.FiguresAnswer.the-variants.{Taken, Refused}
@@ -17,7 +17,6 @@ use Rattle.job.specs.Distribution.{Buffers, shortest}
 use Rattle.job.specs.Job.{Results, givenFigures, resultsAt, jobOf, figuresOnly, written, Answers}
 use Rattle.job.specs.ShearCall.{five, answerOutcome}
 use Rattle.job.proofs.Stages.{job-refused, job-accepted}
-use Rattle.job.proofs.Unique.{one-refusal}
 
 module _ (s : GroundValues) (f : FrameValues) (ws hs : List ℕ) (b : Buffers) where
   -- of a taken answer: the judgments accept, n is what `givenFigures` gives, and each level's cells are written

@@ -1,7 +1,7 @@
 -- The distribution: what its answer says of the judgments and of the buffers; the storeys in the cells that it wrote; demand 3 of a base shear that
 -- is handed in; that no second outcome meets its contract; and that nothing but the call's own input plays a part.
 -- Assumes nothing.
-use mathlib.Core.Path.{_≡_, refl, sym, ap, subst, _∙_}
+use mathlib.Core.Path.{_≡_, sym, ap, _∙_}
 use mathlib.Core.List.{List}
 use Prim.Native.Nat.{ℕ, _+_, _≤_, _<_}
 use lib.ListN.{length, take, getD}
@@ -12,7 +12,7 @@ use Rattle.limits.specs.declared.refusal.Verdict.the-variants.{Passed, Refused}
 use Rattle.limits.specs.Judging.{judgedDistribution}
 use Rattle.limits.specs.Outcome.{Outcome, accepted, refused, Done, verdictOutcome}
 use Rattle.limits.proofs.AcceptedCalls.{distribution-allowed}
-use Rattle.limits.proofs.Passed.{never}
+use Rattle.limits.proofs.Passed.{then-passed, bind-passed, only, then-refused}
 use Rattle.limits.proofs.Room.{room-for-levels}
 use Rattle.limits.proofs.Unique.{verdict-unique}
 use Rattle.storeys.specs.Reach.{Standing}
@@ -21,7 +21,6 @@ use Rattle.margin.proofs.Demand3.{handed-demand3, handed-of-cells}
 use Rattle.job.specs.Distribution.{Columns, columnsAt, distributionOf, doneOnly, Buffers, shortest, laidOver, filled, Distributed}
 use Rattle.job.proofs.Columns as columns
 use Rattle.job.proofs.GivenReached.{standing}
-use Rattle.job.proofs.Unique.{one-refusal}
 
 -- ---- once its judgments have answered: the lines of `distributionOf`
 module _ (v T : ℕ) (ws hs : List ℕ) (room : ℕ) where
@@ -58,11 +57,10 @@ module _ (v T : ℕ) (ws hs : List ℕ) (b : Buffers) where
 
   -- ---- the other way: where it passed, the judgments accept, and each level's cells are written
   pub passed-judged : (b′ : Buffers) → Distributed v T ws hs b Passed b′ → judged ≡ accepted tt
-  passed-judged b′ a = go judged refl
-    where
-      go : (o : Outcome Done) → judged ≡ o → judged ≡ accepted tt
-      go (accepted tt) e = e
-      go (refused m p) e = absurd (never (sym (a .0 ∙ ap doneOnly (distribution-refused v T ws hs (shortest b) e))))
+  unfolding distributionOf
+  passed-judged b′ a =
+      let columns = bind-passed (distributionOf v T ws hs (shortest b)) (λ _. accepted tt) (sym (a .0)) in
+      then-passed judged (accepted (columnsAt T v ws hs)) (columns .1) .0
 
   pub passed-cells : (b′ : Buffers) → Distributed v T ws hs b Passed b′ → b′ ≡ laidOver (columnsAt T v ws hs) b
   passed-cells b′ a =
@@ -70,13 +68,9 @@ module _ (v T : ℕ) (ws hs : List ℕ) (b : Buffers) where
 
   module _ (r : Refusal) (b′ : Buffers) (a : Distributed v T ws hs b (Refused r) b′) where
     pub refused-judged : judged ≡ refused (r .number) (r .place)
-    refused-judged = go judged refl
-      where
-        go : (o : Outcome Done) → judged ≡ o → judged ≡ refused (r .number) (r .place)
-        go (accepted tt) e = absurd (never (a .0 ∙ ap doneOnly (distribution-accepted v T ws hs (shortest b) e)))
-        go (refused m p) e =
-            let same = one-refusal (a .0 ∙ ap doneOnly (distribution-refused v T ws hs (shortest b) e)) in
-            e ∙ λ i. refused (sym (same .0) i) (sym (same .1) i)
+    unfolding distributionOf
+    refused-judged =
+        then-refused judged (columnsAt T v ws hs) (only (distributionOf v T ws hs (shortest b)) (λ _. tt) (sym (a .0)))
 
     -- 'buffers untouched'
     pub refused-untouched : b′ ≡ b
@@ -115,8 +109,13 @@ module _ (v T : ℕ) (ws hs : List ℕ) (b : Buffers) where
         handed-of-cells ws hs T (λ x h. sym (columns.shear-cell T v ws hs b b′ (passed-cells b′ a) x h)) v
         (handed-demand3 T ws hs (stands .positive) v)
 
--- ---- whatever buffers of a cell for each level hold, and however long they are, the answer and the written cells are one
+-- ---- whatever buffers of the same shortest length hold, the answer is one; it is one for all that have a cell for each level, and so are the
+-- written cells
 module _ (v T : ℕ) (ws hs : List ℕ) (b c : Buffers) where
+  pub same-answer : (a a′ : Verdict) (b′ c′ : Buffers) → shortest b ≡ shortest c
+      → Distributed v T ws hs b a b′ → Distributed v T ws hs c a′ c′ → a ≡ a′
+  same-answer a a′ b′ c′ e p q = verdict-unique (p .0 ∙ ap (λ (n : ℕ). doneOnly (distributionOf v T ws hs n)) e) (q .0)
+
   pub longer-answer : (a a′ : Verdict) (b′ c′ : Buffers) → length ws ≤ shortest b → length ws ≤ shortest c
       → Distributed v T ws hs b a b′ → Distributed v T ws hs c a′ c′ → a ≡ a′
   unfolding distributionOf judgedDistribution

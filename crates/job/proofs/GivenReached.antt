@@ -25,10 +25,6 @@ standing ws hs l =
     (λ x h. let hh : x < length hs = omega (arith, l .same) in
     (l .weights x h .0, l .weights x h .1, l .heights x hh .0, l .heights x hh .1))
 
--- of what is handed to the distribution
-pub handed-load : (v t : ℕ) → AllowedHanded v t → Load t v
-handed-load v t a = load-of t v (a .period) (omega (arith, a .shear))
-
 abbrev pub Between : Figures → Type 0
 Between n = (1 ≤ n .vd) × (n .vd ≤ 1_125_000_000) × (1 ≤ n .t) × (n .t ≤ 6328)
 
@@ -55,4 +51,4 @@ pub between-handed : (n : Figures) → Between n → AllowedHanded (n .vd) (n .t
 between-handed n b = record { shear = (b .0, omega (arith, b .1)); period = omega (arith, b .3) }
 
 pub load : (n : Figures) → Between n → Load (n .t) (n .vd)
-load n b = handed-load (n .vd) (n .t) (between-handed n b)
+load n b = load-of (n .t) (n .vd) (omega (arith, b .3)) (omega (arith, b .1))

@@ -1,8 +1,9 @@
 -- A job is the two calls in turn: of the definitions, and of the entries' answers. And demand 3's storey part, which speaks of the two together.
 --   both n a    what the two calls answer together: the figures n, or what the distribution refuses with
 -- Assumes nothing.
-use mathlib.Core.Path.{_≡_, refl, sym, ap, subst, _∙_}
+use mathlib.Core.Path.{_≡_, refl, sym, ap, _∙_}
 use mathlib.Core.List.{List}
+use mathlib.Core.Logic.{_⊎_, inl, inr}
 use Prim.Native.Nat.{ℕ, _≤_}
 use lib.ListN.{getD}
 use Rattle.whole.specs.Cells.{sum}
@@ -14,14 +15,15 @@ use Rattle.limits.specs.declared.refusal.Verdict.{Verdict}
 use Rattle.limits.specs.declared.refusal.Verdict.the-variants.{Passed as PassedVerdict, Refused as RefusedVerdict}
 use Rattle.limits.specs.Allowed.{AllowedHanded}
 use Rattle.limits.specs.Applies.{LevelsApply}
-use Rattle.limits.specs.Judging.{judgedJob, judgedShearCall, judgedDistribution}
+use Rattle.limits.specs.Judging.{judgedJob, judgedShearCall}
 use Rattle.limits.specs.Levels.{judgedLevels, topHeight}
 use Rattle.limits.specs.Outcome.{Outcome, accepted, refused, Done}
 use Rattle.limits.proofs.AcceptedCalls.{shear-call-allowed, judged-in-turn, judged-handed}
 use Rattle.limits.proofs.GivenApplies.{given-applies}
 use Rattle.limits.proofs.Passed.{then-passed}
-use Rattle.limits.proofs.Places.{numbered-levels}
+use Rattle.limits.proofs.Places.{numbered-levels, at-most-18}
 use Rattle.limits.proofs.Refusing.{levels-told}
+use Rattle.response.specs.Period.{periodOf}
 use Rattle.response.specs.Unit.{unit}
 use Rattle.base_shear.specs.declared.Figures.{Figures}
 use Rattle.margin.specs.Demand3.{BaseDemand3, StoreyDemand3}
@@ -35,8 +37,10 @@ use Rattle.job.specs.ShearCall.{givenHazards, buildingFigures, Sheared}
 use Rattle.job.proofs.Answered as job
 use Rattle.job.proofs.Distributed.{distribution-accepted, passed-judged, passed-cells, refused-judged, refused-untouched, passed-distributed, stands, handed-kept}
 use Rattle.job.proofs.GivenReached.{given-between, between-handed}
+use Rattle.job.proofs.Refusing.{refused-applies}
 use Rattle.job.proofs.Sheared as call
 use Rattle.job.proofs.Stages.{job-refused, job-accepted}
+use Rattle.job.proofs.Unique.{one-outcome}
 
 -- ---- the definitions
 module _ (s : GroundValues) (f : FrameValues) (ws hs : List ℕ) (room : ℕ) where
@@ -76,7 +80,17 @@ abbrev pub both : Figures → Verdict → FiguresAnswer
 both n PassedVerdict = Taken n
 both n (RefusedVerdict r) = Refused r
 
+same-refusal : {q r : Refusal} → Refused q ≡ Refused r → q ≡ r
+same-refusal e = cc
+
+handed : (s : GroundValues) (f : FrameValues) (W h : ℕ) (n : Figures) → Sheared s f W h (Taken n) → AllowedHanded (n .vd) (n .t)
+handed s f W h n c = between-handed n (call.figures-between s f W h n c)
+
 module _ (s : GroundValues) (f : FrameValues) (ws hs : List ℕ) (b : Buffers) where
+  levels-taken : (v T : ℕ) → AllowedHanded v T → (c : Buffers) → Distributed v T ws hs b PassedVerdict c
+      → judgedLevels ws hs (shortest b) ≡ accepted tt
+  levels-taken v T a c d = sym (judged-handed v T ws hs (shortest b) a) ∙ passed-judged v T ws hs b c d
+
   refused-job : {n p : ℕ} → judgedLevels ws hs (shortest b) ≡ refused n p
       → (figuresOnly (jobOf s f ws hs (shortest b)) ≡ refused n p) × (written (jobOf s f ws hs (shortest b)) b ≡ b)
   refused-job e =
@@ -92,29 +106,20 @@ module _ (s : GroundValues) (f : FrameValues) (ws hs : List ℕ) (b : Buffers) w
       let o = refused-job l in
       (sym (o .0), refused-untouched v T ws hs b r b′ d ∙ sym (o .1))
 
-  -- once they are accepted, what the shear call refuses is what the job refuses
-  pub refused-in-turn : (r : Refusal) → judgedLevels ws hs (shortest b) ≡ accepted tt
-      → Sheared s f (sum ws) (topHeight hs) (Refused r) → Answers s f ws hs b (Refused r) b
-  refused-in-turn r l c =
-      let j = judged-in-turn s f ws hs (shortest b) l ∙ call.refused-judged s f (sum ws) (topHeight hs) r c in
+  -- once it takes them, what the shear call refuses is what the job refuses
+  pub refused-in-turn : (v T : ℕ) → AllowedHanded v T → (c : Buffers) → Distributed v T ws hs b PassedVerdict c
+      → (r : Refusal) → Sheared s f (sum ws) (topHeight hs) (Refused r) → Answers s f ws hs b (Refused r) b
+  refused-in-turn v T a c d r e =
+      let l = levels-taken v T a c d in
+      let j = judged-in-turn s f ws hs (shortest b) l ∙ call.refused-judged s f (sum ws) (topHeight hs) r e in
       let o = job-refused s f ws hs (shortest b) j in
       (sym (ap figuresOnly o), sym (ap (λ (x : Outcome Results). written x b) o))
 
+  -- where the shear call answers with figures, the distribution at V_D and T gives the job's answer and the job's cells
   module _ (n : Figures) (c : Sheared s f (sum ws) (topHeight hs) (Taken n)) where
-    -- V_D and T of the shear call are what the distribution takes: it never gives 19 or 20 for them
-    handed : AllowedHanded (n .vd) (n .t)
-    handed = between-handed n (call.figures-between s f (sum ws) (topHeight hs) n c)
-
-    pub never-19-nor-20 : (r : Refusal) (b′ : Buffers) → Distributed (n .vd) (n .t) ws hs b (RefusedVerdict r) b′ → r .number ≤ 4
-    never-19-nor-20 r b′ d =
-        let l = sym (judged-handed (n .vd) (n .t) ws hs (shortest b) handed) ∙ refused-judged (n .vd) (n .t) ws hs b r b′ d in
-        let told = levels-told ws hs (shortest b) in
-        numbered-levels (given-applies (LevelsApply ws hs (shortest b)) (judgedLevels ws hs (shortest b)) told (r .number) (r .place) l) .1
-
-    -- where the shear call answers with figures, the distribution at V_D and T gives the job's answer and the job's cells
     pub called-in-turn : (a : Verdict) (b′ : Buffers) → Distributed (n .vd) (n .t) ws hs b a b′ → Answers s f ws hs b (both n a) b′
     called-in-turn PassedVerdict b′ d =
-        let l = sym (judged-handed (n .vd) (n .t) ws hs (shortest b) handed) ∙ passed-judged (n .vd) (n .t) ws hs b b′ d in
+        let l = levels-taken (n .vd) (n .t) (handed s f (sum ws) (topHeight hs) n c) b′ d in
         let t = call.taken-accepted s f (sum ws) (topHeight hs) n c in
         let o = job-accepted s f ws hs (shortest b) (judged-in-turn s f ws hs (shortest b) l ∙ t .judged) in (
           ap accepted (t .figures) ∙ sym (ap figuresOnly o),
@@ -122,9 +127,9 @@ module _ (s : GroundValues) (f : FrameValues) (ws hs : List ℕ) (b : Buffers) w
               ∙ ap (λ (m : Figures). laidOver (columnsAt (m .t) (m .vd) ws hs) b) (t .figures)
               ∙ sym (ap (λ (x : Outcome Results). written x b) o),
         )
-    called-in-turn (RefusedVerdict r) b′ d = levels-first (n .vd) (n .t) handed r b′ d
+    called-in-turn (RefusedVerdict r) b′ d = levels-first (n .vd) (n .t) (handed s f (sum ws) (topHeight hs) n c) r b′ d
 
-  -- and the other way: what a job answers, and writes, is what the two calls do
+  -- and the other way. Where a job answers with figures, so do the two calls, and they write what it writes
   pub job-parted : (n : Figures) (b′ : Buffers) → Answers s f ws hs b (Taken n) b′
       → Sheared s f (sum ws) (topHeight hs) (Taken n) × Distributed (n .vd) (n .t) ws hs b PassedVerdict b′
   job-parted n b′ a =
@@ -133,18 +138,42 @@ module _ (s : GroundValues) (f : FrameValues) (ws hs : List ℕ) (b : Buffers) w
       let j = sym (judged-in-turn s f ws hs (shortest b) l) ∙ t .judged in
       let c : Sheared s f (sum ws) (topHeight hs) (Taken n) =
       ap accepted (t .figures) ∙ sym (call.call-accepted s f (sum ws) (topHeight hs) j) in
-      let d = judged-handed (n .vd) (n .t) ws hs (shortest b) (handed n c) ∙ l in (
+      let d = judged-handed (n .vd) (n .t) ws hs (shortest b) (handed s f (sum ws) (topHeight hs) n c) ∙ l in (
         c,
         passed-distributed (n .vd) (n .t) ws hs (shortest b) b refl d
             (ap (λ (x : Buffers). x .shears) (t .cells)) (ap (λ (x : Buffers). x .forces) (t .cells))
             (ap (λ (x : Buffers). x .overturnings) (t .cells)),
       )
 
+  -- where it refuses, the distribution of any shear and period in range refuses the levels so, or takes them and the shear call refuses so
+  pub refused-parted : (r : Refusal) (b′ : Buffers) → Answers s f ws hs b (Refused r) b′ → (v T : ℕ) → AllowedHanded v T
+      → (a : Verdict) (c : Buffers) → Distributed v T ws hs b a c
+      → (a ≡ RefusedVerdict r) ⊎ ((a ≡ PassedVerdict) × Sheared s f (sum ws) (topHeight hs) (Refused r))
+  refused-parted r b′ p v T h (RefusedVerdict q) c d =
+      inl (ap RefusedVerdict (same-refusal (one-outcome s f ws hs b (levels-first v T h q c d) p .0)))
+  refused-parted r b′ p v T h PassedVerdict c d =
+      let l = levels-taken v T h c d in
+      let j = sym (judged-in-turn s f ws hs (shortest b) l) ∙ job.refused-judged s f ws hs b r b′ p in
+      inr (refl, sym (call.call-refused s f (sum ws) (topHeight hs) j))
+
+-- ---- V_D and T of any shear call are what the distribution takes, over any levels: it never gives 19 or 20 for them; nor does a job
+pub never-19-nor-20 : (s : GroundValues) (f : FrameValues) (W h : ℕ) (n : Figures) → Sheared s f W h (Taken n)
+    → (ws hs : List ℕ) (b : Buffers) (r : Refusal) (b′ : Buffers) → Distributed (n .vd) (n .t) ws hs b (RefusedVerdict r) b′ → r .number ≤ 4
+never-19-nor-20 s f W h n c ws hs b r b′ d =
+    let l = sym (judged-handed (n .vd) (n .t) ws hs (shortest b) (handed s f W h n c)) ∙ refused-judged (n .vd) (n .t) ws hs b r b′ d in
+    let told = levels-told ws hs (shortest b) in
+    numbered-levels (given-applies (LevelsApply ws hs (shortest b)) (judgedLevels ws hs (shortest b)) told (r .number) (r .place) l) .1
+
+pub job-at-most-18 : (s : GroundValues) (f : FrameValues) (ws hs : List ℕ) (b : Buffers) (r : Refusal) (b′ : Buffers)
+    → Answers s f ws hs b (Refused r) b′ → r .number ≤ 18
+job-at-most-18 s f ws hs b r b′ a = at-most-18 s f ws hs (shortest b) (r .number) (r .place) (refused-applies s f ws hs b r b′ a)
+
 -- ---- demand 3 of the two together: of any shear call, and the distribution of its V_D at its T over any levels
 module _ (s : GroundValues) (f : FrameValues) (W h : ℕ) (ws hs : List ℕ) (b : Buffers) where
   pub record Kept (n : Figures) (b′ : Buffers) : Type 0 where
     pub given : Given
     pub judged : judgedShearCall s f W h ≡ accepted given
+    pub period : n .t ≡ periodOf (given .frame .kind) (given .frame .calculated) h
     pub base : BaseDemand3 unit (givenHazards given) (given .frame) W (n .t) (n .vd)
     pub storeys : StoreyDemand3 unit (givenHazards given) (given .frame) W ws hs (n .t) (λ x. getD (b′ .shears) x 0)
 
@@ -154,6 +183,7 @@ module _ (s : GroundValues) (f : FrameValues) (W h : ℕ) (ws hs : List ℕ) (b 
       record {
         given = t .given;
         judged = t .judged;
+        period = t .period;
         base = t .kept;
         storeys =
             together (n .t) ws hs (stands (n .vd) (n .t) ws hs b b′ d .positive) unit (givenHazards (t .given)) (t .given .frame) W (n .vd) _

@@ -12,9 +12,9 @@ pub mod ShearedRefusing
 pub mod Distributed
 pub mod DistributedRefusing
 pub mod Answered
-pub mod InTurn
 pub mod FigureBounds
 pub mod Refusing
+pub mod InTurn
 pub mod Independent
 pub mod Calls
 pub mod Storeys

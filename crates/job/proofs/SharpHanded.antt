@@ -1,5 +1,5 @@
--- One newton would be too little for a base shear that is handed in: the job `tall` (SharpMargin.antt) shows it, by its V_D of 997 N at its T of 3,568 ms.
--- Under its roof the distribution writes 389 N, and the exact figure from 997 N is 387.19 N. The definition, computed.
+-- One newton would be too little for a base shear that is handed in: the job `tall` (SharpMargin.antt) shows it, by its V_D of 997 N at its T of 3,568 ms,
+-- as the shear call gives them. Under its roof the distribution writes 389 N, and the exact figure from 997 N is 387.19 N. The definition, computed.
 -- Assumes nothing.
 use mathlib.Core.Path.{_≡_, refl}
 use mathlib.Core.List.{List, [], _∷_}
@@ -7,7 +7,7 @@ use Prim.Native.Nat.{ℕ, _<_}
 use native.Mathlib.Omega.{arith}
 use lib.Dec.{lit<, lit≤}
 use lib.ListN.{length, getD}
-use Rattle.whole.specs.Cells.{cells, sum}
+use Rattle.whole.specs.Cells.{cells}
 use Rattle.whole.specs.Fraction.{over, plus, AtMost}
 use Rattle.whole.specs.Line.{between}
 use Rattle.whole.specs.Root.{lowerRoot, upperRoot}
@@ -15,27 +15,33 @@ use Rattle.whole.specs.Rounding.{up, down}
 use Rattle.whole.specs.Search.{bitsFrom, largest, smallest}
 use Rattle.whole.specs.Signed.{floor, ceiling}
 use Rattle.limits.specs.declared.refusal.Verdict.the-variants.{Passed}
+use Rattle.limits.specs.Building.{judgedBuilding}
+use Rattle.limits.specs.Frame.{judgedKind, judgedPeriod, judgedFrame}
 use Rattle.limits.specs.Handed.{judgedHanded}
-use Rattle.limits.specs.Judging.{judgedDistribution}
+use Rattle.limits.specs.Judging.{judgedShearCall, judgedDistribution}
 use Rattle.limits.specs.Levels.{weighed, raised, judgedLevels}
-use Rattle.limits.specs.Ranges.{inRange, within}
+use Rattle.limits.specs.Ranges.{inRange, within, among, listed}
+use Rattle.limits.specs.Site.{judgedClass, judgedMapped, judgedNearFault, judgedSite}
 use Rattle.response.specs.Factor.{factor, lowerFactor, upperFactor}
 use Rattle.response.specs.Period.{approximate, inUse}
 use Rattle.response.specs.Ratio.{bent, ratio, modified, blended}
 use Rattle.response.specs.Spectrum.{exactSpectrum, spectrum}
-use Rattle.base_shear.specs.Shears.{newtons, shear, star, base}
+use Rattle.base_shear.specs.Shears.{newtons, shear, star, base, figuresAt}
 use Rattle.storeys.specs.Exact.{exactShearUnder}
 use Rattle.storeys.specs.Storeys.{weightHeight, about}
 use Rattle.margin.specs.Demand3.{LessBy}
+use Rattle.job.specs.declared.FiguresAnswer.the-variants.{Taken}
 use Rattle.job.specs.Distribution.{distributionOf, Buffers, Distributed}
-use Rattle.job.proofs.JobNumbers.{printed, period}
+use Rattle.job.specs.ShearCall.{shearCallOf, Sheared}
 use Rattle.job.proofs.SharpMargin.{tall}
 
--- what the job prints, and what is handed in
-pub tall-figures : (printed tall ≡ 997) × (period tall ≡ 3568)
-unfolding sum between up down largest smallest bitsFrom lowerRoot upperRoot floor ceiling approximate inUse spectrum exactSpectrum
-    factor lowerFactor upperFactor ratio modified blended bent newtons shear star base
-tall-figures = (refl, refl)
+-- what the shear call answers for its 7 kN and 200 m, and so the job
+pub tall-sheared : Sheared (tall .ground) (tall .frame) 7 2000
+    (Taken (record { v = 997; vm = 783; star = 580; vd = 997; t = 3568 }))
+unfolding shearCallOf judgedShearCall judgedBuilding judgedSite judgedMapped judgedNearFault judgedClass judgedFrame judgedKind judgedPeriod
+    among listed within inRange between up down largest smallest bitsFrom lowerRoot upperRoot floor ceiling approximate inUse spectrum
+    exactSpectrum factor lowerFactor upperFactor ratio modified blended bent newtons shear star base figuresAt
+tall-sheared = refl
 
 abbrev empty : Buffers
 empty = record { forces = 0 ∷ 0 ∷ []; shears = 0 ∷ 0 ∷ []; overturnings = 0 ∷ 0 ∷ [] }

@@ -1,16 +1,16 @@
 -- The shear call: what its answer says of the judgments and of the figures; between which numbers V_D and T lie; demand 3's base part; and that no
 -- second answer meets its contract. The one premise is the contract, and where figures are spoken of that it answered with them.
 -- Assumes nothing.
-use mathlib.Core.Path.{_≡_, refl, sym, ap, subst, _∙_}
+use mathlib.Core.Path.{_≡_, sym, ap, subst}
 use Prim.Native.Nat.{ℕ}
 use Rattle.limits.specs.declared.frame.FrameValues.{FrameValues}
 use Rattle.limits.specs.declared.ground.GroundValues.{GroundValues}
 use Rattle.limits.specs.declared.judging.Given.{Given}
 use Rattle.limits.specs.declared.refusal.Refusal.{Refusal}
 use Rattle.limits.specs.Judging.{judgedShearCall}
-use Rattle.limits.specs.Outcome.{Outcome, accepted, refused}
+use Rattle.limits.specs.Outcome.{accepted, refused}
 use Rattle.limits.proofs.AcceptedCalls.{shear-call-allowed}
-use Rattle.limits.proofs.Passed.{never, one-value}
+use Rattle.limits.proofs.Passed.{one-value, bind-passed, only}
 use Rattle.response.specs.Period.{periodOf}
 use Rattle.response.specs.Unit.{unit}
 use Rattle.base_shear.specs.declared.Figures.{Figures}
@@ -21,7 +21,7 @@ use Rattle.job.specs.declared.FiguresAnswer.{FiguresAnswer}
 use Rattle.job.specs.declared.FiguresAnswer.the-variants.{Taken, Refused}
 use Rattle.job.specs.ShearCall.{givenHazards, buildingFigures, shearCallOf, Sheared}
 use Rattle.job.proofs.GivenReached.{Between, given-reached, given-between}
-use Rattle.job.proofs.Unique.{answer-unique, one-refusal}
+use Rattle.job.proofs.Unique.{answer-unique}
 
 module _ (s : GroundValues) (f : FrameValues) (W h : ℕ) where
   -- ---- once its judgments have answered: the lines of `shearCallOf`
@@ -40,20 +40,14 @@ module _ (s : GroundValues) (f : FrameValues) (W h : ℕ) where
     pub figures : n ≡ buildingFigures given W h
 
   pub taken-accepted : (n : Figures) → Sheared s f W h (Taken n) → Accepted n
-  taken-accepted n a = go (judgedShearCall s f W h) refl
-    where
-      go : (o : Outcome Given) → judgedShearCall s f W h ≡ o → Accepted n
-      go (accepted g) e = record { given = g; judged = e; figures = one-value (a ∙ call-accepted e) }
-      go (refused m p) e = absurd (never (sym (a ∙ call-refused e)))
+  unfolding shearCallOf
+  taken-accepted n a =
+      let g = bind-passed (judgedShearCall s f W h) (λ g. accepted (buildingFigures g W h)) (sym a) in
+      record { given = g .0; judged = g .1; figures = sym (one-value (g .2)) }
 
   pub refused-judged : (r : Refusal) → Sheared s f W h (Refused r) → judgedShearCall s f W h ≡ refused (r .number) (r .place)
-  refused-judged r a = go (judgedShearCall s f W h) refl
-    where
-      go : (o : Outcome Given) → judgedShearCall s f W h ≡ o → judgedShearCall s f W h ≡ refused (r .number) (r .place)
-      go (accepted g) e = absurd (never (a ∙ call-accepted e))
-      go (refused m p) e =
-          let same = one-refusal (a ∙ call-refused e) in
-          e ∙ λ i. refused (sym (same .0) i) (sym (same .1) i)
+  unfolding shearCallOf
+  refused-judged r a = only (judgedShearCall s f W h) (λ g. buildingFigures g W h) (sym a)
 
   -- ---- no second answer
   pub one-sheared : {a a′ : FiguresAnswer} → Sheared s f W h a → Sheared s f W h a′ → a ≡ a′

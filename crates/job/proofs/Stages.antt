@@ -1,4 +1,4 @@
--- What a job answers once its judgments have: the lines of `jobOf`.
+-- What a job answers once its judgments have: the lines of `jobOf`; and that its levels are a building, whose figures are the job's.
 -- Assumes nothing.
 use mathlib.Core.Path.{_≡_, sym, ap, _∙_}
 use mathlib.Core.List.{List}

@@ -1,11 +1,11 @@
 -- No second outcome meets the contracts of `job` and `figures`: one answer, and one content of each buffer.
 -- Assumes nothing.
-use mathlib.Core.Path.{_≡_, refl, sym, ap, _∙_}
+use mathlib.Core.Path.{_≡_, refl, sym, _∙_}
 use mathlib.Core.List.{List}
 use Prim.Native.Nat.{ℕ}
 use Rattle.limits.specs.declared.frame.FrameValues.{FrameValues}
 use Rattle.limits.specs.declared.ground.GroundValues.{GroundValues}
-use Rattle.limits.specs.Outcome.{Outcome, refused, number, place}
+use Rattle.limits.specs.Outcome.{Outcome}
 use Rattle.limits.proofs.Unique.{back, one-answer}
 use Rattle.base_shear.specs.declared.Figures.{Figures}
 use Rattle.job.specs.declared.FiguresAnswer.{FiguresAnswer}
@@ -13,9 +13,6 @@ use Rattle.job.specs.declared.FiguresAnswer.the-variants.{Taken, Refused
 use Rattle.job.specs.Distribution.{Buffers}
 use Rattle.job.specs.Job.{Figured, Answers}
 use Rattle.job.specs.ShearCall.{answerOutcome}
-
-pub one-refusal : {A : Type 0} {n p m q : ℕ} → _≡_ {A = Outcome A} (refused n p) (refused m q) → (n ≡ m) × (p ≡ q)
-one-refusal e = (ap number e, ap place e)
 
 pub answer-unique : {a b : FiguresAnswer} {o : Outcome Figures} → answerOutcome a ≡ o → answerOutcome b ≡ o → a ≡ b
 answer-unique = one-answer answerOutcome Taken Refused same

@@ -7,7 +7,7 @@
 --   givenFigures g ws hs       the five figures of a judged ground and frame: W is the sum of the weights, h the last height
 --   resultsOf g ws hs          the results of these
 --   jobOf s f ws hs room       the results, or the first refusal; room is the length of the shortest result buffer
---   figuresOnly o              what is left of an outcome without the levels
+--   figuresOnly o, columnsOnly o    what is left of an outcome without the levels, and without the figures
 --   written o b                what three lent buffers hold after that held b: each level's cell written, the rest as it was; where data is refused,
 --                              all as it was
 --   Figured s f ws hs a        a is the answer without buffers
@@ -22,10 +22,10 @@ use Rattle.limits.specs.declared.ground.GroundValues.{GroundValues}
 use Rattle.limits.specs.declared.judging.Given.{Given}
 use Rattle.limits.specs.Judging.{judgedJob}
 use Rattle.limits.specs.Levels.{topHeight}
-use Rattle.limits.specs.Outcome.{Outcome, accepted, refused, _>>=_}
+use Rattle.limits.specs.Outcome.{Outcome, accepted, _>>=_}
 use Rattle.base_shear.specs.declared.Figures.{Figures}
 use Rattle.job.specs.declared.FiguresAnswer.{FiguresAnswer}
-use Rattle.job.specs.Distribution.{Columns, columnsAt, Buffers, shortest, laidOver}
+use Rattle.job.specs.Distribution.{Columns, columnsAt, Buffers, shortest, filled}
 use Rattle.job.specs.ShearCall.{buildingFigures, answerOutcome}
 
 pub record Results : Type 0 where
@@ -59,9 +59,13 @@ figuresOnly o = do
   r ← o
   accepted (r .figures)
 
+abbrev pub columnsOnly : Outcome Results → Outcome Columns
+columnsOnly o = do
+  r ← o
+  accepted (columns r)
+
 abbrev pub written : Outcome Results → Buffers → Buffers
-written (accepted r) b = laidOver (columns r) b
-written (refused n p) b = b
+written o b = filled (columnsOnly o) b
 
 abbrev pub Figured : GroundValues → FrameValues → List ℕ → List ℕ → FiguresAnswer → Type 0
 Figured s f ws hs a = answerOutcome a ≡ figuresOnly (jobOf s f ws hs (length ws))

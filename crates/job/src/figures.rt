@@ -1,4 +1,4 @@
-// The five figures of a job.
+// The five figures of a building, and of a job.
 use crate::FiguresAnswer;
 use base_shear::Figures;
 use base_shear::base::base_figures;

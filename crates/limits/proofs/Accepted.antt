@@ -25,7 +25,7 @@ use Rattle.limits.specs.declared.site.SiteValues.{SiteValues}
 use Rattle.limits.specs.Allowed.{AllowedSite, AllowedGround, AllowedFrame, AllowedLevels, AllowedGiven}
 use Rattle.limits.specs.Frame.{judgedKind, judgedPeriod, frameOf, judgedFrame}
 use Rattle.limits.specs.Ground.{judgedGround}
-use Rattle.limits.specs.Judging.{judgedJob}
+use Rattle.limits.specs.Judging.{judgedGiven, judgedJob}
 use Rattle.limits.specs.Levels.{counted, paired, roomy, judgedWeight, weighed, judgedHeight, raised, judgedLevels, topHeight}
 use Rattle.limits.specs.Outcome.{Outcome, accepted, refused, Done, require, _>>=_, _>>_}
 use Rattle.limits.specs.Ranges.{inRange, among, within, listed}
@@ -175,22 +175,24 @@ top-allowed ws hs l =
     let t = l .heights (length hs - 1) (omega arith) in
     omega (arith, top-last hs n, t)
 
+-- ---- ground and frame, after any first judgment
+pub given-parts : (o : Outcome Done) (s : GroundValues) (f : FrameValues) (g : Given) → judgedGiven o s f ≡ accepted g
+    → (o ≡ accepted tt) × AllowedGround (g .ground) × AllowedFrame (g .frame)
+given-parts o s f g e =
+    let first = then-passed o _ e in
+    let ground = bind-passed (judgedGround s) _ (first .1) in
+    let frame = bind-passed (judgedFrame f) (λ y. accepted (record { ground = ground .0; frame = y })) (ground .2) in
+    let same : record { ground = ground .0; frame = frame .0 } ≡ g = one-value (frame .2) in (
+      first .0,
+      subst (λ (x : Given). AllowedGround (x .ground)) same (ground-allowed s (ground .0) (ground .1)),
+      subst (λ (x : Given). AllowedFrame (x .frame)) same (frame-allowed f (frame .0) (frame .1)),
+    )
+
 -- ---- the whole job
 pub given-allowed : (s : GroundValues) (f : FrameValues) (ws hs : List ℕ) (room : ℕ) (g : Given) → judgedJob s f ws hs room ≡ accepted g
     → AllowedGiven g ws hs × (length ws ≤ room)
 unfolding judgedJob
 given-allowed s f ws hs room g e =
-    let levels = then-passed (judgedLevels ws hs room) _ e in
-    let ground = bind-passed (judgedGround s) _ (levels .1) in
-    let frame = bind-passed (judgedFrame f) (λ y. accepted (record { ground = ground .0; frame = y })) (ground .2) in
-    let same : record { ground = ground .0; frame = frame .0 } ≡ g = one-value (frame .2) in
-    let l = levels-allowed ws hs room (levels .0) in (
-      subst (λ (x : Given). AllowedGiven x ws hs) same
-          (record {
-            ground = ground-allowed s (ground .0) (ground .1);
-            frame = frame-allowed f (frame .0) (frame .1);
-            levels = l .0;
-            top = top-allowed ws hs (l .0);
-          }),
-      l .1,
-    )
+    let parts = given-parts (judgedLevels ws hs room) s f g e in
+    let l = levels-allowed ws hs room (parts .0) in
+    (record { ground = parts .1; frame = parts .2; levels = l .0; top = top-allowed ws hs (l .0) }, l .1)

@@ -1,6 +1,7 @@
--- What the two calls accept is allowed; and the levels of a job are a building that the shear call takes: W and h of it are in range.
+-- What the two calls accept is allowed, and what is allowed they accept. The levels of a job are a building that the shear call takes: its W and h are
+-- in range. So a job is judged as the two calls are in turn.
 -- Assumes nothing.
-use mathlib.Core.Path.{_≡_, ap, subst}
+use mathlib.Core.Path.{_≡_, ap}
 use mathlib.Core.List.{List}
 use Prim.Native.Nat.{ℕ, _≤_}
 use native.Mathlib.Nat.{mul-le-mul-right}
@@ -13,15 +14,13 @@ use Rattle.limits.specs.declared.ground.GroundValues.{GroundValues}
 use Rattle.limits.specs.declared.judging.Given.{Given}
 use Rattle.limits.specs.Allowed.{AllowedLevels, AllowedGiven, AllowedBuilding, AllowedShearCall, AllowedHanded}
 use Rattle.limits.specs.Building.{judgedTotal, judgedTop, judgedBuilding}
-use Rattle.limits.specs.Frame.{judgedFrame}
-use Rattle.limits.specs.Ground.{judgedGround}
-use Rattle.limits.specs.Handed.{judgedShear, judgedInUse, judgedHanded}
+use Rattle.limits.specs.Handed.{judgedBaseShear, judgedHandedPeriod, judgedHanded}
 use Rattle.limits.specs.Judging.{judgedGiven, judgedJob, judgedShearCall, judgedDistribution}
 use Rattle.limits.specs.Levels.{judgedLevels, topHeight}
 use Rattle.limits.specs.Outcome.{Outcome, accepted, Done}
-use Rattle.limits.proofs.Accepted.{ground-allowed, frame-allowed, levels-allowed, top-allowed}
+use Rattle.limits.proofs.Accepted.{given-parts, levels-allowed, top-allowed}
 use Rattle.limits.proofs.Built.{range-passes}
-use Rattle.limits.proofs.Passed.{one-value, then-passed, then-done, bind-passed, within-passed}
+use Rattle.limits.proofs.Passed.{then-passed, then-done, within-passed}
 
 building-allowed : (W h : ℕ) → judgedBuilding W h ≡ accepted tt → AllowedBuilding W h
 unfolding judgedBuilding
@@ -33,23 +32,15 @@ pub shear-call-allowed : (s : GroundValues) (f : FrameValues) (W h : ℕ) (g : G
     → AllowedShearCall g W h
 unfolding judgedShearCall
 shear-call-allowed s f W h g e =
-    let building = then-passed (judgedBuilding W h) _ e in
-    let ground = bind-passed (judgedGround s) _ (building .1) in
-    let frame = bind-passed (judgedFrame f) (λ y. accepted (record { ground = ground .0; frame = y })) (ground .2) in
-    let same : record { ground = ground .0; frame = frame .0 } ≡ g = one-value (frame .2) in
-    subst (λ (x : Given). AllowedShearCall x W h) same
-    (record {
-      ground = ground-allowed s (ground .0) (ground .1);
-      frame = frame-allowed f (frame .0) (frame .1);
-      building = building-allowed W h (building .0);
-    })
+    let parts = given-parts (judgedBuilding W h) s f g e in
+    record { ground = parts .1; frame = parts .2; building = building-allowed W h (parts .0) }
 
 pub distribution-allowed : (v t : ℕ) (ws hs : List ℕ) (room : ℕ) → judgedDistribution v t ws hs room ≡ accepted tt
     → AllowedLevels ws hs × (length ws ≤ room) × AllowedHanded v t
 unfolding judgedDistribution judgedHanded
 distribution-allowed v t ws hs room e =
     let levels = then-passed (judgedLevels ws hs room) (judgedHanded v t) e in
-    let handed = then-passed (judgedShear v) (judgedInUse t) (levels .1) in
+    let handed = then-passed (judgedBaseShear v) (judgedHandedPeriod t) (levels .1) in
     let l = levels-allowed ws hs room (levels .0) in (
       l .0,
       l .1,

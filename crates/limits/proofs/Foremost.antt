@@ -29,7 +29,7 @@ use Rattle.limits.proofs.Refusing.{job-told, refused-applies}
 module _ (s : GroundValues) (f : FrameValues) (ws hs : List ℕ) (room : ℕ) where
   -- where a refusal applies, the job is given it or one that comes no later: the stages before its own have numbers that are judged
   -- before it
-  pub stops : (n q : ℕ) → Applies s f ws hs room n q → Stops n q (judgedJob s f ws hs room)
+  stops : (n q : ℕ) → Applies s f ws hs room n q → Stops n q (judgedJob s f ws hs room)
   unfolding judgedJob
   stops n q (of-levels a) = first-stops n q (judgedLevels ws hs room) _ (levels-stop ws hs room n q a)
   stops n q (of-ground a) = ground-after s f (judgedLevels ws hs room) (levels-up-to ws hs room) n q a

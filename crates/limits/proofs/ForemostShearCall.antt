@@ -20,10 +20,11 @@ use Rattle.limits.proofs.Ascending.{lowest-first, lowest-or-zone}
 use Rattle.limits.proofs.BuildingStage.{building-up-to, building-stops, building-told}
 use Rattle.limits.proofs.First as first
 use Rattle.limits.proofs.GivenApplies.{Told, told-as, given-applies, accepted-unless}
-use Rattle.limits.proofs.GivenStage.{ground-after, frame-after, given-told}
+use Rattle.limits.proofs.GivenStage.{ground-after, frame-after}
 use Rattle.limits.proofs.InOrder.{in-order}
 use Rattle.limits.proofs.Places.{named-call, numbered-call, numbered-basin-call}
 use Rattle.limits.proofs.Precedence.{Stops, first-stops}
+use Rattle.limits.proofs.Refusing.{given-told}
 
 module _ (s : GroundValues) (f : FrameValues) (W h : ℕ) where
   abbrev A : ℕ → ℕ → Type 0

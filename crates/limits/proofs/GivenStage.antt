@@ -1,5 +1,5 @@
 -- Ground and frame, after any judgment of numbers up to 4: where one of theirs applies, the whole is that refusal or one that comes no
--- later; and a refusal of theirs that is given applies.
+-- later.
 -- Assumes nothing.
 use Prim.Native.Nat.{ℕ}
 use native.Mathlib.Omega.{arith}
@@ -11,10 +11,8 @@ use Rattle.limits.specs.Ground.{judgedGround}
 use Rattle.limits.specs.Judging.{judgedGiven}
 use Rattle.limits.specs.Outcome.{Outcome, Done}
 use Rattle.limits.proofs.FrameStage.{frame-stops, frame-later}
-use Rattle.limits.proofs.GivenApplies.{Told, then-told, bind-told, told-as}
 use Rattle.limits.proofs.GroundStage.{ground-up-to, ground-stops, ground-later}
 use Rattle.limits.proofs.Precedence.{Stops, UpTo, up-to-yields, later-stops, bound-stops, value-stops}
-use Rattle.limits.proofs.Refusing.{ground-told, frame-told}
 
 module _ (s : GroundValues) (f : FrameValues) where
   module _ (o : Outcome Done) (before : UpTo 4 o) (n q : ℕ) where
@@ -29,10 +27,3 @@ module _ (s : GroundValues) (f : FrameValues) where
         later-stops n q o _ (up-to-yields 4 n q o before (omega (arith, after)))
         (λ _. value-stops n q (judgedGround s) _ (up-to-yields 7 n q (judgedGround s) (ground-up-to s) after)
         (λ ground. bound-stops n q (judgedFrame f) _ (frame-stops f n q a)))
-
-  pub given-told : (A : ℕ → ℕ → Type 0) (o : Outcome Done) → Told A o → ((n p : ℕ) → GroundApplies s n p → A n p)
-      → ((n p : ℕ) → FrameApplies f n p → A n p) → Told A (judgedGiven o s f)
-  given-told A o first ground frame =
-      then-told A o _ first
-      (λ _. bind-told A (judgedGround s) _ (told-as (GroundApplies s) A ground (judgedGround s) (ground-told s))
-      (λ _. bind-told A (judgedFrame f) _ (told-as (FrameApplies f) A frame (judgedFrame f) (frame-told f)) (λ _. tt)))

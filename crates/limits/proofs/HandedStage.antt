@@ -5,8 +5,8 @@ use mathlib.Core.Path.{refl}
 use mathlib.Core.Logic.{inl, inr}
 use Prim.Native.Nat.{ℕ}
 use native.Mathlib.Omega.{arith}
-use Rattle.limits.specs.Applies.{HandedApplies, base-shear, in-use}
-use Rattle.limits.specs.Handed.{judgedShear, judgedInUse, judgedHanded}
+use Rattle.limits.specs.Applies.{HandedApplies, base-shear, handed-period}
+use Rattle.limits.specs.Handed.{judgedBaseShear, judgedHandedPeriod, judgedHanded}
 use Rattle.limits.specs.Order.{Before}
 use Rattle.limits.proofs.GivenApplies.{Told, then-told, within-told}
 use Rattle.limits.proofs.NotAllowed.{range-stops}
@@ -15,18 +15,18 @@ use Rattle.limits.proofs.Precedence.{Stops, first-stops, later-stops, w
 module _ (v t : ℕ) where
   pub handed-later : (n q : ℕ) → HandedApplies v t n q → Before 4 n
   handed-later n q (base-shear o) = omega arith
-  handed-later n q (in-use o) = omega arith
+  handed-later n q (handed-period o) = omega arith
 
   pub handed-stops : (n q : ℕ) → HandedApplies v t n q → Stops n q (judgedHanded v t)
   unfolding judgedHanded
   handed-stops n q (base-shear o) =
-      first-stops 19 0 (judgedShear v) (judgedInUse t) (range-stops 19 0 1 1_200_000_000 v 19 0 o (inr (refl, inl refl)))
-  handed-stops n q (in-use o) =
-      later-stops 20 0 (judgedShear v) (judgedInUse t) (within-yields 20 0 1 1_200_000_000 v 19 0 (inl (omega arith)))
+      first-stops 19 0 (judgedBaseShear v) (judgedHandedPeriod t) (range-stops 19 0 1 1_200_000_000 v 19 0 o (inr (refl, inl refl)))
+  handed-stops n q (handed-period o) =
+      later-stops 20 0 (judgedBaseShear v) (judgedHandedPeriod t) (within-yields 20 0 1 1_200_000_000 v 19 0 (inl (omega arith)))
       (λ _. range-stops 20 0 0 9_999 t 20 0 o (inr (refl, inl refl)))
 
   pub handed-told : Told (HandedApplies v t) (judgedHanded v t)
   unfolding judgedHanded
   handed-told =
       let H = HandedApplies v t in
-      then-told H (judgedShear v) (judgedInUse t) (within-told H 1 1_200_000_000 v 19 0 base-shear) (λ _. within-told H 0 9_999 t 20 0 in-use)
+      then-told H (judgedBaseShear v) (judgedHandedPeriod t) (within-told H 1 1_200_000_000 v 19 0 base-shear) (λ _. within-told H 0 9_999 t 20 0 handed-period)

@@ -1,17 +1,26 @@
 -- What judgments that pass, one after the other, show.
 -- Assumes nothing.
-use mathlib.Core.Path.{_≡_, refl, sym}
+use mathlib.Core.Path.{_≡_, refl, sym, ap}
 use mathlib.Core.Bool.{Bool, true, false, _&&_}
 use Prim.Native.Nat.{ℕ, _≤_}
 use native.Mathlib.Omega.{arith}
 use lib.Dec.{leb}
 use borrow.Author.Tests.{leb-true}
-use Rattle.limits.specs.Outcome.{Outcome, accepted, refused, Done, require, _>>=_, _>>_}
+use Rattle.limits.specs.Outcome.{Outcome, accepted, refused, number, place, Done, require, _>>=_, _>>_}
 use Rattle.limits.specs.Ranges.{inRange, within}
 
 -- a refusal is no acceptance
 pub never : {A : Type 0} {a : A} {n p : ℕ} → _≡_ {A = Outcome A} (refused n p) (accepted a) → ⊥
 never e = let z : _≡_ {A = ℕ} 0 1 = cc in omega arith
+
+-- a refusal is one number at one place
+pub one-refusal : {A : Type 0} {n p m q : ℕ} → _≡_ {A = Outcome A} (refused n p) (refused m q) → (n ≡ m) × (p ≡ q)
+one-refusal e = (ap number e, ap place e)
+
+-- what only makes something of a value refuses as that which gives the value
+pub only : {A B : Type 0} {n q : ℕ} (o : Outcome A) (f : A → B) → (o >>= λ a. accepted (f a)) ≡ refused n q → o ≡ refused n q
+only (accepted a) f e = absurd (never (sym e))
+only (refused m p) f e = let r = one-refusal e in rw (r .0, r .1)
 
 pub differ : true ≡ false → ⊥
 differ e = let z : _≡_ {A = ℕ} 0 1 = cc in omega arith
@@ -25,6 +34,11 @@ pub then-passed : {B : Type 0} {b : B} (o : Outcome Done) (q : Outcome B) → (o
     → (o ≡ accepted tt) × (q ≡ accepted b)
 then-passed (accepted u) q e = (refl, e)
 then-passed (refused n p) q e = absurd (never e)
+
+-- what is refused before a value is handed on is refused by the judgment
+pub then-refused : {A : Type 0} {n q : ℕ} (o : Outcome Done) (a : A) → (o >> accepted a) ≡ refused n q → o ≡ refused n q
+then-refused (accepted u) a e = absurd (never (sym e))
+then-refused (refused m p) a e = let r = one-refusal e in rw (r .0, r .1)
 
 pub then-done : (o : Outcome Done) → (o >> accepted tt) ≡ o
 then-done (accepted u) = refl

@@ -1,5 +1,5 @@
--- The refusals of a job are 1 to 12, and 18 in place of 5 to 7; which of them name a place: 3 to 6 do, the others have place 0. The shear call
--- has 3 to 12, or 3, 4, 18 and 8 to 12, and 5 and 6 name a place; the distribution has 1 to 4, 19 and 20, and 3 and 4 name one. Where both
+-- The refusals of a job are 1 to 12, and 18 in place of 5 to 7; which of them name a place: 3 to 6 do, the others have place 0. Of the shear
+-- call 5 and 6 name a place, and no other number; of the distribution 3 and 4 do, as 5 and 6 are none of its numbers. Where both
 -- levels have one pair of near-fault factors, 6 applies at place 1 or 2 wherever it applies.
 -- Assumes nothing.
 use mathlib.Core.Path.{_≡_, refl, subst}
@@ -11,7 +11,7 @@ use Rattle.limits.specs.declared.frame.FrameValues.{FrameValues}
 use Rattle.limits.specs.declared.ground.GroundValues.{GroundValues}
 use Rattle.limits.specs.declared.ground.GroundValues.the-variants.{Site, Basin}
 use Rattle.limits.specs.declared.site.SiteValues.{SiteValues}
-use Rattle.limits.specs.Applies.{OutOf, count, lists, buffer, weight, height, rising, LevelsApply, of-count, of-lengths, of-weights, of-heights, SiteApplies, ss-design, s1-design, ss-mce, s1-mce, na-design, nv-design, na-mce, nv-mce, class, ZoneApplies, zone, GroundApplies, FrameApplies, r, i, alpha, kind, period, BuildingApplies, total, top, HandedApplies, base-shear, in-use, Applies, of-levels, of-ground, of-frame}
+use Rattle.limits.specs.Applies.{OutOf, count, lists, buffer, weight, height, rising, LevelsApply, of-count, of-lengths, of-weights, of-heights, SiteApplies, ss-design, s1-design, ss-mce, s1-mce, na-design, nv-design, na-mce, nv-mce, class, ZoneApplies, zone, GroundApplies, FrameApplies, r, i, alpha, kind, period, BuildingApplies, total, top, HandedApplies, base-shear, handed-period, Applies, of-levels, of-ground, of-frame}
 use Rattle.limits.specs.DistributionApplies.{DistributionApplies, of-levels as on-levels, of-handed as on-handed}
 use Rattle.limits.specs.ShearCallApplies.{ShearCallApplies, of-building, of-ground as call-ground, of-frame as call-frame}
 use Rattle.limits.proofs.Ascending.{OfBasin, OfDistribution}
@@ -96,6 +96,13 @@ numbered-basin (of-levels a) = inl (numbered-levels a)
 numbered-basin (of-ground (zone o)) = inr (inl refl)
 numbered-basin (of-frame a) = inr (inr (numbered-frame a))
 
+-- of any job: none is above 18
+pub at-most-18 : (s : GroundValues) (f : FrameValues) (ws hs : List ℕ) (room n p : ℕ) → Applies s f ws hs room n p → n ≤ 18
+at-most-18 (Site s) f ws hs room n p a = let h = numbered a in omega arith
+at-most-18 (Basin z) f ws hs room n p a =
+    ⊎-elim (λ h. let k : n ≤ 18 = omega arith in k) (λ h. ⊎-elim (λ e. let k : n ≤ 18 = omega arith in k) (λ l. let k : n ≤ 18 = omega arith in k) h)
+    (numbered-basin a)
+
 -- of the shear call: its 3 and 4 name no place
 numbered-building : {W h n p : ℕ} → BuildingApplies W h n p → (3 ≤ n) × (n ≤ 4) × (p ≡ 0)
 numbered-building (total o) = (omega arith, omega arith, refl)
@@ -128,7 +135,7 @@ numbered-basin-call (call-frame a) = inr (inr (numbered-frame a))
 -- of the distribution
 numbered-handed : {v t n p : ℕ} → HandedApplies v t n p → (19 ≤ n) × (n ≤ 20) × (p ≡ 0)
 numbered-handed (base-shear o) = (omega arith, omega arith, refl)
-numbered-handed (in-use o) = (omega arith, omega arith, refl)
+numbered-handed (handed-period o) = (omega arith, omega arith, refl)
 
 pub named-distribution : {v t : ℕ} {ws hs : List ℕ} {room n p : ℕ} → DistributionApplies v t ws hs room n p → Named n p
 named-distribution (on-levels a) = named-levels a

@@ -19,9 +19,9 @@ use Rattle.whole.specs.Cells.{below}
 use Rattle.limits.specs.Applies.{OutOf, NotListed, count, lists, buffer, weight, height, rising, LevelsApply, of-count, of-lengths, of-weights, of-heights, SiteApplies, ss-design, s1-design, ss-mce, s1-mce, na-design, nv-design, na-mce, nv-mce, class, ZoneApplies, zone, GroundApplies, FrameApplies, r, i, alpha, kind, period, Applies, of-levels, of-ground, of-frame}
 use Rattle.limits.specs.Frame.{judgedKind, judgedPeriod, judgedFrame}
 use Rattle.limits.specs.Ground.{judgedGround}
-use Rattle.limits.specs.Judging.{judgedJob}
+use Rattle.limits.specs.Judging.{judgedGiven, judgedJob}
 use Rattle.limits.specs.Levels.{counted, paired, roomy, judgedWeight, weighed, judgedHeight, raised, judgedLevels}
-use Rattle.limits.specs.Outcome.{accepted, refused, require, _>>=_, _>>_}
+use Rattle.limits.specs.Outcome.{Outcome, accepted, refused, Done, require, _>>=_, _>>_}
 use Rattle.limits.specs.Ranges.{among, within, listed}
 use Rattle.limits.specs.Site.{judgedClass, judgedMapped, judgedNearFault, judgedSite}
 use Rattle.limits.specs.Zone.{judgedZone}
@@ -149,6 +149,15 @@ module _ (f : FrameValues) where
       (λ e₄. kind (eqb-false _ _ e₁, (eqb-false _ _ e₂, (eqb-false _ _ e₃, (eqb-false _ _ e₄, tt)))))))))
       (λ k. then-told F (judgedPeriod (f .calculated)) _ period-told (λ _. tt)))))
 
+-- ---- ground and frame, after any first judgment o of which A says when it refuses
+module _ (s : GroundValues) (f : FrameValues) where
+  pub given-told : (A : ℕ → ℕ → Type 0) (o : Outcome Done) → Told A o → ((n p : ℕ) → GroundApplies s n p → A n p)
+      → ((n p : ℕ) → FrameApplies f n p → A n p) → Told A (judgedGiven o s f)
+  given-told A o first ground frame =
+      then-told A o _ first
+      (λ _. bind-told A (judgedGround s) _ (told-as (GroundApplies s) A ground (judgedGround s) (ground-told s))
+      (λ _. bind-told A (judgedFrame f) _ (told-as (FrameApplies f) A frame (judgedFrame f) (frame-told f)) (λ _. tt)))
+
 -- ---- the job
 module _ (s : GroundValues) (f : FrameValues) (ws hs : List ℕ) (room : ℕ) where
   abbrev J : ℕ → ℕ → Type 0
@@ -157,9 +166,9 @@ module _ (s : GroundValues) (f : FrameValues) (ws hs : List ℕ) (room : ℕ) wh
   pub job-told : Told J (judgedJob s f ws hs room)
   unfolding judgedJob
   job-told =
-      then-told J (judgedLevels ws hs room) _ (told-as (LevelsApply ws hs room) J (λ n p. of-levels) (judgedLevels ws hs room) (levels-told ws hs room))
-      (λ _. bind-told J (judgedGround s) _ (told-as (GroundApplies s) J (λ n p. of-ground) (judgedGround s) (ground-told s))
-      (λ ground. bind-told J (judgedFrame f) _ (told-as (FrameApplies f) J (λ n p. of-frame) (judgedFrame f) (frame-told f)) (λ frame. tt)))
+      given-told s f J (judgedLevels ws hs room)
+      (told-as (LevelsApply ws hs room) J (λ n p. of-levels) (judgedLevels ws hs room) (levels-told ws hs room))
+      (λ n p. of-ground) (λ n p. of-frame)
 
   -- a refusal that is given applies
   pub refused-applies : (n p : ℕ) → judgedJob s f ws hs room ≡ refused n p → Applies s f ws hs room n p

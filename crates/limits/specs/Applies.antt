@@ -84,7 +84,7 @@ pub data BuildingApplies (W h : ℕ) : ℕ → ℕ → Type 0 where
 
 pub data HandedApplies (v t : ℕ) : ℕ → ℕ → Type 0 where
   base-shear : OutOf 1 1_200_000_000 v → HandedApplies v t 19 0
-  in-use : OutOf 0 9_999 t → HandedApplies v t 20 0
+  handed-period : OutOf 0 9_999 t → HandedApplies v t 20 0
 
 pub data Applies (s : GroundValues) (f : FrameValues) (ws hs : List ℕ) (room n p : ℕ) : Type 0 where
   of-levels : LevelsApply ws hs room n p → Applies s f ws hs room n p

@@ -1,4 +1,4 @@
-// The quantities of a job, of a soil log and of a sheet: their limits, who judges them, and what a refusal says.
+// The quantities of a job, of its two calls, of a soil log and of a sheet: their limits, who judges them, and what a refusal says.
 
 pub mod building;
 pub mod class;

@@ -1,4 +1,4 @@
--- What is replied is what the core answered to the ground and the frame line; and no second reply meets the contracts. A site line of seven
+-- What is replied is what the core answered to the ground and the frame line; where 0 is returned it was accepted; and no second reply meets the contracts. A site line of seven
 -- numbers that is accepted gets the reply of nine with the pair repeated.
 -- Assumes nothing.
 use mathlib.Core.Path.{_≡_, refl, sym, ap, ap₂, subst, _∙_}
@@ -15,11 +15,19 @@ use Rattle.limits.specs.declared.refusal.Verdict.{Verdict}
 use Rattle.limits.specs.declared.refusal.Verdict.the-variants.{Passed, Refused as RefusedVerdict}
 use Rattle.limits.specs.Order.{InOrder}
 use Rattle.limits.specs.Outcome.{Outcome, accepted, refused, number, place, refusalOf, verdictOutcome}
+use Rattle.limits.proofs.Foremost.{applies-in-order as job-in-order}
+use Rattle.limits.proofs.ForemostDistribution.{applies-in-order as distribution-in-order}
+use Rattle.limits.proofs.ForemostShearCall.{applies-in-order as call-in-order}
+use Rattle.base_shear.specs.declared.Figures.{Figures}
 use Rattle.job.specs.declared.FiguresAnswer.{FiguresAnswer}
-use Rattle.job.specs.Distribution.{Columns, distributionOf, doneOnly, Buffers, shortest, filled, Distributed}
+use Rattle.job.specs.declared.FiguresAnswer.the-variants.{Taken, Refused}
+use Rattle.job.specs.Distribution.{Columns, distributionOf, doneOnly, Buffers, shortest, Distributed}
 use Rattle.job.specs.Job.{Results, jobOf, figuresOnly, written, Figured, Answers}
-use Rattle.job.specs.ShearCall.{shearCallOf, answerOutcome, Sheared}
+use Rattle.job.specs.ShearCall.{shearCallOf, five, answerOutcome, Sheared}
 use Rattle.job.proofs.Calls.{answerOf, says-outcome}
+use Rattle.job.proofs.DistributedRefusing.{refused-applies as distribution-applies}
+use Rattle.job.proofs.Refusing.{refused-applies as job-applies}
+use Rattle.job.proofs.ShearedRefusing.{refused-applies as call-applies}
 use Rattle.sheet.proofs.Foremost.{applies-in-order, refused-applies}
 use Rattle.sheet.proofs.OnePair.{siteSheet, accepted-repeated}
 use Rattle.sheet.specs.declared.Put.{Put}
@@ -37,6 +45,10 @@ module _ {A : Type 0} {f : A → List ℕ} {k : ℕ} where
   pub replies-unique : {o : Outcome A} {n n′ : ℕ} {r r′ : List ℕ} → Replies f k o n r → Replies f k o n′ r′
       → (n ≡ n′) × (r ≡ r′)
   replies-unique t t′ = (determined (t .returned) (t′ .returned), determined (t .replied) (t′ .replied))
+
+-- 0 is no refusal: it stands nowhere in the order
+never-zero : (n : ℕ) → n ≡ 0 → InOrder n → ⊥
+never-zero n e h = let stands : InOrder 0 = subst InOrder e h in omega (arith, stands)
 
 module _ (g : GroundValues) (m ws hs : List ℕ) where
   pub job-replies : (s : GroundValues) (f : FrameValues) (b : Buffers) (a : FiguresAnswer) (b′ : Buffers) {n : ℕ} {r : List ℕ}
@@ -64,6 +76,18 @@ module _ (g : GroundValues) (m ws hs : List ℕ) where
       let o = figuresOnly (jobOf g (frameValues m) ws hs (length ws)) in
       (answerOf o, says-outcome o, replies-as (sym (says-outcome o)) p)
 
+  -- where 0 is returned, the answer is figures, and the reply has them
+  pub zero-answers : (b : Buffers) (r : List ℕ) (b′ : Buffers) → JobReplies g m ws hs b 0 r b′
+      → (n : Figures) × Answers g (frameValues m) ws hs b (Taken n) b′ × (r ≡ 0 ∷ five n)
+  zero-answers b r b′ p = go (replied-answers b 0 r b′ p .0) (replied-answers b 0 r b′ p .1) (replied-answers b 0 r b′ p .2)
+    where
+      go : (a : FiguresAnswer) → Answers g (frameValues m) ws hs b a b′ → FiguresReply (answerOutcome a) 0 r
+          → (n : Figures) × Answers g (frameValues m) ws hs b (Taken n) b′ × (r ≡ 0 ∷ five n)
+      go (Taken n) t q = (n, t, q .replied)
+      go (Refused k) t q =
+          absurd (never-zero (k .number) (sym (q .returned))
+          (job-in-order g (frameValues m) ws hs (shortest b) (k .number) (k .place) (job-applies g (frameValues m) ws hs b k b′ t)))
+
   -- `rukeshomaji_job`, `rukeshomaji_figures`, and those of the Basin
   pub one-reply : (b : Buffers) {n n′ : ℕ} {r r′ : List ℕ} {c c′ : Buffers} → JobReplies g m ws hs b n r c
       → JobReplies g m ws hs b n′ r′ c′ → ((n ≡ n′) × (r ≡ r′)) × (c ≡ c′)
@@ -85,6 +109,16 @@ module _ (g : GroundValues) (m : List ℕ) (W h : ℕ) where
   replied-sheared n r p =
       let o = shearCallOf g (frameValues m) W h in
       (answerOf o, says-outcome o, replies-as (sym (says-outcome o)) p)
+
+  pub zero-sheared : (r : List ℕ) → ShearCallReplies g m W h 0 r → (n : Figures) × Sheared g (frameValues m) W h (Taken n) × (r ≡ 0 ∷ five n)
+  zero-sheared r p = go (replied-sheared 0 r p .0) (replied-sheared 0 r p .1) (replied-sheared 0 r p .2)
+    where
+      go : (a : FiguresAnswer) → Sheared g (frameValues m) W h a → FiguresReply (answerOutcome a) 0 r
+          → (n : Figures) × Sheared g (frameValues m) W h (Taken n) × (r ≡ 0 ∷ five n)
+      go (Taken n) t q = (n, t, q .replied)
+      go (Refused k) t q =
+          absurd (never-zero (k .number) (sym (q .returned))
+          (call-in-order g (frameValues m) W h (k .number) (k .place) (call-applies g (frameValues m) W h k t)))
 
   pub one-shear-call-reply : {n n′ : ℕ} {r r′ : List ℕ} → ShearCallReplies g m W h n r → ShearCallReplies g m W h n′ r′
       → (n ≡ n′) × (r ≡ r′)
@@ -121,6 +155,18 @@ module _ (v T : ℕ) (ws hs : List ℕ) (b : Buffers) where
       go (accepted c) e = (Passed, (sym (ap doneOnly e), t .buffers), t .returned ∙ ap number e, t .placed ∙ ap place e)
       go (refused k q) e =
           (RefusedVerdict (record { number = k; place = q }), (sym (ap doneOnly e), t .buffers), t .returned ∙ ap number e, t .placed ∙ ap place e)
+
+  pub zero-distributed : (p : ℕ) (b′ : Buffers) → DistributionReplies v T ws hs b 0 p b′ → Distributed v T ws hs b Passed b′ × (p ≡ 0)
+  zero-distributed p b′ t =
+      let a = replied-distributed 0 p b′ t in
+      go (a .0) (a .1) (a .2) (a .3)
+    where
+      go : (a : Verdict) → Distributed v T ws hs b a b′ → 0 ≡ number (verdictOutcome a) → p ≡ place (verdictOutcome a)
+          → Distributed v T ws hs b Passed b′ × (p ≡ 0)
+      go Passed d n q = (d, q)
+      go (RefusedVerdict k) d n q =
+          absurd (never-zero (k .number) (sym n)
+          (distribution-in-order v T ws hs (shortest b) (k .number) (k .place) (distribution-applies v T ws hs b k b′ d)))
 
   pub one-distribution-reply : {n n′ p p′ : ℕ} {c c′ : Buffers} → DistributionReplies v T ws hs b n p c
       → DistributionReplies v T ws hs b n′ p′ c′ → (n ≡ n′) × (p ≡ p′) × (c ≡ c′)
@@ -167,9 +213,7 @@ accepted-zero s e = go (outcomeOf s) refl
     go : (o : Outcome Results) → outcomeOf s ≡ o → (x : Results) × (outcomeOf s ≡ accepted x)
     go (accepted x) q = (x, q)
     go (refused k p) q =
-        let none : k ≡ 0 = sym (ap number q) ∙ e in
-        let stands : InOrder 0 = subst InOrder none (applies-in-order s k p (refused-applies s k p q)) in
-        absurd (let z : ⊥ = omega (arith, stands) in z)
+        absurd (never-zero k (sym (ap number q) ∙ e) (applies-in-order s k p (refused-applies s k p q)))
 
 -- seven numbers, and nine: byte for byte
 pub repeated-sheet-reply : (ns x : List ℕ) → LaidLine (onePairLayout ∷ []) (siteLine ns)

@@ -5,6 +5,7 @@
 use mathlib.Core.Path.{_≡_}
 use mathlib.Core.List.{List}
 use Prim.Native.Nat.{ℕ, _*_, _-_, _≤_, _<_}
+use native.Mathlib.Nat.{mul-pos}
 use native.Mathlib.Omega.{arith}
 use lib.ListN.{length, drop}
 use Rattle.whole.specs.Cells.{sum}
@@ -72,6 +73,7 @@ module _ (T : ℕ) (ws hs : List ℕ) (p : 0 < weightHeight ws hs) where
       let pt : 0 < t .den = omega arith in
       let roof = roof-at-most-one T in
       record {
+        margin = mul-pos (d .margin) (omega arith);
         never-below =
             λ x l r w.
             let b = d .never-below r w in (
@@ -100,6 +102,7 @@ module _ (ws hs : List ℕ) (T : ℕ) {u u′ : ℕ → ℕ} (same : (x : ℕ) �
   pub storeys-of-cells : (s : ℕ) (k : Hazards) (f : Frame) (W : ℕ) → StoreyDemand3 s k f W ws hs T u → StoreyDemand3 s k f W ws hs T u′
   storeys-of-cells s k f W d =
       record {
+        margin = d .margin;
         never-below = λ x h r w. let a = d .never-below x h r w in (a .0, rw (same x h) at (a .1));
         close = λ x h r w. let a = d .close x h r w in (a .0, rw (same x h) at (a .1));
       }

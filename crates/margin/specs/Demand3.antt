@@ -53,6 +53,7 @@ pub record BaseDemand3 (s : ℕ) (k : Hazards) (f : Frame) (W T v : ℕ) : Type 
   pub close : (r : Roots) → Raising k r → Number (exactBase k f W T r) × LessBy v (exactBase k f W T r) (allowed s k f W)
 
 pub record StoreyDemand3 (s : ℕ) (k : Hazards) (f : Frame) (W : ℕ) (ws hs : List ℕ) (T : ℕ) (u : ℕ → ℕ) : Type 0 where
+  pub margin : Number (allowedUnder s k f W)
   pub never-below : (x : ℕ) → x < length ws → (r : Roots) → Lowering k r
       → Number (exactShearUnder T ws hs (exactBase k f W T r) x) × AtLeast (u x) (exactShearUnder T ws hs (exactBase k f W T r) x)
   pub close : (x : ℕ) → x < length ws → (r : Roots) → Raising k r

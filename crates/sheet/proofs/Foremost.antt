@@ -12,13 +12,13 @@ use Rattle.limits.specs.Order.{InOrder, NoLater}
 use Rattle.limits.specs.Outcome.{Outcome, accepted, refused}
 use Rattle.limits.proofs.Foremost as judging
 use Rattle.limits.proofs.InOrder.{in-order}
-use Rattle.limits.proofs.Passed.{never, one-value, bind-passed}
+use Rattle.limits.proofs.Passed.{never, one-value, bind-passed, only}
 use Rattle.limits.proofs.Refusing as applying
 use Rattle.job.specs.Job.{Results, resultsOf, jobOf}
 use Rattle.sheet.proofs.LaidRead.{sheet-long, sheet-lines, lines-held}
 use Rattle.sheet.proofs.Otherwise.{read-refused, otherwise-lines, otherwise-refused, one-first}
 use Rattle.sheet.proofs.ReadLaid.{read-lines}
-use Rattle.sheet.proofs.Refused.{bind-refused, only}
+use Rattle.sheet.proofs.Refused.{bind-refused}
 use Rattle.sheet.specs.Applies.{JobApplies, SheetApplies, long, line, of-job}
 use Rattle.sheet.specs.Layouts.{Line, linesLaid, LaidLines}
 use Rattle.sheet.specs.Listing.{jobOfSheet, outcomeOf}

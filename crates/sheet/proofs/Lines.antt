@@ -12,11 +12,11 @@ use lib.ListN.{length, getD, length-append}
 use lib.Seq.{getD-drop}
 use Rattle.whole.proofs.Choice.{by-test}
 use Rattle.limits.specs.Outcome.{Outcome, accepted, refused, _>>=_}
-use Rattle.limits.proofs.Passed.{never, one-value, bind-passed, differ}
+use Rattle.limits.proofs.Passed.{never, one-value, bind-passed, differ, only}
 use Rattle.text.proofs.Digital.{both}
 use Rattle.text.proofs.Fields.{line-length}
 use Rattle.sheet.proofs.OneLine.{Worded, taken-line, stopped-line, standing-line, no-line}
-use Rattle.sheet.proofs.Refused.{bind-refused, only}
+use Rattle.sheet.proofs.Refused.{bind-refused}
 use Rattle.sheet.specs.Layouts.{Line, Form, firstOf, past, none, ended, lineLaid, linesLaid, LaidLines}
 use Rattle.sheet.specs.Lines.{Front, lineIn, linesFrom, readFrom}
 use Rattle.sheet.specs.Otherwise.{FirstOtherwise, here, after}

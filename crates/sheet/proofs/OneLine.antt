@@ -8,7 +8,7 @@ use mathlib.Core.Logic.{_⊎_, inl, inr, ⊎-elim}
 use Prim.Native.Nat.{ℕ}
 use lib.ListN.{drop}
 use Rattle.limits.specs.Outcome.{Outcome, accepted, refused}
-use Rattle.limits.proofs.Passed.{never, one-value}
+use Rattle.limits.proofs.Passed.{never, one-value, one-refusal}
 use Rattle.text.specs.Line.{line}
 use Rattle.text.specs.Reading.{Reading, found, otherwise}
 use Rattle.text.specs.Writing.{AllShort}
@@ -16,7 +16,6 @@ use Rattle.text.proofs.Back.{line-back}
 use Rattle.text.proofs.OneWay.{Unbroken, laid-once}
 use Rattle.text.proofs.Readings.{nothing}
 use Rattle.text.proofs.Trip.{line-read}
-use Rattle.sheet.proofs.Refused.{one-refusal}
 use Rattle.sheet.specs.Layouts.{Layout, Line, layoutOf, lineLaid, LaidLine}
 use Rattle.sheet.specs.Lines.{Front, fitted, lineIn}
 

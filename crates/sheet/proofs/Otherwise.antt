@@ -11,9 +11,9 @@ use lib.Dec.{leb}
 use lib.ListN.{length}
 use borrow.Author.Tests.{leb-true, leb-false}
 use Rattle.limits.specs.Outcome.{Outcome, accepted, refused, require, _>>=_, _>>_}
+use Rattle.limits.proofs.Passed.{one-refusal, only}
 use Rattle.sheet.proofs.LaidRead.{sheet-lines, sheet-worded}
 use Rattle.sheet.proofs.Lines.{refused-otherwise, otherwise-stops}
-use Rattle.sheet.proofs.Refused.{one-refusal, only}
 use Rattle.sheet.specs.Layouts.{Line}
 use Rattle.sheet.specs.Lines.{readFrom}
 use Rattle.sheet.specs.Otherwise.{FirstOtherwise}

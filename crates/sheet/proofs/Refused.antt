@@ -4,21 +4,13 @@
 use mathlib.Core.Path.{_≡_, refl, sym, ap, _∙_}
 use mathlib.Core.Logic.{_⊎_, inl, inr}
 use Prim.Native.Nat.{ℕ}
-use Rattle.limits.specs.Outcome.{Outcome, accepted, refused, number, place, Done, _>>=_}
-use Rattle.limits.proofs.Passed.{never}
-
-pub one-refusal : {A : Type 0} {n p m q : ℕ} → _≡_ {A = Outcome A} (refused n p) (refused m q) → (n ≡ m) × (p ≡ q)
-one-refusal e = (ap number e, ap place e)
+use Rattle.limits.specs.Outcome.{Outcome, accepted, refused, _>>=_}
+use Rattle.limits.proofs.Passed.{one-refusal, only}
 
 pub bind-refused : {A B : Type 0} {n q : ℕ} (o : Outcome A) (f : A → Outcome B) → (o >>= f) ≡ refused n q
     → (o ≡ refused n q) ⊎ ((a : A) × (o ≡ accepted a) × (f a ≡ refused n q))
 bind-refused (accepted a) f e = inr (a, refl, e)
 bind-refused (refused m p) f e = let r = one-refusal e in inl (rw (r .0, r .1))
-
--- what only makes something of a value refuses as that which gives the value
-pub only : {A B : Type 0} {n q : ℕ} (o : Outcome A) (f : A → B) → (o >>= λ a. accepted (f a)) ≡ refused n q → o ≡ refused n q
-only (accepted a) f e = absurd (never (sym e))
-only (refused m p) f e = let r = one-refusal e in rw (r .0, r .1)
 
 -- what is held of an outcome says a refusal only where the outcome is that refusal
 module _ {A B H : Type 0} (g : A → B) (held : Outcome A → H) (said : H → Outcome B)

@@ -9,7 +9,7 @@ use Rattle.limits.specs.declared.frame.FrameValues.{FrameValues}
 use Rattle.limits.specs.declared.ground.GroundValues.{GroundValues}
 use Rattle.limits.specs.declared.refusal.Refusal.{Refusal}
 use Rattle.limits.specs.Outcome.{Outcome, accepted, refused, Done, _>>=_}
-use Rattle.limits.proofs.Passed.{never}
+use Rattle.limits.proofs.Passed.{never, only}
 use Rattle.text.specs.declared.reading.Cursor.{Cursor}
 use Rattle.text.specs.Line.{line, blank}
 use Rattle.text.specs.Reading.{otherwise}
@@ -27,7 +27,7 @@ use Rattle.sheet.proofs.Fitting.{front, line-fits, line-not, no-more}
 use Rattle.sheet.proofs.GroundLine.{FirstLine}
 use Rattle.sheet.proofs.LaidRead.{sheet-worded, frame-worded}
 use Rattle.sheet.proofs.Lines.{read-stop, read-on}
-use Rattle.sheet.proofs.Refused.{answer-refused, only}
+use Rattle.sheet.proofs.Refused.{answer-refused}
 
 -- ---- what the code holds of the level lines
 abbrev keptLevels : Levels → ℕ

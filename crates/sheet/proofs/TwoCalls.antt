@@ -1,18 +1,13 @@
 -- 'The sheet program uses both, printing and refusing as before': what a sheet is given is what the shear call and the distribution make in
 -- turn of what it holds; and its refusal is never 19 or 20.
 -- Assumes nothing.
-use mathlib.Core.Path.{_≡_, refl, ap, _∙_}
+use mathlib.Core.Path.{_≡_, refl}
 use mathlib.Core.List.{List}
-use mathlib.Core.Logic.{⊎-elim}
 use Prim.Native.Nat.{ℕ, _≤_}
 use native.Mathlib.Omega.{arith}
 use lib.ListN.{length}
-use Rattle.limits.specs.declared.frame.FrameValues.{FrameValues}
-use Rattle.limits.specs.declared.ground.GroundValues.{GroundValues}
-use Rattle.limits.specs.declared.ground.GroundValues.the-variants.{Site, Basin}
-use Rattle.limits.specs.Applies.{Applies}
 use Rattle.limits.specs.Outcome.{Outcome, accepted, refused, _>>=_}
-use Rattle.limits.proofs.Places.{numbered, numbered-basin}
+use Rattle.limits.proofs.Places.{at-most-18}
 use Rattle.job.specs.InTurn.{inTurn}
 use Rattle.job.specs.Job.{Results}
 use Rattle.job.proofs.InTurn.{job-in-turn}
@@ -33,17 +28,11 @@ sheet-in-turn s = go (readSheet s)
     go (accepted r) = job-in-turn (r .ground) (r .frame) (r .levels .weights) (r .levels .heights) (length (r .levels .weights))
     go (refused n p) = refl
 
--- ---- the numbers of a job, and of a sheet, end at 18
-of-jobs : (s : GroundValues) (f : FrameValues) (ws hs : List ℕ) (room n p : ℕ) → Applies s f ws hs room n p → n ≤ 18
-of-jobs (Site s) f ws hs room n p a = let h = numbered a in omega arith
-of-jobs (Basin z) f ws hs room n p a =
-    ⊎-elim (λ h. let k : n ≤ 18 = omega arith in k) (λ h. ⊎-elim (λ e. let k : n ≤ 18 = omega arith in k) (λ l. let k : n ≤ 18 = omega arith in k) h)
-    (numbered-basin a)
-
+-- ---- the numbers of a sheet end at 18, as those of a job do
 of-sheets : (s : List ℕ) (n p : ℕ) → SheetApplies s n p → n ≤ 18
 of-sheets s n p (long h) = omega arith
 of-sheets s n p (line f) = omega arith
-of-sheets s n p (of-job ls t is a) = of-jobs _ _ _ _ _ n p a
+of-sheets s n p (of-job ls t is a) = at-most-18 _ _ _ _ _ n p a
 
 pub never-19-nor-20 : (s : List ℕ) (n p : ℕ) → outcomeOf s ≡ refused n p → n ≤ 18
 never-19-nor-20 s n p e = of-sheets s n p (refused-applies s n p e)

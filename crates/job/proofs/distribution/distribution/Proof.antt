@@ -1,6 +1,5 @@
 -- `job::distribution::distribution` meets its contract. Assumes nothing.
 use borrow.Author.Needs.{needs}
-use mathlib.Core.Path.{refl, sym}
 use native.Mathlib.Omega.{arith}
 use Rattle.limits.proofs.AcceptedCalls.{distribution-allowed}
 use Rattle.limits.proofs.Stages.{says}
