@@ -183,8 +183,8 @@ uint64_t rukeshomaji_basin_figures(uint64_t zone, const RukeshomajiFrame *frame,
                                    const uint64_t *heights, uint64_t height_count, RukeshomajiFigures *figures);
 
 /* The shear call, since 2.2.0: the five figures of a building by its total weight and its top height, without levels, on a site outside the
- * Taipei Basin. With the sum of a job's weights and its last height they are those of rukeshomaji_job. With levels at hand
- * rukeshomaji_figures judges them too.
+ * Taipei Basin. With the site, the frame, the sum of the weights and the last height of an accepted job they are those of rukeshomaji_job.
+ * With levels at hand rukeshomaji_figures judges them too.
  *
  * Given      site, frame     see above
  *            weight          total weight, kN: 1 to 1,000,000
@@ -210,8 +210,8 @@ uint64_t rukeshomaji_shear_call(const RukeshomajiSite *site, const RukeshomajiFr
 uint64_t rukeshomaji_basin_shear_call(uint64_t zone, const RukeshomajiFrame *frame, uint64_t weight, uint64_t height,
                                       RukeshomajiFigures *figures);
 
-/* The distribution, since 2.2.0: a base shear that is handed in, over the storeys. With V_D and T of a job it writes what rukeshomaji_job writes to the
- * buffers.
+/* The distribution, since 2.2.0: a base shear that is handed in, over the storeys. With V_D, T, weights and heights of an accepted job it
+ * writes what rukeshomaji_job writes to the buffers.
  *
  * Given      base_shear      what is shared among the levels, N: 1 to 1,200,000,000
  *            period          period, which decides the roof force, ms: 0 to 9,999

@@ -1,7 +1,7 @@
 -- One newton would be too little for a base shear that is handed in: the job `tall` (SharpMargin.antt) shows it, by its V_D of 997 N at its T of 3,568 ms,
 -- as the shear call gives them. Under its roof the distribution writes 389 N, and the exact figure from 997 N is 387.19 N. The definition, computed.
 -- Assumes nothing.
-use mathlib.Core.Path.{_≡_, refl}
+use mathlib.Core.Path.{refl}
 use mathlib.Core.List.{List, [], _∷_}
 use Prim.Native.Nat.{ℕ, _<_}
 use native.Mathlib.Omega.{arith}

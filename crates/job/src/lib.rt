@@ -1,4 +1,4 @@
-// The job, and the two calls that it is made of.
+// The job, and the two calls that it equals in turn.
 use base_shear::Figures;
 use distribution::shortest;
 use figures::building_figures;

@@ -1,5 +1,5 @@
--- What the two calls accept is allowed, and what is allowed they accept. The levels of a job are a building that the shear call takes: its W and h are
--- in range. So a job is judged as the two calls are in turn.
+-- What the two calls accept is allowed; a building, and a base shear and a period, that are allowed pass their judgment. The levels of a job are a
+-- building that the shear call takes: its W and h are in range. So a job is judged as the two calls are in turn.
 -- Assumes nothing.
 use mathlib.Core.Path.{_≡_, ap}
 use mathlib.Core.List.{List}

@@ -1,7 +1,7 @@
 -- Numbers 19 and 20: what is handed to the distribution beside the levels.
 --   judgedBaseShear v       19: a base shear that is not 1 to 1,200,000,000 N
---   judgedHandedPeriod t       20: a period that is not 0 to 9,999 ms
---   judgedHanded v t    19, then 20
+--   judgedHandedPeriod t    20: a period that is not 0 to 9,999 ms
+--   judgedHanded v t        19, then 20
 use Prim.Native.Nat.{ℕ}
 use Rattle.limits.specs.Outcome.{Outcome, Done, _>>_}
 use Rattle.limits.specs.Ranges.{within}

@@ -1,5 +1,5 @@
--- What is replied is what the core answered to the ground and the frame line; where 0 is returned it was accepted; and no second reply meets the contracts. A site line of seven
--- numbers that is accepted gets the reply of nine with the pair repeated.
+-- What is replied is what the core answered to the ground and the frame line; where 0 is returned it was accepted; and no second reply meets the
+-- contracts. A site line of seven numbers that is accepted gets the reply of nine with the pair repeated.
 -- Assumes nothing.
 use mathlib.Core.Path.{_≡_, refl, sym, ap, ap₂, subst, _∙_}
 use mathlib.Core.List.{List, [], _∷_}

@@ -1,5 +1,6 @@
 // The entries as a program in C, or in any language that calls C, sees them: pointers and 64-bit numbers alone. Each returns the number
-// of its refusal, 0 on success, and answers through an array that the caller lends, whose every cell is written.
+// of its refusal, 0 on success, and answers through an array that the caller lends, whose every cell is written; the distribution through a cell for
+// the place.
 use arrays::frame_values;
 use arrays::put_class;
 use arrays::put_figures;

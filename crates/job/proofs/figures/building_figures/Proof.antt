@@ -1,7 +1,5 @@
 -- `job::figures::building_figures` meets its contract. Assumes nothing.
-use borrow.Author.Needs.{needs}
 use mathlib.Core.Path.{sym, subst, ap, _∙_}
-use native.Mathlib.Omega.{arith}
 use Rattle.base_shear.specs.Ready.{Reached}
 use Rattle.base_shear.specs.Shears.{baseFigures}
 use Rattle.site.specs.declared.hazard.Hazards.{Hazards}
