@@ -73,7 +73,7 @@ module _ (s : GroundValues) (f : FrameValues) (ws hs : List ℕ) (room : ℕ) wh
 
       of-levels : (o : Outcome Done) → judgedLevels ws hs room ≡ o → jobOf s f ws hs room ≡ inTurn s f ws hs room
       of-levels (refused n p) l = simp (job-refused s f ws hs room (levels-refuse l), l)
-      of-levels (accepted tt) l = of-call l (judgedShearCall s f (sum ws) (topHeight hs)) refl
+      of-levels (accepted u) l = of-call l (judgedShearCall s f (sum ws) (topHeight hs)) refl
 
 -- ---- the entries
 abbrev pub both : Figures → Verdict → FiguresAnswer
