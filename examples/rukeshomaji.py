@@ -20,7 +20,8 @@ Figures = namedtuple('Figures', 'v vm star vd t')
 Job = namedtuple('Job', 'figures forces shears overturnings')
 Storeys = namedtuple('Storeys', 'forces shears overturnings')
 
-MAJOR, LEAST = 2, 2_002_000
+MAJOR = 2
+LEAST = 2_002_000
 LONGEST = 4_610
 TEXTS = {
     1: 'no level, or over 50',
