@@ -1,5 +1,5 @@
 -- What is replied is what the core answered to the ground and the frame line; where 0 is returned it was accepted; and no second reply meets the
--- contracts. A site line of seven numbers that is accepted gets the reply of nine with the pair repeated.
+-- contracts: of jobs, logs and sheets; of the two calls in CallReplies.antt. A site line of seven numbers that is accepted gets the reply of nine with the pair repeated.
 -- Assumes nothing.
 use mathlib.Core.Path.{_≡_, refl, sym, ap, ap₂, subst, _∙_}
 use mathlib.Core.List.{List, [], _∷_}
@@ -11,23 +11,17 @@ use Rattle.whole.proofs.Unique.{determined}
 use Rattle.limits.specs.declared.frame.FrameValues.{FrameValues}
 use Rattle.limits.specs.declared.ground.GroundValues.{GroundValues}
 use Rattle.limits.specs.declared.refusal.Refusal.{Refusal}
-use Rattle.limits.specs.declared.refusal.Verdict.{Verdict}
-use Rattle.limits.specs.declared.refusal.Verdict.the-variants.{Passed, Refused as RefusedVerdict}
 use Rattle.limits.specs.Order.{InOrder}
-use Rattle.limits.specs.Outcome.{Outcome, accepted, refused, number, place, refusalOf, verdictOutcome}
+use Rattle.limits.specs.Outcome.{Outcome, accepted, refused, number, place, refusalOf}
 use Rattle.limits.proofs.Foremost.{applies-in-order as job-in-order}
-use Rattle.limits.proofs.ForemostDistribution.{applies-in-order as distribution-in-order}
-use Rattle.limits.proofs.ForemostShearCall.{applies-in-order as call-in-order}
 use Rattle.base_shear.specs.declared.Figures.{Figures}
 use Rattle.job.specs.declared.FiguresAnswer.{FiguresAnswer}
 use Rattle.job.specs.declared.FiguresAnswer.the-variants.{Taken, Refused}
-use Rattle.job.specs.Distribution.{Columns, distributionOf, doneOnly, Buffers, shortest, Distributed}
+use Rattle.job.specs.Distribution.{Buffers, shortest}
 use Rattle.job.specs.Job.{Results, jobOf, figuresOnly, written, Figured, Answers}
-use Rattle.job.specs.ShearCall.{shearCallOf, five, answerOutcome, Sheared}
+use Rattle.job.specs.ShearCall.{five, answerOutcome}
 use Rattle.job.proofs.Calls.{answerOf, says-outcome}
-use Rattle.job.proofs.DistributedRefusing.{refused-applies as distribution-applies}
 use Rattle.job.proofs.Refusing.{refused-applies as job-applies}
-use Rattle.job.proofs.ShearedRefusing.{refused-applies as call-applies}
 use Rattle.sheet.proofs.Foremost.{applies-in-order, refused-applies}
 use Rattle.sheet.proofs.OnePair.{siteSheet, accepted-repeated}
 use Rattle.sheet.specs.declared.Put.{Put}
@@ -35,7 +29,7 @@ use Rattle.sheet.specs.Laid.{siteLine}
 use Rattle.sheet.specs.Layouts.{LaidLine}
 use Rattle.sheet.specs.Listing.{refusal, listing, outcomeOf, sheetListing, Puts}
 use Rattle.sheet.specs.Sheet.{onePairLayout, pairTwice, frameValues}
-use Rattle.linked.specs.Linked.{Replies, FiguresReply, JobReplies, FiguresReplies, ShearCallReplies, DistributionReplies, LogReplies, SheetReplies}
+use Rattle.linked.specs.Linked.{Replies, FiguresReply, JobReplies, FiguresReplies, LogReplies, SheetReplies}
 
 -- ---- a reply to an outcome is one to an equal outcome, and there is no second
 module _ {A : Type 0} {f : A → List ℕ} {k : ℕ} where
@@ -46,8 +40,13 @@ module _ {A : Type 0} {f : A → List ℕ} {k : ℕ} where
       → (n ≡ n′) × (r ≡ r′)
   replies-unique t t′ = (determined (t .returned) (t′ .returned), determined (t .replied) (t′ .replied))
 
+-- the number and the place of what is refused, zeros where nothing is
+pub refused-number : {A : Type 0} (o : Outcome A) → (refusalOf o .number ≡ number o) × (refusalOf o .place ≡ place o)
+refused-number (accepted a) = (refl, refl)
+refused-number (refused n p) = (refl, refl)
+
 -- 0 is no refusal: it stands nowhere in the order
-never-zero : (n : ℕ) → n ≡ 0 → InOrder n → ⊥
+pub never-zero : (n : ℕ) → n ≡ 0 → InOrder n → ⊥
 never-zero n e h = let stands : InOrder 0 = subst InOrder e h in omega (arith, stands)
 
 module _ (g : GroundValues) (m ws hs : List ℕ) where
@@ -96,82 +95,6 @@ module _ (g : GroundValues) (m ws hs : List ℕ) where
   pub one-figures-reply : {n n′ : ℕ} {r r′ : List ℕ} → FiguresReplies g m ws hs n r → FiguresReplies g m ws hs n′ r′
       → (n ≡ n′) × (r ≡ r′)
   one-figures-reply p q = replies-unique p q
-
--- `rukeshomaji_shear_call`, and that of the Basin
-module _ (g : GroundValues) (m : List ℕ) (W h : ℕ) where
-  pub shear-call-replies : (s : GroundValues) (f : FrameValues) (a : FiguresAnswer) {n : ℕ} {r : List ℕ} → s ≡ g → f ≡ frameValues m
-      → Sheared s f W h a → FiguresReply (answerOutcome a) n r → ShearCallReplies g m W h n r
-  shear-call-replies s f a es ef t p =
-      replies-as (t ∙ ap₂ (λ (s : GroundValues) (f : FrameValues). shearCallOf s f W h) es ef) p
-
-  pub replied-sheared : (n : ℕ) (r : List ℕ) → ShearCallReplies g m W h n r
-      → (a : FiguresAnswer) × Sheared g (frameValues m) W h a × FiguresReply (answerOutcome a) n r
-  replied-sheared n r p =
-      let o = shearCallOf g (frameValues m) W h in
-      (answerOf o, says-outcome o, replies-as (sym (says-outcome o)) p)
-
-  pub zero-sheared : (r : List ℕ) → ShearCallReplies g m W h 0 r → (n : Figures) × Sheared g (frameValues m) W h (Taken n) × (r ≡ 0 ∷ five n)
-  zero-sheared r p = go (replied-sheared 0 r p .0) (replied-sheared 0 r p .1) (replied-sheared 0 r p .2)
-    where
-      go : (a : FiguresAnswer) → Sheared g (frameValues m) W h a → FiguresReply (answerOutcome a) 0 r
-          → (n : Figures) × Sheared g (frameValues m) W h (Taken n) × (r ≡ 0 ∷ five n)
-      go (Taken n) t q = (n, t, q .replied)
-      go (Refused k) t q =
-          absurd (never-zero (k .number) (sym (q .returned))
-          (call-in-order g (frameValues m) W h (k .number) (k .place) (call-applies g (frameValues m) W h k t)))
-
-  pub one-shear-call-reply : {n n′ : ℕ} {r r′ : List ℕ} → ShearCallReplies g m W h n r → ShearCallReplies g m W h n′ r′
-      → (n ≡ n′) × (r ≡ r′)
-  one-shear-call-reply p q = replies-unique p q
-
--- `rukeshomaji_distribution`
-refused-number : {A : Type 0} (o : Outcome A) → (refusalOf o .number ≡ number o) × (refusalOf o .place ≡ place o)
-refused-number (accepted a) = (refl, refl)
-refused-number (refused n p) = (refl, refl)
-
-done-refusal : {A : Type 0} (o : Outcome A) → refusalOf (doneOnly o) ≡ refusalOf o
-done-refusal (accepted a) = refl
-done-refusal (refused n p) = refl
-
-module _ (v T : ℕ) (ws hs : List ℕ) (b : Buffers) where
-  pub distribution-replies : (a : Verdict) (r : Refusal) (b′ : Buffers) → Distributed v T ws hs b a b′ → r ≡ refusalOf (verdictOutcome a)
-      → DistributionReplies v T ws hs b (r .number) (r .place) b′
-  distribution-replies a r b′ t e =
-      let o = distributionOf v T ws hs (shortest b) in
-      let same = e ∙ ap refusalOf (t .0) ∙ done-refusal o in
-      record {
-        returned = ap (λ (x : Refusal). x .number) same ∙ refused-number o .0;
-        placed = ap (λ (x : Refusal). x .place) same ∙ refused-number o .1;
-        buffers = t .1;
-      }
-
-  -- and the other way: what is proved of an answer of the core holds of the reply that says it
-  pub replied-distributed : (n p : ℕ) (b′ : Buffers) → DistributionReplies v T ws hs b n p b′
-      → (a : Verdict) × Distributed v T ws hs b a b′ × (n ≡ number (verdictOutcome a)) × (p ≡ place (verdictOutcome a))
-  replied-distributed n p b′ t = go (distributionOf v T ws hs (shortest b)) refl
-    where
-      go : (o : Outcome Columns) → distributionOf v T ws hs (shortest b) ≡ o
-          → (a : Verdict) × Distributed v T ws hs b a b′ × (n ≡ number (verdictOutcome a)) × (p ≡ place (verdictOutcome a))
-      go (accepted c) e = (Passed, (sym (ap doneOnly e), t .buffers), t .returned ∙ ap number e, t .placed ∙ ap place e)
-      go (refused k q) e =
-          (RefusedVerdict (record { number = k; place = q }), (sym (ap doneOnly e), t .buffers), t .returned ∙ ap number e, t .placed ∙ ap place e)
-
-  pub zero-distributed : (p : ℕ) (b′ : Buffers) → DistributionReplies v T ws hs b 0 p b′ → Distributed v T ws hs b Passed b′ × (p ≡ 0)
-  zero-distributed p b′ t =
-      let a = replied-distributed 0 p b′ t in
-      go (a .0) (a .1) (a .2) (a .3)
-    where
-      go : (a : Verdict) → Distributed v T ws hs b a b′ → 0 ≡ number (verdictOutcome a) → p ≡ place (verdictOutcome a)
-          → Distributed v T ws hs b Passed b′ × (p ≡ 0)
-      go Passed d n q = (d, q)
-      go (RefusedVerdict k) d n q =
-          absurd (never-zero (k .number) (sym n)
-          (distribution-in-order v T ws hs (shortest b) (k .number) (k .place) (distribution-applies v T ws hs b k b′ d)))
-
-  pub one-distribution-reply : {n n′ p p′ : ℕ} {c c′ : Buffers} → DistributionReplies v T ws hs b n p c
-      → DistributionReplies v T ws hs b n′ p′ c′ → (n ≡ n′) × (p ≡ p′) × (c ≡ c′)
-  one-distribution-reply x y =
-      (determined (x .returned) (y .returned), determined (x .placed) (y .placed), determined (x .buffers) (y .buffers))
 
 -- `rukeshomaji_site_class`
 pub one-log-reply : (ds ks xs : List ℕ) {n n′ : ℕ} {r r′ : List ℕ} → LogReplies ds ks xs n r → LogReplies ds ks xs n′ r′

@@ -2,7 +2,7 @@
 use borrow.Author.Needs.{needs}
 use mathlib.Core.Path.{refl}
 use Rattle.linked.specs.Linked.{inBasin}
-use Rattle.linked.proofs.Replies.{shear-call-replies}
+use Rattle.linked.proofs.CallReplies.{shear-call-replies}
 use Rattle.linked.proofs.rukeshomaji_basin_shear_call.Statement.{statement}
 use Rattle.linked.proofs.rukeshomaji_basin_shear_call.Tie as tie
 

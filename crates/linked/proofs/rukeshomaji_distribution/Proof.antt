@@ -1,6 +1,6 @@
 -- `linked::rukeshomaji_distribution` meets its contract. Assumes nothing.
 use borrow.Author.Needs.{needs}
-use Rattle.linked.proofs.Replies.{distribution-replies}
+use Rattle.linked.proofs.CallReplies.{distribution-replies}
 use Rattle.linked.proofs.rukeshomaji_distribution.Statement.{statement}
 use Rattle.linked.proofs.rukeshomaji_distribution.Tie as tie
 

@@ -3,7 +3,7 @@ use borrow.Author.Needs.{needs}
 use mathlib.Core.Path.{ap}
 use Rattle.limits.specs.declared.ground.GroundValues.the-variants.{Site}
 use Rattle.linked.specs.Linked.{onSite}
-use Rattle.linked.proofs.Replies.{shear-call-replies}
+use Rattle.linked.proofs.CallReplies.{shear-call-replies}
 use Rattle.linked.proofs.rukeshomaji_shear_call.Statement.{statement}
 use Rattle.linked.proofs.rukeshomaji_shear_call.Tie as tie
 
