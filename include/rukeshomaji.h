@@ -31,9 +31,9 @@ extern "C" {
  * number, 1,000 times the minor one, and the last. A struct or a declaration changes only when the major number changes: a program that was
  * compiled with a header of another major number may call rukeshomaji_version, which never changes, and nothing else. Edition: the year of
  * the code. Source: the state of the rules, which goes up by one whenever any call answers differently. */
-#define RUKESHOMAJI_VERSION 2002000
+#define RUKESHOMAJI_VERSION 2003000
 #define RUKESHOMAJI_EDITION 2005
-#define RUKESHOMAJI_SOURCE 4
+#define RUKESHOMAJI_SOURCE 5
 
 /* the most levels of a job or a distribution, layers of a soil log and bytes of a sheet, and the most bytes that a listing can have */
 #define RUKESHOMAJI_MOST_LEVELS 50

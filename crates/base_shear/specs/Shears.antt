@@ -1,11 +1,11 @@
 -- The shears (7), (17), (19), (20), in N, each rounded up. W in kN, I and alpha-y in 0.01, T in ms, everything else in s-ths.
 --   newtons s n f W x     I·x·W/(n/10·alpha-y) in N, of x s-ths: the hundredths of I and alpha-y cancel, and ten tenths times 1000 N in
---                         a kN are 10⁴. In millionths I·x·W/(1400·alpha-y) for n = 14 and I·x·W/(4200·alpha-y) for n = 42
+--                         a kN are 10⁴. In ten-millionths I·x·W/(14000·alpha-y) for n = 14 and I·x·W/(42000·alpha-y) for n = 42
 --   ratioAt s h T         q of a hazard: its spectrum over its lower factor
 --   modifiedAt s l h T    m of a hazard
---   shear s k h f W T     V of the design hazard and V_M of the MCE hazard: I·m·W/(1400·alpha-y)
+--   shear s k h f W T     V of the design hazard and V_M of the MCE hazard: I·m·W/(14000·alpha-y)
 --   blendedAt s l h T     p of a hazard: its spectrum against its upper factor
---   star s k f W T        V*: I·p·W/(4200·alpha-y), p by the upper factor of the hazard without near-fault factors
+--   star s k f W T        V*: I·p·W/(42000·alpha-y), p by the upper factor of the hazard without near-fault factors
 --   base s k f W T        V_D, the largest of the three
 --   figuresAt s k f W T   V, V_M, V*, V_D and T
 --   baseFigures k f W h   those of hazards, a frame, a total weight and a top height h in dm, in the unit in use

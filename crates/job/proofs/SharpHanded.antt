@@ -1,5 +1,5 @@
--- One newton would be too little for a base shear that is handed in: the job `tall` (SharpMargin.antt) shows it, by its V_D of 997 N at its T of 3,568 ms,
--- as the shear call gives them. Under its roof the distribution writes 389 N, and the exact figure from 997 N is 387.19 N. The definition, computed.
+-- One newton would be too little for a base shear that is handed in: the job `tall` (SharpMargin.antt) shows it, by its V_D of 1,033 N at its T of 3,568 ms,
+-- as the shear call gives them. Under its roof the distribution writes 321 N, and the exact figure from 1,033 N is 319.08 N. The definition, computed.
 -- Assumes nothing.
 use mathlib.Core.Path.{refl}
 use mathlib.Core.List.{List, [], _∷_}
@@ -35,9 +35,9 @@ use Rattle.job.specs.Distribution.{distributionOf, Buffers, Distributed}
 use Rattle.job.specs.ShearCall.{shearCallOf, Sheared}
 use Rattle.job.proofs.SharpMargin.{tall}
 
--- what the shear call answers for its 7 kN and 200 m, and so the job
-pub tall-sheared : Sheared (tall .ground) (tall .frame) 7 2000
-    (Taken (record { v = 997; vm = 783; star = 580; vd = 997; t = 3568 }))
+-- what the shear call answers for its 13 kN and 200 m, and so the job
+pub tall-sheared : Sheared (tall .ground) (tall .frame) 13 2000
+    (Taken (record { v = 1033; vm = 957; star = 774; vd = 1033; t = 3568 }))
 unfolding shearCallOf judgedShearCall judgedBuilding judgedSite judgedMapped judgedNearFault judgedClass judgedFrame judgedKind judgedPeriod
     among listed within inRange between up down largest smallest bitsFrom lowerRoot upperRoot floor ceiling approximate inUse spectrum
     exactSpectrum factor lowerFactor upperFactor ratio modified blended bent newtons shear star base figuresAt
@@ -47,13 +47,13 @@ abbrev empty : Buffers
 empty = record { forces = 0 ∷ 0 ∷ []; shears = 0 ∷ 0 ∷ []; overturnings = 0 ∷ 0 ∷ [] }
 
 abbrev after : Buffers
-after = record { forces = 608 ∷ 389 ∷ []; shears = 997 ∷ 389 ∷ []; overturnings = 1_672_368 ∷ 205_781 ∷ [] }
+after = record { forces = 712 ∷ 321 ∷ []; shears = 1033 ∷ 321 ∷ []; overturnings = 2_028_976 ∷ 16_692 ∷ [] }
 
-pub tall-distributed : Distributed 997 3568 (tall .weights) (tall .heights) empty Passed after
+pub tall-distributed : Distributed 1033 3568 (tall .weights) (tall .heights) empty Passed after
 unfolding distributionOf judgedDistribution judgedLevels judgedHanded weighed raised within inRange cells weightHeight about up
 tall-distributed = (refl, refl)
 
-over-one-newton : AtMost (plus (exactShearUnder 3568 (tall .weights) (tall .heights) (over 997 1) 1) (over 1 1)) (over 389 1)
+over-one-newton : AtMost (plus (exactShearUnder 3568 (tall .weights) (tall .heights) (over 1033 1) 1) (over 1 1)) (over 321 1)
 unfolding weightHeight
 over-one-newton = lit≤ tt
 
@@ -62,6 +62,6 @@ pub one-newton-false : ((v T : ℕ) (ws hs : List ℕ) (b b′ : Buffers) → Di
     → LessBy (getD (b′ .shears) x 0) (exactShearUnder T ws hs (over v 1) x) (over 1 1)) → ⊥
 unfolding weightHeight
 one-newton-false less =
-    let h = less 997 3568 (tall .weights) (tall .heights) empty after tall-distributed 1 (lit< tt) in
+    let h = less 1033 3568 (tall .weights) (tall .heights) empty after tall-distributed 1 (lit< tt) in
     let k = over-one-newton in
     omega (arith, h, k)

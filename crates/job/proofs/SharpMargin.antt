@@ -21,7 +21,7 @@ use Rattle.limits.specs.Levels.{weighed, raised, judgedLevels}
 use Rattle.limits.specs.Ranges.{inRange, within, among, listed}
 use Rattle.limits.specs.Site.{judgedClass, judgedMapped, judgedNearFault, judgedSite}
 use Rattle.limits.specs.declared.kind.Kind.the-variants.{Steel, Concrete}
-use Rattle.limits.specs.declared.class.Class.the-variants.{Hard, Soft}
+use Rattle.limits.specs.declared.class.Class.the-variants.{Hard, Normal, Soft}
 use Rattle.response.specs.Factor.{factor, lowerFactor, upperFactor}
 use Rattle.response.specs.Period.{approximate, inUse}
 use Rattle.response.specs.Ratio.{bent, ratio, modified, blended}
@@ -37,12 +37,12 @@ use Rattle.job.proofs.JobNumbers.{Job, siteLine, frameLine, jobOn, IsAc
 -- 50 levels of 20,000 kN, a decimetre apart
 abbrev pub heavy : Job
 heavy =
-    jobOn (siteLine 50 30 100 45 144 134 3) Soft (frameLine 1 115 102 150 100) Steel (cells (λ x. 20_000) 50)
+    jobOn (siteLine 50 30 100 45 149 143 2) Normal (frameLine 1 95 101 150 100) Steel (cells (λ x. 20_000) 50)
     (cells (λ x. x + 1) 50)
 
 abbrev pub tall : Job
 tall =
-    jobOn (siteLine 80 30 80 50 126 196 1) Hard (frameLine 1 3568 280 150 138) Steel (6 ∷ 1 ∷ []) (1471 ∷ 2000 ∷ [])
+    jobOn (siteLine 80 30 100 50 147 165 3) Soft (frameLine 1 3568 446 150 192) Steel (12 ∷ 1 ∷ []) (1948 ∷ 2000 ∷ [])
 
 abbrev pub stiff : Job
 stiff =
@@ -56,7 +56,7 @@ all-accepted = (refl, refl, refl)
 
 -- ---- the base
 abbrev pub heavyRoots : Roots
-heavyRoots = record { v = over 1 1; vm = over 10_505 10_301; star = over 2 1 }
+heavyRoots = record { v = over 1 1; vm = over 41_005 40_601; star = over 2 1 }
 
 pub heavy-raising : Raising (hazards heavy) heavyRoots
 heavy-raising =
@@ -66,7 +66,7 @@ heavy-raising =
       star = record { sound = lit< tt; one = lit≤ tt; high = lit≤ tt };
     }
 
--- printed 1,047,228,215 N, exact at these fractions 1,047,223,890.96 N; a millionth is 1,071.43 N
+-- printed 1,106,398,072 N, exact at these fractions 1,106,397,629.06 N; a ten-millionth is 107.14 N
 pub over-four-units : AtMost (plus (exact heavy heavyRoots) (margin 4 heavy)) (over (printed heavy) 1)
     × LessBy (printed heavy) (exact heavy heavyRoots) (allowed unit (hazards heavy) (heavy .given .frame) (sum (heavy .weights)))
 unfolding cells sum between up down largest smallest bitsFrom lowerRoot upperRoot floor ceiling approximate inUse spectrum
@@ -75,7 +75,7 @@ over-four-units = (lit≤ tt, lit< tt)
 
 -- ---- the storeys
 abbrev pub tallRoots : Roots
-tallRoots = record { v = over 1 1; vm = over 1 1; star = over 2 1 }
+tallRoots = record { v = over 1 1; vm = over 1 1; star = over 3 1 }
 
 pub tall-raising : Raising (hazards tall) tallRoots
 tall-raising =
@@ -85,7 +85,7 @@ tall-raising =
       star = record { sound = lit< tt; one = lit≤ tt; high = lit≤ tt };
     }
 
--- printed 389 N, exact 386.82 N; six millionths are 0.03 N. The margin plus two newtons is six millionths plus three newtons
+-- printed 321 N, exact 318.78 N; six ten-millionths are 0.004 N. The margin plus two newtons is six ten-millionths plus three newtons
 pub over-two-newtons :
     AtMost (plus (exactUnder tall tallRoots 1) (plus (margin 6 tall) (over 1 1))) (over (printedUnder tall 1) 1)
     × LessBy (printedUnder tall 1) (exactUnder tall tallRoots 1) (allowedUnder unit (hazards tall) (tall .given .frame) (sum (tall .weights)))
@@ -106,7 +106,7 @@ stiff-fractions = (
   record { sound = lit< tt; one = lit≤ tt; low = lit≤ tt },
 )
 
--- printed 2,295,136 N, the chain 4,000,000 N
+-- printed 2,295,133 N, the chain 4,000,000 N
 pub low-fraction-in-v : Less (over (printed stiff) 1) (exact stiff stiffRoots)
 unfolding sum between up down largest smallest bitsFrom lowerRoot upperRoot floor ceiling approximate inUse spectrum exactSpectrum
     factor lowerFactor upperFactor ratio modified blended bent newtons shear star base

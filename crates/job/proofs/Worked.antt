@@ -1,4 +1,4 @@
--- Document 01's worked sheet is accepted, and its results are the listing's: the definition, computed.
+-- Document 01's worked sheet is accepted, and its results are the listing's, worked out afresh in ten-millionths: the definition, computed.
 -- Assumes nothing.
 use mathlib.Core.Path.{_≡_, refl}
 use mathlib.Core.List.{[], _∷_}
@@ -27,7 +27,7 @@ pub worked : jobOf (Site (record { ssd = 80; s1d = 45; ssm = 100; s1m = 55; nad 
     (record { kind = 2; calculated = 1000; r = 480; i = 100; alpha = 150 }) (5000 ∷ 5000 ∷ 5000 ∷ []) (100 ∷ 200 ∷ 300 ∷ []) 3
     ≡ accepted
     (record {
-      figures = record { v = 909_708; vm = 818_458; star = 1_071_429; vd = 1_071_429; t = 1000 };
+      figures = record { v = 909_704; vm = 818_453; star = 1_071_429; vd = 1_071_429; t = 1000 };
       forces = 166_071 ∷ 332_143 ∷ 573_215 ∷ [];
       shears = 1_071_429 ∷ 905_358 ∷ 573_215 ∷ [];
       overturnings = 255_000_200 ∷ 147_857_300 ∷ 57_321_500 ∷ [];

@@ -1,6 +1,6 @@
 -- The worked sheet's building near a fault, at T = 500 ms: with a pair of near-fault factors for each level, with the larger of the two pairs
--- for both levels, and with the smaller one for both. The larger overstates V by 111,971 N, and V_D by 51,078 N; the smaller understates
--- V_M by 175,772 N, and V_D by 60,893 N. The definition, computed.
+-- for both levels, and with the smaller one for both. The larger overstates V by 111,973 N, and V_D by 51,077 N; the smaller understates
+-- V_M by 175,776 N, and V_D by 60,896 N. The definition, computed.
 --   nearFault nad nvd nam nvm    its job with these factors
 --   resulted ..                  V, V_M, V* and V_D at T = 500 ms; forces, shears and overturning moments, lowest level first
 -- Assumes nothing.
@@ -42,12 +42,12 @@ resulted v vm star vd fs us os =
       overturnings = os;
     })
 
-pub worked-near-fault : (nearFault 112 123 118 136 ≡ resulted 2_116_872 2_177_765 1_904_762 2_177_765 (362_960 ∷ 725_922 ∷ 1_088_883 ∷ [])
+pub worked-near-fault : (nearFault 112 123 118 136 ≡ resulted 2_116_869 2_177_765 1_904_762 2_177_765 (362_960 ∷ 725_922 ∷ 1_088_883 ∷ [])
     (2_177_765 ∷ 1_814_805 ∷ 1_088_883 ∷ []) (508_145_300 ∷ 290_368_800 ∷ 108_888_300 ∷ []))
-    × (nearFault 118 136 118 136 ≡ resulted 2_228_843 2_177_765 1_904_762 2_228_843 (371_473 ∷ 742_948 ∷ 1_114_422 ∷ [])
-    (2_228_843 ∷ 1_857_370 ∷ 1_114_422 ∷ []) (520_063_500 ∷ 297_179_200 ∷ 111_442_200 ∷ []))
-    × (nearFault 112 123 112 123 ≡ resulted 2_116_872 2_001_993 1_904_762 2_116_872 (352_812 ∷ 705_624 ∷ 1_058_436 ∷ [])
-    (2_116_872 ∷ 1_764_060 ∷ 1_058_436 ∷ []) (493_936_800 ∷ 282_249_600 ∷ 105_843_600 ∷ []))
+    × (nearFault 118 136 118 136 ≡ resulted 2_228_842 2_177_765 1_904_762 2_228_842 (371_473 ∷ 742_948 ∷ 1_114_421 ∷ [])
+    (2_228_842 ∷ 1_857_369 ∷ 1_114_421 ∷ []) (520_063_200 ∷ 297_179_000 ∷ 111_442_100 ∷ []))
+    × (nearFault 112 123 112 123 ≡ resulted 2_116_869 2_001_989 1_904_762 2_116_869 (352_811 ∷ 705_623 ∷ 1_058_435 ∷ [])
+    (2_116_869 ∷ 1_764_058 ∷ 1_058_435 ∷ []) (493_936_200 ∷ 282_249_300 ∷ 105_843_500 ∷ []))
 unfolding jobOf judgedJob judgedLevels weighed raised within inRange among listed judgedSite judgedMapped judgedNearFault
     judgedClass judgedFrame judgedKind judgedPeriod cells sum between lowerRoot upperRoot up down largest smallest bitsFrom factor
     lowerFactor upperFactor approximate inUse bent ratio modified blended exactSpectrum spectrum newtons shear star base figuresAt

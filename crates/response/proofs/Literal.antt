@@ -1,4 +1,4 @@
--- The modified ratio in millionths, and p of V*, in document 01's own numbers.
+-- The modified ratio in ten-millionths, and p of V*, in document 02's own numbers.
 -- Assumes nothing.
 use mathlib.Core.Path.{_≡_, refl, sym, ap₂, _∙_}
 use Prim.Native.Nat.{ℕ, _+_, _*_, _≤_, _<_}
@@ -10,27 +10,27 @@ use Rattle.site.specs.Hazards.{lines}
 use Rattle.response.specs.Unit.{unit}
 use Rattle.response.specs.Ratio.{bent, modified, blended}
 
--- 'Up to 300,000: q.'
-pub modified-first : (q : ℕ) → q ≤ 300_000 → modified unit lines q ≡ q
+-- 'Up to 3,000,000: q.'
+pub modified-first : (q : ℕ) → q ≤ 3_000_000 → modified unit lines q ≡ q
 unfolding modified bent
 modified-first q h =
     by-leb (λ (z : ℕ). up z 1000 ≡ q) (1000 * q) (300 * unit) _ _
     (λ _. sym (up-at (1000 * q) 1000 q (omega arith) (omega arith) (omega arith)))
     (λ k. absurd (omega arith))
 
--- 'Up to 800,000: 0.52·q + 144,000, up.'
-pub modified-second : (q : ℕ) → 300_000 < q → q ≤ 800_000 → modified unit lines q ≡ up (52 * q + 14_400_000) 100
+-- 'Up to 8,000,000: 0.52·q + 1,440,000, up.'
+pub modified-second : (q : ℕ) → 3_000_000 < q → q ≤ 8_000_000 → modified unit lines q ≡ up (52 * q + 144_000_000) 100
 unfolding modified bent
 modified-second q h k =
-    by-leb (λ (z : ℕ). up z 1000 ≡ up (52 * q + 14_400_000) 100) (1000 * q) (300 * unit) _ _
+    by-leb (λ (z : ℕ). up z 1000 ≡ up (52 * q + 144_000_000) 100) (1000 * q) (300 * unit) _ _
     (λ a. absurd (omega arith))
     (λ a.
-    by-leb (λ (z : ℕ). up z 1000 ≡ up (52 * q + 14_400_000) 100) (1000 * q) (800 * unit) _ _
-    (λ b. ap₂ up (omega arith) refl ∙ up-scale 10 (52 * q + 14_400_000) 100 (omega arith) (omega arith))
+    by-leb (λ (z : ℕ). up z 1000 ≡ up (52 * q + 144_000_000) 100) (1000 * q) (800 * unit) _ _
+    (λ b. ap₂ up (omega arith) refl ∙ up-scale 10 (52 * q + 144_000_000) 100 (omega arith) (omega arith))
     (λ b. absurd (omega arith)))
 
 -- 'Above: 0.7·q, up.'
-pub modified-last : (q : ℕ) → 800_000 < q → modified unit lines q ≡ up (7 * q) 10
+pub modified-last : (q : ℕ) → 8_000_000 < q → modified unit lines q ≡ up (7 * q) 10
 unfolding modified bent
 modified-last q h =
     by-leb (λ (z : ℕ). up z 1000 ≡ up (7 * q) 10) (1000 * q) (300 * unit) _ _

@@ -1,7 +1,8 @@
--- Document 01's 'Figures to hold it to': those that are proved together, as one table.
+-- Document 01's 'Figures to hold it to' in ten-millionths, as document 02 has them worked out afresh: those that are proved together, as one
+-- table.
 --   computed    what the definitions give
---   stated      what document 01 states, in its order: the hard site 80/45 at T = 112, 113, 563, 1406, 1407; the ratios 300001,
---               800000, 800001; the lower roots of R = 480, design and MCE, and of R = 100, design and MCE; the period of
+--   stated      what was worked out, in document 01's order: the hard site 80/45 at T = 112, 113, 563, 1406, 1407; the ratios at both
+--               thresholds and one to each side; the lower roots of R = 480, design and MCE, and of R = 100, design and MCE; the period of
 --               kind 2 at 300 dm
 use mathlib.Core.Path.{_≡_, refl}
 use mathlib.Core.List.{List, [], _∷_}
@@ -30,9 +31,12 @@ computed =
     ∷ hardSpectrum 563
     ∷ hardSpectrum 1406
     ∷ hardSpectrum 1407
-    ∷ modified unit lines 300_001
-    ∷ modified unit lines 800_000
-    ∷ modified unit lines 800_001
+    ∷ modified unit lines 2_999_999
+    ∷ modified unit lines 3_000_000
+    ∷ modified unit lines 3_000_001
+    ∷ modified unit lines 7_999_999
+    ∷ modified unit lines 8_000_000
+    ∷ modified unit lines 8_000_001
     ∷ lowerRoot unit (designSquare 480)
     ∷ lowerRoot unit (mceSquare 480)
     ∷ lowerRoot unit (designSquare 100)
@@ -42,18 +46,21 @@ computed =
 
 abbrev stated : List ℕ
 stated =
-    797_867
-    ∷ 800_000
-    ∷ 799_290
-    ∷ 320_057
-    ∷ 320_000
-    ∷ 300_001
-    ∷ 560_000
-    ∷ 560_001
-    ∷ 2_463_060
-    ∷ 2_932_575
-    ∷ 1_000_000
-    ∷ 1_000_000
+    7_978_667
+    ∷ 8_000_000
+    ∷ 7_992_896
+    ∷ 3_200_569
+    ∷ 3_200_000
+    ∷ 2_999_999
+    ∷ 3_000_000
+    ∷ 3_000_001
+    ∷ 5_600_000
+    ∷ 5_600_000
+    ∷ 5_600_001
+    ∷ 24_630_604
+    ∷ 29_325_756
+    ∷ 10_000_000
+    ∷ 10_000_000
     ∷ 897
     ∷ []
 

@@ -2,7 +2,7 @@
 --   bent l x y       the three lines l at x, against y: x where x ≤ 0.3·y; 0.52·x + 0.144·y where x ≤ 0.8·y; else 0.7·x;
 --                    in thousandths
 --   ratio s Sa F     q: the spectrum over the lower factor, rounded up
---   modified s l q   m: q against s, up (in millionths: q up to 300,000; 0.52·q + 144,000 up to 800,000; else 0.7·q)
+--   modified s l q   m: q against s, up (in ten-millionths: q up to 3,000,000; 0.52·q + 1,440,000 up to 8,000,000; else 0.7·q)
 --   blended l Sa F   p: the spectrum against the upper factor, up
 --   exactRatio x f, exactModified l q, exactBlended l x f    the same of fractions, with no rounding
 use Prim.Native.Nat.{ℕ, _+_, _*_}

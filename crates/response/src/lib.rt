@@ -6,5 +6,5 @@ pub mod period;
 pub mod ratio;
 pub mod spectrum;
 
-// Millionths.
-pub const UNIT: u64 = 1_000_000;
+// Ten-millionths.
+pub const UNIT: u64 = 10_000_000;

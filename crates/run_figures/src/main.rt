@@ -1,4 +1,4 @@
-// Document 01's 'Figures to hold it to': each beside the figure that the document states.
+// Document 01's 'Figures to hold it to', in ten-millionths: each beside the figure that was worked out.
 use job::FiguresAnswer;
 use libc::STDOUT_FILENO;
 use limits::class::Class;
@@ -44,25 +44,64 @@ fn hard_spectrum(t: u64) -> u64
 }
 
 fn spectra() {
-    hold(b"spectrum, hard 80/45, T 112", hard_spectrum(112), 797_867);
-    hold(b"spectrum, hard 80/45, T 113", hard_spectrum(113), 800_000);
-    hold(b"spectrum, hard 80/45, T 563", hard_spectrum(563), 799_290);
+    hold(
+        b"spectrum, hard 80/45, T 112",
+        hard_spectrum(112),
+        7_978_667,
+    );
+    hold(
+        b"spectrum, hard 80/45, T 113",
+        hard_spectrum(113),
+        8_000_000,
+    );
+    hold(
+        b"spectrum, hard 80/45, T 563",
+        hard_spectrum(563),
+        7_992_896,
+    );
     hold(
         b"spectrum, hard 80/45, T 1406",
         hard_spectrum(1406),
-        320_057,
+        3_200_569,
     );
     hold(
         b"spectrum, hard 80/45, T 1407",
         hard_spectrum(1407),
-        320_000,
+        3_200_000,
     );
 }
 
 fn ratios() {
-    hold(b"ratio 300001", modified(UNIT, LINES, 300_001), 300_001);
-    hold(b"ratio 800000", modified(UNIT, LINES, 800_000), 560_000);
-    hold(b"ratio 800001", modified(UNIT, LINES, 800_001), 560_001);
+    hold(
+        b"ratio 2999999",
+        modified(UNIT, LINES, 2_999_999),
+        2_999_999,
+    );
+    hold(
+        b"ratio 3000000",
+        modified(UNIT, LINES, 3_000_000),
+        3_000_000,
+    );
+    hold(
+        b"ratio 3000001",
+        modified(UNIT, LINES, 3_000_001),
+        3_000_001,
+    );
+    hold(
+        b"ratio 7999999",
+        modified(UNIT, LINES, 7_999_999),
+        5_600_000,
+    );
+    hold(
+        b"ratio 8000000",
+        modified(UNIT, LINES, 8_000_000),
+        5_600_000,
+    );
+    hold(
+        b"ratio 8000001",
+        modified(UNIT, LINES, 8_000_001),
+        5_600_001,
+    );
 }
 
 fn design_root(r: u64) -> u64
@@ -80,10 +119,10 @@ fn mce_root(r: u64) -> u64
 }
 
 fn roots() {
-    hold(b"lower root, design, R 480", design_root(480), 2_463_060);
-    hold(b"lower root, MCE, R 480", mce_root(480), 2_932_575);
-    hold(b"lower root, design, R 100", design_root(100), 1_000_000);
-    hold(b"lower root, MCE, R 100", mce_root(100), 1_000_000);
+    hold(b"lower root, design, R 480", design_root(480), 24_630_604);
+    hold(b"lower root, MCE, R 480", mce_root(480), 29_325_756);
+    hold(b"lower root, design, R 100", design_root(100), 10_000_000);
+    hold(b"lower root, MCE, R 100", mce_root(100), 10_000_000);
 }
 
 fn periods() {
@@ -184,8 +223,8 @@ fn sheet(
     let FiguresAnswer::Taken(f) = a else {
         return;
     };
-    hold(b"V", f.v, 909_708);
-    hold(b"V_M", f.vm, 818_458);
+    hold(b"V", f.v, 909_704);
+    hold(b"V_M", f.vm, 818_453);
     hold(b"V*", f.star, 1_071_429);
     hold(b"V_D", f.vd, 1_071_429);
     hold(b"T", f.t, 1000);
