@@ -1,7 +1,7 @@
 """How far printed shears come above the exact figure of demand 3: the largest excess seen, and the job or call that shows it.
 
-Demand 3 grants six millionths of I*W/(1.4*alpha-y) and some newtons. Millionths are counted beyond the newtons, since a
-light job has a millionth far below a newton, and newtons beyond the six millionths. The exact figure is the chain at roots
+Demand 3 grants six ten-millionths of I*W/(1.4*alpha-y) and some newtons. Ten-millionths are counted beyond the newtons, since a
+light job has a ten-millionth far below a newton, and newtons beyond the six ten-millionths. The exact figure is the chain at roots
 of 30 digits.
 """
 
@@ -14,8 +14,8 @@ MARGIN = 6
 NEWTONS = {'base': 1, 'storey': 3}
 # the jobs `heavy` and `tall` of crates/job/proofs/SharpMargin.antt
 SHARP = (
-    Inputs(limits.one_pair(50, 30, 100, 45, 144, 134, 3), limits.Frame(1, 115, 102, 150, 100), [20_000] * 50, list(range(1, 51))),
-    Inputs(limits.one_pair(80, 30, 80, 50, 126, 196, 1), limits.Frame(1, 3_568, 280, 150, 138), [6, 1], [1_471, 2_000]),
+    Inputs(limits.one_pair(50, 30, 100, 45, 149, 143, 2), limits.Frame(1, 95, 101, 150, 100), [20_000] * 50, list(range(1, 51))),
+    Inputs(limits.one_pair(80, 30, 100, 50, 147, 165, 3), limits.Frame(1, 3_568, 446, 150, 192), [12, 1], [1_948, 2_000]),
 )
 
 
@@ -56,10 +56,10 @@ class Largest:
 
     def measure(self, job):
         """One accepted job."""
-        millionth = exact.shear_unit(job) / job.s
+        unit = exact.shear_unit(job) / job.s
         for part, excess in self.over(job).items():
-            self.keep((part, 'N'), Excess(max(0, excess - MARGIN * millionth), job))
-            self.keep((part, 'millionths'), Excess(max(0, excess - NEWTONS[part]) / millionth, job))
+            self.keep((part, 'N'), Excess(max(0, excess - MARGIN * unit), job))
+            self.keep((part, 'ten-millionths'), Excess(max(0, excess - NEWTONS[part]) / unit, job))
         self.jobs += 1
 
     def add(self, other):
@@ -75,10 +75,10 @@ class Largest:
     def part_lines(self):
         """What was seen of each part beside what demand 3 grants."""
         for part in self.parts:
-            beyond, most, newtons = self.seen[part, 'millionths'], self.seen[part, 'N'], NEWTONS[part]
-            yield f'  {part}: {float(beyond.size):.4f} millionths beyond {newtons} N (granted: less than {MARGIN}), ' \
-                  f'{float(most.size):.4f} N beyond {MARGIN} millionths (granted: less than {newtons})'
-            yield from (f'    {unit}: {self.words(job)}' for unit, job in (('millionths', beyond.job), ('N', most.job)))
+            beyond, most, newtons = self.seen[part, 'ten-millionths'], self.seen[part, 'N'], NEWTONS[part]
+            yield f'  {part}: {float(beyond.size):.4f} ten-millionths beyond {newtons} N (granted: less than {MARGIN}), ' \
+                  f'{float(most.size):.4f} N beyond {MARGIN} ten-millionths (granted: less than {newtons})'
+            yield from (f'    {unit}: {self.words(job)}' for unit, job in (('ten-millionths', beyond.job), ('N', most.job)))
 
     def lines(self):
         """What was seen; nothing but the heading where nothing was measured."""

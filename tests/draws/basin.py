@@ -6,17 +6,15 @@ reached. V_M and V* never govern together, by trying every zone, T and R: where 
 I*W/(1.4*alpha-y), which is 8 N or more; and the largest and the smallest of the three are more than 0.0042 apart, which is over 1 N.
 """
 
-import functools
-from bisect import bisect_left
-
 from tests.draws import rare
 from tests.draws.plain_jobs import Inputs, draw_basin
+from tests.draws.ratios import HIGH, LOW, at_ratio, nearest, of_few, ratio_of
 from tests.draws.sample import frame_strata, in_turn, level_strata
-from tests.draws.strata import CORNERS, SIDES, Stratum, at_corner, at_ratio, governed_by, ratio_of, with_number
+from tests.draws.strata import CORNERS, SIDES, Stratum, at_corner, governed_by, with_number, with_period
 from tests.model import basin, limits, response
 
 TIES = (('V', 'V_M'), ('V', 'V_star'))
-LOW, HIGH = 300_000, 800_000
+BASINS = tuple(map(limits.Basin, limits.ZONE))
 
 
 def named(stratum, zone=None):
@@ -25,14 +23,6 @@ def named(stratum, zone=None):
         return stratum._replace(name=f'Basin: {stratum.name}')
     return Stratum(f'Basin, zone {zone}: {stratum.name}', lambda inputs: stratum.reach(inputs._replace(ground=limits.Basin(zone))),
                    lambda job: job.ground.zone == zone and stratum.holds(job))
-
-
-def with_period(inputs, T):
-    """The calculated period T, of a steel frame of 2,000 dm where 14*t/10 would cut it."""
-    frame = inputs.frame._replace(calculated_period=T)
-    if response.period(response.approximate_period(frame.kind, inputs.heights[-1]), T) == T:
-        return inputs._replace(frame=frame)
-    return inputs._replace(frame=frame._replace(kind=1), heights=[*inputs.heights[:-1], 2_000])
 
 
 def corner_strata(zone):
@@ -45,30 +35,9 @@ def corner_strata(zone):
             yield Stratum(f'T {side} {label} T0', lambda inputs, T=T: with_period(inputs, T), stratum.holds)
 
 
-@functools.cache
-def met(hazard, ratio):
-    """(zone, T, R) for every zone and T that can meet a ratio, which falls with R; beyond 2.5 T0 it is what it is there."""
-    found = []
-    for zone, T0 in basin.TABLE_4.items():
-        for T in range(1, 5 * T0 // 2 + 1):
-            def fallen(R, ground=limits.Basin(zone), T=T):
-                """How far below."""
-                return -ratio_of(hazard, ground, T, R)
-            place = bisect_left(limits.R_RANGE, -ratio, key=fallen)
-            if place < len(limits.R_RANGE) and fallen(limits.R_RANGE[place]) == -ratio:
-                found.append((zone, T, limits.R_RANGE[place]))
-    return found
-
-
 def at_mark(hazard, ratio):
-    """A ratio to the millionth."""
-    def reach(inputs):
-        """One of those that meet it, by turns."""
-        places = met(hazard, ratio)
-        zone, T, R = places[(inputs.frame.R * 601 + inputs.frame.alphay) % len(places)]
-        return with_period(inputs._replace(ground=limits.Basin(zone), frame=inputs.frame._replace(R=R)), T)
-
-    return Stratum(f'{hazard}: ratio {ratio}', reach, lambda job: ratio_of(hazard, job.ground, job.T, job.frame.R) == ratio)
+    """A ratio to the unit."""
+    return of_few(hazard, BASINS, ratio, lambda _, basin: basin)
 
 
 def at_high_mark():
@@ -91,8 +60,8 @@ def largest():
 
 
 def heavy():
-    """A million kN, I = 1.50, alpha-y = 1.00, R near 1 and T up to 30 ms below 0.2 T0, or any R and T from 0.6 T0 to T0: a millionth is
-    1071 N, and every stage rounds."""
+    """A million kN, I = 1.50, alpha-y = 1.00, R near 1 and T up to 30 ms below 0.2 T0, or any R and T from 0.6 T0 to T0: a unit is
+    107 N, and every stage rounds."""
     def reach(inputs):
         """The largest weights, a tall frame."""
         T0, drawn, R = basin.TABLE_4[inputs.ground.zone], inputs.frame.calculated_period, inputs.frame.R
@@ -131,8 +100,10 @@ def basin_strata(each):
     """Each with how many jobs the comparison draws for it; `each` for the plain ones."""
     yield from ((stratum, each) for stratum in plain_strata())
     yield from ((named(rare.tied(names)), 100) for names in TIES)
-    yield from ((named(at_mark(hazard, LOW + offset)), 50) for hazard in ('design', 'mce', 'star') for offset in (-1, 0, 1))
+    yield from ((named(at_mark(hazard, ratio)), 50) for hazard in ('design', 'mce', 'star') for ratio in nearest(hazard, BASINS, LOW))
     yield named(at_high_mark()), 50
     yield named(largest()), 500
+    yield from ((named(stratum), 500) for stratum in rare.product_strata())
     yield named(heavy()), 5_000
     yield named(rare.light()), 5_000
+    yield named(rare.light_frame()), 5_000

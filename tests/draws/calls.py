@@ -73,7 +73,7 @@ def sized(rng, draw_ground, size):
 
 
 def heavy(rng, draw_ground):
-    """The shear call of a heavy job, in which every stage rounds and a millionth is 1071 N."""
+    """The shear call of a heavy job, in which every stage rounds and a unit is 107 N."""
     inputs = (basin.heavy() if draw_ground is draw_basin else rare.heavy()).reach(draw(rng, draw_ground))
     return ShearInputs(inputs.ground, inputs.frame, sum(inputs.weights), inputs.heights[-1])
 

@@ -9,8 +9,9 @@ import itertools
 from tests.draws import rare
 from tests.draws.columns import column_strata
 from tests.draws.plain_jobs import draw_pairs
-from tests.draws.sample import RATIOS, in_turn
-from tests.draws.strata import CORNERS, SIDES, Stratum, at_corner, at_ratio, governed_by, with_levels, with_number
+from tests.draws.ratios import RATIOS, at_ratio, mark_strata
+from tests.draws.sample import in_turn
+from tests.draws.strata import CORNERS, SIDES, Stratum, at_corner, governed_by, with_levels, with_number
 from tests.model import limits, response, site as sites
 
 ORDER = {1: 'larger for design', 0: 'the same for both', -1: 'larger for MCE'}
@@ -119,8 +120,9 @@ def pair_strata(each):
     """Each with how many jobs the comparison draws for it; `each` for the plain ones."""
     yield from ((stratum, each) for stratum in plain_strata())
     yield from ((named(rare.tied(names)), 100) for names in rare.TIES)
-    yield from ((named(rare.at_mark(hazard, threshold, offset)), 50) for hazard, threshold in RATIOS for offset in (-1, 0, 1))
-    yield named(rare.star_at_800000()), 50
+    yield from ((named(stratum), 50) for stratum in mark_strata())
     yield from ((named(largest(level)), 500) for level in SMALLEST)
+    yield from ((named(stratum), 500) for stratum in rare.product_strata())
     yield named(rare.heavy()), 5_000
     yield named(rare.light()), 5_000
+    yield named(rare.light_frame()), 5_000

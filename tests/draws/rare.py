@@ -1,8 +1,11 @@
-"""Strata that a plain draw almost never meets: ties between shears, ratios at a threshold to the millionth, and jobs with a large excess."""
+"""Strata that a plain draw almost never meets: ties between shears, ratios at a threshold to the unit, the largest figures and products, jobs
+with a large excess, light frames."""
+
+from fractions import Fraction
 
 from tests.draws.plain_jobs import Inputs
-from tests.draws.sample import RATIOS
-from tests.draws.strata import Stratum, ratio_of
+from tests.draws.ratios import mark_strata
+from tests.draws.strata import Stratum, with_period
 from tests.model import limits, response, shears, site as sites
 from tests.model.calls import HAZARDS, made_by
 
@@ -42,27 +45,8 @@ def tied(names):
     return Stratum(' = '.join(names) + ' govern', reach, holds)
 
 
-def at_mark(hazard, threshold, offset):
-    """The ratio at a threshold, or a millionth to a side; R and then the calculated period are sought."""
-    def reach(inputs):
-        """For each R the period at which the ratio passes the mark, until one meets it."""
-        site, frame, _, heights = inputs
-        longest = response.period(response.approximate_period(frame.kind, heights[-1]), limits.CALCULATED_PERIOD[-1])
-        least = int(3 * response.corner(*getattr(sites, hazard)(site)) / 5)
-        for R in range(frame.R, limits.R_RANGE[-1] + 1):
-            if not least < longest or ratio_of(hazard, site, least, R) < threshold + offset:
-                return None
-            T = crossing(least, longest, lambda T, R=R: ratio_of(hazard, site, T, R) <= threshold + offset)
-            if ratio_of(hazard, site, T, R) == threshold + offset:
-                return inputs._replace(frame=frame._replace(R=R, calculated_period=T))
-        return None
-
-    return Stratum(f'{hazard}: ratio {threshold + offset}', reach,
-                   lambda job: ratio_of(hazard, job.ground, job.T, job.frame.R) == threshold + offset)
-
-
 def heavy():
-    """A million kN, I = 1.50, alpha-y = 1.00, R near 1, T just below 0.2 T0: a millionth is 1071 N, and every stage rounds."""
+    """A million kN, I = 1.50, alpha-y = 1.00, R near 1, T just below 0.2 T0: a unit is 107 N, and every stage rounds."""
     def reach(inputs):
         """The largest weights; the period up to 30 ms below the corner of V or of V_M."""
         site = inputs.ground._replace(SSM=100, NA=130 + inputs.ground.NA % 21, NAM=130 + inputs.ground.NAM % 21)
@@ -85,12 +69,6 @@ def largest():
     return Stratum('every number at its largest', reach, lambda job: job.heights[0] == 1_951)
 
 
-def star_at_800000():
-    """V*'s ratio at its second threshold: Sa is at most 0.8 g and F at least 1, so it is never above, and p's third line is not reached."""
-    return Stratum('star: ratio 800000', lambda inputs: inputs._replace(frame=inputs.frame._replace(R=100)),
-                   lambda job: ratio_of('star', job.ground, job.T, job.frame.R) == 800_000)
-
-
 def light(name='a long period', periods=range(5_000, 6_329)):
     """A few kN up to 2,000 dm, at the longest periods or at others: only newtons count, and F_t is large."""
     def reach(inputs):
@@ -102,11 +80,51 @@ def light(name='a long period', periods=range(5_000, 6_329)):
     return Stratum(f'light, tall, {name}', reach, lambda job: job.W <= 96 and job.T in periods)
 
 
+def with_largest_spectrum(ground):
+    """The largest A and B of V_M: of a site both from the largest mapped values and factors, on soft ground; in the Basin zone 1."""
+    if isinstance(ground, limits.Basin):
+        return limits.Basin(1)
+    site = ground._replace(SSM=100, S1M=55, NAM=150, NVM=200, cls=3)
+    return site if limits.of_two_pairs(ground) else site._replace(NA=150, NV=200)
+
+
+def largest_product(name, R, part_of_corner):
+    """The largest products of the factor, ten times as large as in millionths: R = 6, T of V_M's corner or at its very beginning."""
+    def reach(inputs):
+        """T up to 30 ms below the part of the corner."""
+        ground = with_largest_spectrum(inputs.ground)
+        A, B, _ = made_by(ground).hazard('mce', ground, R)
+        T = int(response.corner(A, B) * part_of_corner) - inputs.frame.calculated_period % 31
+        return with_period(inputs._replace(ground=ground, frame=inputs.frame._replace(R=R)), max(1, T))
+
+    return Stratum(name, reach, lambda job: job.frame.R == R and job.T <= job.mce.T0 * part_of_corner + 1)
+
+
+def product_strata():
+    """The rise of the factor just below T0, its fall at a few ms."""
+    yield largest_product('the largest rise of the factor', 600, 1)
+    yield largest_product('the largest fall of the factor', 600, Fraction(1, 50))
+
+
+def light_frame():
+    """Up to two levels and 2,000 kN, T below 0.2 T0 and R near 4.94, where V hardly moves with T: what users saw in steps."""
+    def reach(inputs):
+        """A low frame."""
+        A, B, _ = made_by(inputs.ground).hazard('design', inputs.ground, inputs.frame.R)
+        frame = inputs.frame._replace(kind=4, R=470 + inputs.frame.R % 51)
+        weights = [1 + weight % 1_000 for weight in inputs.weights[:2]]
+        heights = [30 * (i + 1) for i in range(len(weights))]
+        return with_period(Inputs(inputs.ground, frame, weights, heights), 1 + inputs.frame.calculated_period % int(response.corner(A, B) / 5))
+
+    return Stratum('a light frame, T below 0.2 T0, R near 4.94', reach, lambda job: job.W <= 2_000 and 5 * job.T <= job.design.T0)
+
+
 def rare_strata():
     """Each with how many jobs the comparison draws for it."""
     yield from ((tied(names), 100) for names in TIES)
-    yield from ((at_mark(hazard, threshold, offset), 50) for hazard, threshold in RATIOS for offset in (-1, 0, 1))
-    yield star_at_800000(), 50
+    yield from ((stratum, 50) for stratum in mark_strata())
     yield largest(), 500
+    yield from ((stratum, 500) for stratum in product_strata())
     yield heavy(), 10_000
     yield light(), 10_000
+    yield light_frame(), 5_000

@@ -6,7 +6,7 @@ There is none up to 700 ms, and from 3,572 ms on it is a quarter of V_D; 6,328 m
 from tests.draws import basin, pairs, rare
 from tests.draws.plain_jobs import draw_basin, draw_pairs, draw_site
 from tests.draws.sample import in_turn
-from tests.draws.strata import Stratum
+from tests.draws.strata import Stratum, with_period
 
 ENDS = (*range(699, 703), *range(3_570, 3_574), 6_328)
 BELOW = range(3_500, 3_572)     # at the quarter itself F_t is rounded up by 3/4 N at most, here by almost 1 N
@@ -15,7 +15,7 @@ NAMED = {draw_site: lambda stratum: stratum, draw_basin: basin.named, draw_pairs
 
 def at_period(T):
     """T itself, by the calculated period."""
-    return Stratum(f'T = {T} ms', lambda inputs: basin.with_period(inputs, T), lambda job: job.T == T)
+    return Stratum(f'T = {T} ms', lambda inputs: with_period(inputs, T), lambda job: job.T == T)
 
 
 def period_strata(draw_ground):

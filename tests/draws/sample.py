@@ -8,13 +8,13 @@ import sys
 from collections import Counter
 
 from tests.draws.plain_jobs import draw, draw_site
-from tests.draws.strata import CORNERS, SIDES, Stratum, at_corner, at_ratio, governed_by, in_table, with_levels, with_number
+from tests.draws.ratios import RATIOS, at_ratio
+from tests.draws.strata import CORNERS, SIDES, Stratum, at_corner, governed_by, in_table, with_levels, with_number
 from tests.model import limits, site as sites
 from tests.model.job import job
 
 SEED, COUNT = 1, 1_000
 MOST_TRIES = 100_000
-RATIOS = (('design', 300_000), ('design', 800_000), ('mce', 300_000), ('mce', 800_000), ('star', 300_000))
 
 
 def corner_and_ratio_strata():

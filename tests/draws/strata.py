@@ -4,12 +4,11 @@ from fractions import Fraction
 from math import ceil, floor
 from typing import Callable, NamedTuple
 
-from tests.model import limits, response, shears
+from tests.model import response
 from tests.model.calls import made_by
 
 CORNERS = {'0.2': Fraction(1, 5), '0.6': Fraction(3, 5), '1': Fraction(1), '2.5': Fraction(5, 2)}
 SIDES = ('below', 'on', 'above')
-NEAR_RATIO = 200
 
 
 class Stratum(NamedTuple):
@@ -23,6 +22,14 @@ class Stratum(NamedTuple):
 def side_of(value, mark):
     """Where a value lies against a mark."""
     return 'below' if value < mark else 'on' if value == mark else 'above'
+
+
+def with_period(inputs, T):
+    """The calculated period T, of a steel frame of 2,000 dm where 14*t/10 would cut it."""
+    frame = inputs.frame._replace(calculated_period=T)
+    if response.period(response.approximate_period(frame.kind, inputs.heights[-1]), T) == T:
+        return inputs._replace(frame=frame)
+    return inputs._replace(frame=frame._replace(kind=1), heights=[*inputs.heights[:-1], 2_000])
 
 
 def at_corner(hazard, label, side):
@@ -40,36 +47,6 @@ def at_corner(hazard, label, side):
         return abs(job.T - mark) <= 1 and side_of(job.T, mark) == side
 
     return Stratum(f'{hazard}: T {side} {label} T0', reach, holds)
-
-
-def ratio_of(hazard, ground, T, R):
-    """q of V or V_M; for V* the spectrum over the upper factor, up, in millionths."""
-    figures = shears.respond(*made_by(ground).hazard(hazard, ground, R), T)
-    factor = figures.upper_factor if hazard == 'star' else figures.lower_factor
-    return response.ratio(figures.spectrum, factor)
-
-
-def at_ratio(hazard, threshold, side):
-    """The ratio within 200 millionths of a threshold; R is sought, as the ratio falls with R."""
-    def reach(inputs):
-        """R put where the ratio passes the threshold."""
-        ground, frame, _, heights = inputs
-        T = response.period(response.approximate_period(frame.kind, heights[-1]), frame.calculated_period)
-        low, high = limits.R_RANGE[0], limits.R_RANGE[-1]
-        if not ratio_of(hazard, ground, T, high) <= threshold <= ratio_of(hazard, ground, T, low):
-            return None
-        while high - low > 1:
-            R = (low + high) // 2
-            low, high = (R, high) if ratio_of(hazard, ground, T, R) > threshold else (low, R)
-        R = low if side == 'above' or ratio_of(hazard, ground, T, low) <= threshold else high
-        return inputs._replace(frame=frame._replace(R=R))
-
-    def holds(job):
-        """The ratio lies there."""
-        ratio = ratio_of(hazard, job.ground, job.T, job.frame.R)
-        return abs(ratio - threshold) <= NEAR_RATIO and side_of(ratio, threshold) == side
-
-    return Stratum(f'{hazard}: ratio {side} {threshold}', reach, holds)
 
 
 def kept(name, holds):

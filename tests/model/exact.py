@@ -135,7 +135,7 @@ def bounds(call, digits=DIGITS, by=chain):
 
 
 def base_margin(call):
-    """Six millionths of I*W/(1.4*alpha-y) plus 1 N."""
+    """In N: "six ten-millionths of I*W/(1.4*alpha-y) plus one newton for the base"."""
     return 6 * shear_unit(call) / call.s + 1
 
 
@@ -154,8 +154,8 @@ def excesses(rows, call):
 def check(job, digits=DIGITS):
     """Assert demand 3 for base and storey shears; the excess of printed over exact as `Shears`.
 
-    None is below; a base shear exceeds by less than six millionths of I*W/(1.4*alpha-y) plus 1 N, a storey
-    shear by less than 2 N more.
+    None is below; a base shear exceeds by less than "six ten-millionths of I*W/(1.4*alpha-y) plus one newton", a storey shear by less than
+    "two more".
     """
     below, above = bounds(job, digits)
     margin = base_margin(job) + 2

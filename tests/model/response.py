@@ -1,9 +1,13 @@
-"""Period, spectrum, roots, reduction factor and modified ratio; figures in the unit 1/s."""
+"""Period, spectrum, roots, reduction factor and modified ratio; figures in the unit 1/s.
+
+Document 01 words them in millionths; by Wish 7 "spectrum, reduction factors and roots are to be answered in ten-millionths, the ratio and
+everything above following, thresholds scaled alike". The quotes of 01 below are read with the unit in place of its 10^6.
+"""
 
 from fractions import Fraction
 from math import ceil, floor, isqrt
 
-UNIT = 10**6
+UNIT = 10**7
 PERIOD_C = {1: 85, 2: 70, 3: 70, 4: 50}
 
 
@@ -42,7 +46,7 @@ def spectrum_in_g(A, B, T):
 
 
 def spectrum(A, B, T, s=UNIT):
-    """(4): "one rounding, up, to 10^-6 g"."""
+    """(4): "one rounding, up", to the unit."""
     return ceil(s * spectrum_in_g(A, B, T))
 
 
@@ -57,7 +61,7 @@ def mce_capacity(R):
 
 
 def lower_root(square, s=UNIT):
-    """Lower root: "the largest whole k with (k/10^6)^2 not above that"."""
+    """Lower root: "the largest whole k with (k/s)^2 not above that", s for 01's 10^6."""
     k = isqrt(floor(square * s**2))
     assert k**2 <= square * s**2 < (k + 1)**2
     return k
@@ -99,7 +103,10 @@ def ratio(Sa, F, s=UNIT):
 
 
 def modified_ratio(q, s=UNIT):
-    """(8), (18): "Up to 300,000: q. Up to 800,000: 0.52*q + 144,000, up. Above: 0.7*q, up"."""
+    """(8), (18): q up to 0.3 of the unit; up to 0.8 of it 0.52*q plus 0.144 of it, up; above that 0.7*q, up.
+
+    In ten-millionths 3,000,000, 8,000,000 and 1,440,000: 01's 300,000, 800,000 and 144,000 "scaled alike".
+    """
     if q <= Fraction(3 * s, 10):
         return q
     if q <= Fraction(8 * s, 10):

@@ -33,17 +33,17 @@ def respond(A, B, capacity_and_square, T, s=response.UNIT):
 
 
 def divisor(s=response.UNIT, divided_by=Fraction(14, 10)):
-    """The 1400 of "V = I*m*W/(1400*alpha-y)": 1.4 times the unit of m, over 1000 N in a kN; of V* likewise."""
+    """The 14000 of "I*m*W/(14000*alpha-y)": 1.4 times the unit of m, over 1000 N in a kN; the 42000 of V*, "35000 for 42000 in the Basin", likewise."""
     return divided_by * s / 1000
 
 
 def V(frame, m, W, s=response.UNIT):
-    """In N, rounded up, W in kN: "V = I*m*W/(1400*alpha-y)"; V_M is the same of its own m."""
+    """In N, rounded up, W in kN: "V and V_M become I*m*W/(14000*alpha-y)", each of its own m."""
     return ceil(frame.I * m * W / (divisor(s) * frame.alphay))
 
 
 def V_star(frame, p, W, s=response.UNIT, divided_by=site.V_STAR):
-    """In N, rounded up, W in kN: "V* = I*p*W/(4200*alpha-y)"; in the Basin "3.5 in place of 4.2" (19)."""
+    """In N, rounded up, W in kN: "V* I*p*W/(42000*alpha-y), with 35000 for 42000 in the Basin" (19)."""
     return ceil(frame.I * p * W / (divisor(s, divided_by) * frame.alphay))
 
 

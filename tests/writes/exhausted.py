@@ -12,7 +12,7 @@ UNIT = response.UNIT
 
 
 def both(capacity):
-    """Rounded down and up to millionths."""
+    """Rounded down and up to the unit."""
     return floor(Fraction(capacity) * UNIT), ceil(Fraction(capacity) * UNIT)
 
 

@@ -22,7 +22,7 @@ from tests.model.response import UNIT
 from tests.model.sheet import first_line
 
 SEED, COUNT, BASIN, PAIRS = 2005, 520, 100, len(plain_strata())     # with two pairs a job of each stratum
-FINER = 10  # every so many rows the unit is ten-millionths
+MILLIONTHS, EACH = 10**6, 10    # the unit of every so many rows: the definitions hold at either
 FEW_LEVELS = 4
 KINDS_OF_GROUND = (draw_site, draw_basin, draw_pairs)
 CLASSES = {1: 'Hard', 2: 'Normal', 3: 'Soft'}
@@ -94,7 +94,7 @@ def worked(seed, jobs):
     """Each job drawn, with its upper levels and in its unit, worked out; and three fractions for its roots."""
     rng = random.Random(seed)
     for number, (stratum, ground, frame, weights, heights) in enumerate(jobs):
-        s = 10 * UNIT if number % FINER == 0 else UNIT
+        s = MILLIONTHS if number % EACH == 0 else UNIT
         weights, heights = fewer(rng, stratum, weights, heights)
         result = job(ground, frame, weights, heights, s=s)
         yield result, [some_root(rng, each.lower_root, each.upper_root, s) for each in (result.design, result.mce, result.star)]

@@ -3,11 +3,11 @@
 from tests.draws.basin import accepted_basin_jobs
 from tests.draws.pairs import accepted_pair_jobs
 from tests.draws.sample import accepted_jobs
-from tests.model import exact
+from tests.model import exact, response
 from tests.model.job import job
 
 SEED, COUNT, BASIN, PAIRS = 20, 300, 200, 250
-FINER = 10**7
+MILLIONTHS = 10**6
 FEW_DIGITS = 2
 
 
@@ -33,6 +33,6 @@ def checks():
     """Demand 3 on the sample."""
     jobs = (*accepted_jobs(SEED, COUNT), *accepted_basin_jobs(SEED, BASIN), *accepted_pair_jobs(SEED, PAIRS))
     for number, (name, *inputs) in enumerate(jobs):
-        yield f'demand 3, job {number}, {name}', lambda inputs=inputs: held(inputs, 10**6), True
-        yield f'demand 3 in 10^-7, job {number}, {name}', lambda inputs=inputs: held(inputs, FINER), True
+        yield f'demand 3, job {number}, {name}', lambda inputs=inputs: held(inputs, response.UNIT), True
+        yield f'demand 3 in 10^-6, job {number}, {name}', lambda inputs=inputs: held(inputs, MILLIONTHS), True
         yield f'storeys, job {number}, {name}', lambda inputs=inputs: tied(inputs), (True, True, True)

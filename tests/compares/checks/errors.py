@@ -2,32 +2,32 @@
 
 from fractions import Fraction
 
-from tests.model import exact, limits, response, shears, site, storeys
+from tests.model import basin, exact, limits, response, shears, site, storeys
 from tests.model.job import job
 
 SITE = limits.one_pair(80, 45, 100, 55, 100, 100, 1)
 HEAVY = ([20_000] * 50, list(range(1951, 2001)))
 MODIFIED = {
-    0: 0, 1: 1, 299_999: 299_999, 300_000: 300_000, 300_003: 300_002, 350_000: 326_000,
-    400_000: 352_000, 400_001: 352_001, 799_999: 560_000, 800_002: 560_002, 850_000: 595_000,
-    900_000: 630_000, 900_001: 630_001,
+    0: 0, 1: 1, 2_999_999: 2_999_999, 3_000_000: 3_000_000, 3_000_003: 3_000_002, 3_500_000: 3_260_000,
+    4_000_000: 3_520_000, 4_000_001: 3_520_001, 7_999_999: 5_600_000, 8_000_002: 5_600_002, 8_500_000: 5_950_000,
+    9_000_000: 6_300_000, 9_000_001: 6_300_001,
 }
 P_OF_STAR = {
-    (300_000, 1_000_000): 300_000, (300_001, 1_000_000): 300_001, (700_000, 2_000_000): 652_000,
-    (800_000, 2_000_000): 704_000, (800_000, 1_000_000): 560_000, (850_000, 1_000_000): 595_000,
-    (850_001, 1_000_000): 595_001, (900_001, 1_000_000): 630_001,
-    (450_001, 1_500_003): 450_001, (450_004, 1_500_003): 450_003,
+    (3_000_000, 10_000_000): 3_000_000, (3_000_001, 10_000_000): 3_000_001, (7_000_000, 20_000_000): 6_520_000,
+    (8_000_000, 20_000_000): 7_040_000, (8_000_000, 10_000_000): 5_600_000, (8_500_000, 10_000_000): 5_950_000,
+    (8_500_001, 10_000_000): 5_950_001, (9_000_001, 10_000_000): 6_300_001,
+    (4_500_001, 15_000_003): 4_500_001, (4_500_004, 15_000_003): 4_500_003,
 }
 
 
 def lower_factor_in_star():
-    """Error: "The lower factor used in V*: too small between the thresholds"; the exact p is 774557.108..."""
+    """Error: "The lower factor used in V*: too small between the thresholds"; the exact p is 7745571.08..."""
     def figures():
         """Both factors of V*, p and V*, demand 3 held."""
         result = job(SITE, limits.Frame(2, 200, 490, 150, 100), *HEAVY)
         exact.check(result)
         return result.star.lower_factor, result.star.upper_factor, result.p, result.V_star
-    yield 'upper factor in V*', figures, (2489979, 2489980, 774558, 276627858)
+    yield 'upper factor in V*', figures, (24899799, 24899800, 7745572, 276627572)
 
 
 def near_fault_in_star():
@@ -49,10 +49,10 @@ def near_fault_in_star():
 def rounded_corner():
     """Error: "T0 rounded to a millisecond before branches are chosen"; here T0 is 3000/7 ms."""
     A, B = 70_000_000, 30_000_000
-    for T, wanted in {85: 696500, 86: 700000, 428: 700000, 429: 699301, 1071: 280113, 1072: 280000}.items():
+    for T, wanted in {85: 6965000, 86: 7000000, 428: 7000000, 429: 6993007, 1071: 2801121, 1072: 2800000}.items():
         yield f'spectrum at {T}, T0 428.57', lambda T=T: response.spectrum(A, B, T), wanted
     capacity, square = response.design_capacity(600)
-    lower = {257: 2768874, 258: 2776696, 428: 4328118, 429: 4333333}
+    lower = {257: 27688746, 258: 27766968, 428: 43281184, 429: 43333333}
     for T, wanted in lower.items():
         yield (f'lower factor at {T}, T0 428.57',
                lambda T=T: response.lower_factor(capacity, square, Fraction(3000, 7), T), wanted)
@@ -78,11 +78,13 @@ def forces_alone():
 
 
 def divisors():
-    """The divisor 1400 in its unit, in N from kN."""
+    """The divisor 14000 in its unit, in N from kN; 01's 1400 in millionths."""
     frame = limits.Frame(1, 0, 100, 100, 140)
-    yield 'V', lambda: shears.V(frame, 280_001, 7, 10**6), 1001
-    yield 'V*', lambda: shears.V_star(frame, 280_001, 21, 10**6), 1001
-    yield 'V in 10^-7', lambda: shears.V(frame, 2_800_001, 7, 10**7), 1001
+    yield 'V', lambda: shears.V(frame, 2_800_001, 7), 1001
+    yield 'V*', lambda: shears.V_star(frame, 2_800_001, 21), 1001
+    yield 'V* in the Basin', lambda: shears.V_star(frame, 2_800_001, 35, divided_by=basin.V_STAR), 2001
+    yield 'V in 10^-6', lambda: shears.V(frame, 280_001, 7, 10**6), 1001
+    yield 'V* in 10^-6', lambda: shears.V_star(frame, 280_001, 21, 10**6), 1001
 
 
 def basin_errors():
@@ -93,9 +95,9 @@ def basin_errors():
         """Of the worked frame and levels in a zone."""
         result = job(limits.Basin(zone), frame, *levels)
         return tuple(getattr(result, name) for name in names)
-    yield '(R-1)/2.0, not 1.5, which gives 1031000', lambda: figures(4, 'V'), (1256165,)
+    yield '(R-1)/2.0, not 1.5, which gives 1030998', lambda: figures(4, 'V'), (1256158,)
     yield '3.5, not 4.2, which gives 1214286', lambda: figures(4, 'V_star', 'V_D'), (1457143, 1457143)
-    yield 'T0^M of its own zone; that of zone 1 gives 1873979', lambda: figures(4, 'V_M'), (1011908,)
+    yield 'T0^M of its own zone; that of zone 1 gives 1873973', lambda: figures(4, 'V_M'), (1011905,)
     yield '18 before 8', lambda: limits.judge(limits.Basin(5), frame._replace(R=99), *levels), (18, 0)
     yield '4 before 18', lambda: limits.judge(limits.Basin(5), frame, levels[0], [100, 200, 200]), (4, 3)
 

@@ -1,4 +1,4 @@
-"""The figures of "Figures to hold it to", and the figures on the way to the listing."""
+"""The figures of "Figures to hold it to" in ten-millionths, "worked out afresh", and the figures on the way to the listing."""
 
 from tests.model import exact, limits, response, site, soil
 from tests.model.job import job
@@ -8,8 +8,8 @@ FRAME = limits.Frame(2, 1000, 480, 100, 150)
 WEIGHTS, HEIGHTS = [5000, 5000, 5000], [100, 200, 300]
 HARD_80_45 = (80_000_000, 45_000_000)
 
-SPECTRUM = {112: 797867, 113: 800000, 563: 799290, 1406: 320057, 1407: 320000}
-RATIO = {300001: 300001, 800000: 560000, 800001: 560001}
+SPECTRUM = {112: 7978667, 113: 8000000, 563: 7992896, 1406: 3200569, 1407: 3200000}
+RATIO = {2999999: 2999999, 3000000: 3000000, 3000001: 3000001, 7999999: 5600000, 8000000: 5600000, 8000001: 5600001}
 PERIOD = {(2, 300): 897, (3, 300): 897, (4, 1): 8, (1, 2000): 4520}
 VELOCITY = {(2, 25): 2924, (3, 50): 2947}
 TABLE_2 = {
@@ -18,16 +18,16 @@ TABLE_2 = {
     ('F_a', 3): (120, 120, 110, 100, 100), ('F_v', 3): (180, 170, 160, 150, 140),
 }
 ON_THE_WAY = {
-    'W': 15000, 't': 897, 'T': 1000, 'q': 127359, 'm': 127359, 'q_M': 114584, 'm_M': 114584, 'p': 450000,
-    'V': 909708, 'V_M': 818458, 'V_star': 1071429, 'V_D': 1071429, 'F_t': 75001,
+    'W': 15000, 't': 897, 'T': 1000, 'q': 1273585, 'm': 1273585, 'q_M': 1145834, 'm_M': 1145834, 'p': 4500000,
+    'V': 909704, 'V_M': 818453, 'V_star': 1071429, 'V_D': 1071429, 'F_t': 75001,
     'forces': [166071, 332143, 573215], 'shears': [1071429, 905358, 573215],
     'moments': [255000200, 147857300, 57321500],
 }
 LOWER_UPPER_FACTORS = {
-    1: (1013004, 1013005), 112: (2456557, 2456559), 113: (2463060, 2463061), 337: (2463060, 2463061),
-    338: (2465438, 2465440), 562: (3530954, 3530955), 563: (3533333, 3533334), 1407: (3533333, 3533334),
+    1: (10130049, 10130050), 112: (24565579, 24565581), 113: (24630604, 24630605), 337: (24630604, 24630605),
+    338: (24654387, 24654389), 562: (35309549, 35309550), 563: (35333333, 35333334), 1407: (35333333, 35333334),
 }
-STOREY_EXCESS_ABOVE_2 = (limits.one_pair(80, 30, 80, 50, 126, 196, 1), limits.Frame(1, 3568, 280, 150, 138), [6, 1], [1471, 2000])
+STOREY_EXCESS_ABOVE_2 = (limits.one_pair(80, 30, 100, 50, 147, 165, 3), limits.Frame(1, 3568, 446, 150, 192), [12, 1], [1948, 2000])
 
 
 def stated():
@@ -37,8 +37,8 @@ def stated():
         yield f'spectrum at {T}', lambda T=T: response.spectrum(*HARD_80_45, T), wanted
     for q, wanted in RATIO.items():
         yield f'ratio {q}', lambda q=q: response.modified_ratio(q), wanted
-    roots = ((480, response.design_capacity, 2463060), (480, response.mce_capacity, 2932575),
-             (100, response.design_capacity, 1000000), (100, response.mce_capacity, 1000000))
+    roots = ((480, response.design_capacity, 24630604), (480, response.mce_capacity, 29325756),
+             (100, response.design_capacity, 10000000), (100, response.mce_capacity, 10000000))
     for R, capacity, wanted in roots:
         yield f'lower root, R {R}', lambda R=R, capacity=capacity: response.lower_root(capacity(R)[1]), wanted
     for (kind, h), wanted in PERIOD.items():
@@ -55,9 +55,9 @@ def stated():
 
 def worked():
     """Figures worked by hand: upper roots, factors at the corners, the listing's own way."""
-    yield 'upper root, R 480', lambda: response.upper_root(response.design_capacity(480)[1]), 2463061
-    yield 'upper root, R 480, MCE', lambda: response.upper_root(response.mce_capacity(480)[1]), 2932576
-    yield 'upper root, R 100', lambda: response.upper_root(response.design_capacity(100)[1]), 1000000
+    yield 'upper root, R 480', lambda: response.upper_root(response.design_capacity(480)[1]), 24630605
+    yield 'upper root, R 480, MCE', lambda: response.upper_root(response.mce_capacity(480)[1]), 29325757
+    yield 'upper root, R 100', lambda: response.upper_root(response.design_capacity(100)[1]), 10000000
     yield 'T0, hard 80/45', lambda: 2 * response.corner(*HARD_80_45), 1125
     for T, wanted in LOWER_UPPER_FACTORS.items():
         def factors(T=T):
@@ -72,13 +72,13 @@ def worked():
 
 
 def storey_margin():
-    """A roof storey shear of 389 N over an exact 386.8246 N: more than 2 N, within the margin."""
+    """A roof storey shear of 321 N over an exact 318.7762 N: more than 2 N, within the margin."""
     def figures():
         """Printed in N, exact in 0.0001 N rounded down."""
         result = job(*STOREY_EXCESS_ABOVE_2)
         exact.check(result)
         return result.shears[-1], int(exact.bounds(result)[0].storeys[-1] * 10_000)
-    yield 'roof storey above its exact figure by over 2 N', figures, (389, 3868246)
+    yield 'roof storey above its exact figure by over 2 N', figures, (321, 3187762)
 
 
 def checks():

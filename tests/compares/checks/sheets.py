@@ -4,12 +4,12 @@ from tests.model import limits, sheet
 
 SHEET = (b'site\t80\t45\t100\t55\t100\t100\t1\nframe\t2\t1000\t480\t100\t150\n'
          b'level\t5000\t100\nlevel\t5000\t200\nlevel\t5000\t300\n')
-LISTING = (b'base\t909708\t818458\t1071429\t1071429\t1000\nlevel\t3\t573215\t573215\t57321500\n'
+LISTING = (b'base\t909704\t818453\t1071429\t1071429\t1000\nlevel\t3\t573215\t573215\t57321500\n'
            b'level\t2\t332143\t905358\t147857300\nlevel\t1\t166071\t1071429\t255000200\n')
 SITE, FRAME, LEVEL = SHEET.splitlines(keepends=True)[:3]
 BASIN = b'basin\t3\n'
 BASIN_SHEET = BASIN + SHEET[len(SITE):]
-BASIN_LISTING = (b'base\t1522143\t1248293\t1714286\t1714286\t1000\nlevel\t3\t917144\t917144\t91714400\n'
+BASIN_LISTING = (b'base\t1522143\t1248292\t1714286\t1714286\t1000\nlevel\t3\t917144\t917144\t91714400\n'
                  b'level\t2\t531428\t1448572\t236571600\nlevel\t1\t265714\t1714286\t408000200\n')
 BAD_BASINS = (
     b'\n', b'basin\n', b'basin\t\n', b'basin 3\n', b'basin\t\t3\n', b'basin\t3\t\n', b'basin\t3\t1\n', b'basin\t3 \n', b' basin\t3\n',

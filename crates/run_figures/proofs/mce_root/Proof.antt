@@ -4,6 +4,7 @@ use mathlib.Core.Path.{sym, subst}
 use Prim.Native.Nat.{_*_, _≤_, _<_}
 use native.Mathlib.Omega.{arith}
 use Rattle.whole.specs.declared.Fraction.{Fraction}
+use Rattle.response.specs.Unit.{unit}
 use Rattle.run_figures.proofs.mce_root.Statement.{statement}
 use Rattle.run_figures.proofs.mce_root.Tie as tie
 
@@ -12,7 +13,7 @@ mce-square-requires c κs = search needs
 
 lower-root-requires : tie.Need-lower-root-requires
 lower-root-requires c κs =
-    subst (λ (q : Fraction). (0 < 1_000_000) × (1_000_000 ≤ 10_000_000) × (0 < q .den) × (q .den ≤ 1000) × (q .num ≤ 11 * q .den))
+    subst (λ (q : Fraction). (0 < unit) × (unit ≤ 10_000_000) × (0 < q .den) × (q .den ≤ 1000) × (q .num ≤ 11 * q .den))
     (sym (c .mce-square .ensures)) (omega arith, omega arith, omega arith, omega arith, omega arith)
 
 returns : tie.Need-returns
