@@ -32,14 +32,16 @@ NEAR_FAULT = (ROOT / 'examples' / 'near_fault.sheet').read_bytes()
 # what a filled page says in digits of its own: constants of the rules, powers of ten, equations, sections, tables and limits of 000,
 # numbers of kinds and refusals, and the exponent of a pocket calculator
 OWN = {
-    'worked.md': '0.01 0.07 0.75 1 1.4 2 4 4.2 5 7 10 16 17 19 25 50 75 100 300 700 1400 4200 10,000',
+    'worked.md': '0.01 0.07 0.75 1 1.4 2 4 4.2 5 7 10 16 17 19 25 50 75 100 300 700 14,000 42,000 10,000',
     'soft_ground.md': '0.75 2',
     'near_fault.md': '0.01 0.2 0.4 0.6 0.75 1 1.0 1.00 1.4 2 2.2 2.4 2.5 3 4 4.2 5 6 7 9 10 13 14 16 17 19 25 50 75 100 300 400 600 700 1000 '
-                     '1400 4200 10,000',
-    'basin.md': '0.01 0.2 0.4 0.6 0.8 1 1.0 1.4 1.5 2 2.0 2.3 2.4 2.5 3 3.5 4 4.2 6 7 10 11 15 16 17 18 19 50 100 200 1000 1400 2005 3500',
+                     '14,000 42,000 10,000',
+    'basin.md': '0.01 0.2 0.4 0.6 0.8 1 1.0 1.4 1.5 2 2.0 2.3 2.4 2.5 3 3.5 4 4.2 6 7 10 11 15 16 17 18 19 50 100 200 1000 2005 14,000 35,000',
     'roof_force.md': '0 0.07 0.7 2 2.0.0 3.1 10 14 21 50 700',
-    'rounding.md': '0.07 1 3 1.4 1.5 4.2 10 15 21 700 701 3,571',
+    'rounding.md': '0.07 1 3 1.4 1.5 2.2.0 4.2 10 15 21 700 701 3,571',
     'soil.md': '0.1 1 2 3 2.1 10 13 15 18 27 30 180 270 800 1000',
+    'finer_spectrum.md': '0.01 0.144 0.2 0.45 0.52 0.80 1 1.00 1.4 2 3 4 5 10 25 75 2.2.0 2.3.0 1400 3500 4200 14,000 35,000 42,000 144,000 300,000 800,000 1,440,000 '
+                         '3,000,000 8,000,000',
     'shear_and_storeys.md': '0 0.07 1 1.4 2 2.5.4 3.1 3.2 3.3 3.4 4 10 14 19 20 21 24 700 701 1,000 3,571 10,000',
 }
 
@@ -255,7 +257,7 @@ def sides():
     low, high = response.lower_root(square), response.upper_root(square)
     root = Fraction(response.lower_root(square, 10**15), 10**15) * unit
     line = [(Fraction(each, unit), T0 * 7 / 10) for each in (low, high)]
-    per = Fraction(frame.I * 9_001, 1400 * frame.alphay)
+    per = Fraction(frame.I * 9_001, 14_000 * frame.alphay)
     weights, heights = [3, 5, 7], [11, 13, 17]
     parts = storeys.products_above(weights, heights)
     yield 't', side([(Fraction(8973047, 10_000), response.approximate_period(2, 300))])
@@ -268,12 +270,12 @@ def sides():
                                   response.lower_factor(capacity, square, T0, line[0][1]))])
     yield 'factor, upper', side([(response.factor(capacity, line[1][0], T0, line[1][1]) * unit,
                                   response.upper_factor(capacity, square, T0, line[1][1]))])
-    yield 'q', side([(Fraction(unit * 720_001, low), response.ratio(720_001, low))])
-    yield 'm', side([(Fraction(52 * q, 100) + 144_000, response.modified_ratio(q)) for q in (400_001, 700_001)]
-                    + [(Fraction(7 * 900_001, 10), response.modified_ratio(900_001))])
-    yield 'V, V_M', side([(per * 292_321, shears.V(frame, 292_321, 9_001))])
-    yield 'p', side([(Fraction(52 * 720_001, 100) + Fraction(144 * 1_463_061, 1000), response.p_of_star(720_001, 1_463_061))])
-    yield 'V*', side([(per * 720_001 / 3, shears.V_star(frame, 720_001, 9_001))])
+    yield 'q', side([(Fraction(unit * 7_200_001, low), response.ratio(7_200_001, low))])
+    yield 'm', side([(Fraction(52 * q, 100) + 1_440_000, response.modified_ratio(q)) for q in (4_000_001, 7_000_001)]
+                    + [(Fraction(7 * 9_000_001, 10), response.modified_ratio(9_000_001))])
+    yield 'V, V_M', side([(per * 2_923_211, shears.V(frame, 2_923_211, 9_001))])
+    yield 'p', side([(Fraction(52 * 7_200_001, 100) + Fraction(144 * 14_630_605, 1000), response.p_of_star(7_200_001, 14_630_605))])
+    yield 'V*', side([(per * 7_200_001 / 3, shears.V_star(frame, 7_200_001, 9_001))])
     yield 'F_t', side([(Fraction(7 * each * 1_566_001, 100_000), storeys.F_t(each, 1_566_001)) for each in (701, 3_571)]
                       + [(Fraction(1_566_001, 4), storeys.F_t(3_572, 1_566_001))])
     yield 'shear under level x', side([(Fraction((10_001 - 30) * part, parts[0]), whole - 30)
@@ -328,13 +330,13 @@ def written_rules(rule):
         (x0, y0), (x1, y1) = next(pair for pair in zip(corners, corners[1:]) if at <= pair[1][0])
         yield f'factor at {T}', y0 + (y1 - y0) * (at - x0) / (x1 - x0), response.factor(capacity, root, Fraction(1000), T)
     p = rule['p'].split(': ')[1]
-    for q in range(1_000, 1_300_000, 9_999):
-        yield f'm at {q}', ceil(in_pieces(rule['m'], q=Fraction(q, 10**6)) * 10**6), response.modified_ratio(q)
-        yield f'p at {q}', ceil(in_pieces(p, Sa=q, F=1_234_567)), response.p_of_star(q, 1_234_567)
+    for q in range(10_000, 13_000_000, 99_999):
+        yield f'm at {q}', ceil(in_pieces(rule['m'], q=Fraction(q, 10**7)) * 10**7), response.modified_ratio(q)
+        yield f'p at {q}', ceil(in_pieces(p, Sa=q, F=12_345_678)), response.p_of_star(q, 12_345_678)
     frame, W = limits.Frame(2, 0, R, 125, 151), 9_001
-    names = {'I': Fraction(frame.I, 100), 'alpha_y': Fraction(frame.alphay, 100), 'W': W * 1000, 'm': Fraction(292_321, 10**6)}
-    yield 'V, V_M', ceil(value(rule['V, V_M'], **names)), shears.V(frame, 292_321, W)
-    yield 'V*', ceil(value(rule['V*'], p=names['m'], **names)), shears.V_star(frame, 292_321, W)
+    names = {'I': Fraction(frame.I, 100), 'alpha_y': Fraction(frame.alphay, 100), 'W': W * 1000, 'm': Fraction(2_923_211, 10**7)}
+    yield 'V, V_M', ceil(value(rule['V, V_M'], **names)), shears.V(frame, 2_923_211, W)
+    yield 'V*', ceil(value(rule['V*'], p=names['m'], **names)), shears.V_star(frame, 2_923_211, W)
     none, roof = (piece.split(': ') for piece in rule['F_t'].split('; '))
     for T in range(1, 6_329):
         names = {'T': T, 'T_s': Fraction(T, 1000), 'V_D': 1_566_001}
@@ -392,8 +394,8 @@ def basin_rules():
         got = (R_a, value(squares[0], R_a=R_a)), value(squares[1], R=in_ones), value(squares[2], R=in_ones)
         yield got == (basins.capacity(R), basins.capacity(R)[1], response.mce_capacity(R)[1]), f'{name}: capacity or root at R = {R}'
     frame, W = limits.Frame(2, 0, 477, 125, 151), 9_001
-    names = {'I': Fraction(frame.I, 100), 'alpha_y': Fraction(frame.alphay, 100), 'W': W * 1000, 'p': Fraction(292_321, 10**6)}
-    yield ceil(value(rule['V*'], **names)) == shears.V_star(frame, 292_321, W, divided_by=basins.V_STAR), f'{name}: V*'
+    names = {'I': Fraction(frame.I, 100), 'alpha_y': Fraction(frame.alphay, 100), 'W': W * 1000, 'p': Fraction(2_923_211, 10**7)}
+    yield ceil(value(rule['V*'], **names)) == shears.V_star(frame, 2_923_211, W, divided_by=basins.V_STAR), f'{name}: V*'
     for step in ('V*', 'T0', 'capacity'):
         yield of_sites[step].startswith(on_site[step]), f'{name}: {step} on a site: {on_site[step]}, the rules have {of_sites[step]}'
 

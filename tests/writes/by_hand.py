@@ -11,6 +11,8 @@ from tests.model.calls import HAZARDS, made_by
 from tests.model.job import job
 
 UNIT = response.UNIT
+IN_A = 10**8 // UNIT             # a unit of g, in 10⁻⁸ g
+SHEAR, STAR, BASIN_STAR = 14_000, 42_000, 35_000      # what divides V and V_M, V*, and V* in the Basin
 CLASS_NAMES = {1: 'hard', 2: 'normal', 3: 'soft'}
 COLUMNS = ('V (design)', 'V_M (MCE)', 'V* (design, N_A = N_V = 1.00)')
 BASIN_COLUMNS = ('V (design)', 'V_M (MCE)', 'V* (design)')
@@ -166,14 +168,14 @@ def spectrum_cells(figures, T):
     A, B = figures.A, figures.B
     T0 = Fraction(1000 * B, A)
     if T <= T0 / 5:
-        branch, text = 'T ≤ 0.2 · T0', f'A · (0.4 + 3 · T / T0) / 100 = {comma(A)} · (0.4 + 3 · {comma(T)} / {decimal(T0, 2)}) / 100'
-        exact = A * (Fraction(4, 10) + 3 * T / T0) / 100
+        branch, text = 'T ≤ 0.2 · T0', f'A · (0.4 + 3 · T / T0) / {IN_A} = {comma(A)} · (0.4 + 3 · {comma(T)} / {decimal(T0, 2)}) / {IN_A}'
+        exact = A * (Fraction(4, 10) + 3 * T / T0) / IN_A
     elif T <= T0:
-        branch, text, exact = '0.2 · T0 < T ≤ T0', f'A / 100 = {comma(A)} / 100', Fraction(A, 100)
+        branch, text, exact = '0.2 · T0 < T ≤ T0', f'A / {IN_A} = {comma(A)} / {IN_A}', Fraction(A, IN_A)
     elif T <= T0 * 5 / 2:
-        branch, text, exact = 'T0 < T ≤ 2.5 · T0', f'10 · B / T = 10 · {comma(B)} / {comma(T)}', Fraction(10 * B, T)
+        branch, text, exact = 'T0 < T ≤ 2.5 · T0', f'{1000 // IN_A} · B / T = {1000 // IN_A} · {comma(B)} / {comma(T)}', Fraction(1000 // IN_A * B, T)
     else:
-        branch, text, exact = 'T > 2.5 · T0', f'0.4 · A / 100 = 0.4 · {comma(A)} / 100', Fraction(4 * A, 1000)
+        branch, text, exact = 'T > 2.5 · T0', f'0.4 · A / {IN_A} = 0.4 · {comma(A)} / {IN_A}', Fraction(4 * A, 10 * IN_A)
     return branch, f'{text} = {rounded(exact, "up", figures.spectrum)}'
 
 
@@ -184,41 +186,41 @@ def root_cells(square, figures, upper):
     if low == high:
         return f'{decimal(square, 8)}', f'{comma(low)}, whose square is root²'
     side = f'**{comma(high)}** (upper)' if upper else f'**{comma(low)}** (lower)'
-    in_ones = [f'{each // UNIT}.{each % UNIT:06}' for each in (low, high)]
+    in_ones = [f'{each // UNIT}.{each % UNIT:07}' for each in (low, high)]
     return decimal(square, 8), f'{in_ones[0]}² = {shown[0]}, {in_ones[1]}² = {shown[1]}: {side}'
 
 
 def factor_cells(capacity, figures, T, upper):
-    """Which branch of (6) or (16), and the lower or upper factor in millionths."""
+    """Which branch of (6) or (16), and the lower or upper factor in ten-millionths."""
     T0 = figures.T0
     root = figures.upper_root if upper else figures.lower_root
     wanted, side = (figures.upper_factor, 'up') if upper else (figures.lower_factor, 'down')
-    millions = capacity * UNIT
+    in_units = capacity * UNIT
     if T >= T0:
-        branch, text, exact = 'T ≥ T0: capacity', '', millions
+        branch, text, exact = 'T ≥ T0: capacity', '', in_units
     elif T >= T0 * 3 / 5:
         x = (T - T0 * 3 / 5) / (T0 * 2 / 5)
         branch = f'0.6 · T0 ≤ T < T0, x = ({comma(T)} − {decimal(T0 * 3 / 5, 2)}) / {decimal(T0 * 2 / 5, 2)} = {decimal(x, 6)}'
-        text, exact = f'{comma(root)} + ({decimal(millions)} − {comma(root)}) · x = ', root + (millions - root) * x
+        text, exact = f'{comma(root)} + ({decimal(in_units)} − {comma(root)}) · x = ', root + (in_units - root) * x
     elif T >= T0 / 5:
         branch, text, exact = '0.2 · T0 ≤ T < 0.6 · T0: root', '', Fraction(root)
     else:
         y = (T - T0 / 5) / (T0 / 5)
         branch = f'T < 0.2 · T0, y = ({comma(T)} − {decimal(T0 / 5, 2)}) / {decimal(T0 / 5, 2)} = −{decimal(-y, 6)}'
-        text, exact = f'{comma(root)} + ({comma(root)} − 1,000,000) · y = ', root + (root - UNIT) * y
+        text, exact = f'{comma(root)} + ({comma(root)} − {comma(UNIT)}) · y = ', root + (root - UNIT) * y
     return branch, f'{text}{rounded(exact, side, wanted)}'
 
 
 def ratio_cells(figures, q, m):
     """q and m."""
     exact = Fraction(UNIT * figures.spectrum, figures.lower_factor)
-    first = f'{comma(figures.spectrum)} · 10⁶ / {comma(figures.lower_factor)} = {rounded(exact, "up", q)}'
-    if q <= 300_000:
-        return first, f'q ≤ 300,000: q = {rounded(q, "up", m)}'
-    if q <= 800_000:
-        bent = Fraction(52 * q, 100) + 144_000
-        return first, f'q ≤ 800,000: 0.52 · {comma(q)} + 144,000 = {rounded(bent, "up", m)}'
-    return first, f'q > 800,000: 0.7 · {comma(q)} = {rounded(Fraction(7 * q, 10), "up", m)}'
+    first = f'{comma(figures.spectrum)} · 10⁷ / {comma(figures.lower_factor)} = {rounded(exact, "up", q)}'
+    if q <= 3_000_000:
+        return first, f'q ≤ 3,000,000: q = {rounded(q, "up", m)}'
+    if q <= 8_000_000:
+        bent = Fraction(52 * q, 100) + 1_440_000
+        return first, f'q ≤ 8,000,000: 0.52 · {comma(q)} + 1,440,000 = {rounded(bent, "up", m)}'
+    return first, f'q > 8,000,000: 0.7 · {comma(q)} = {rounded(Fraction(7 * q, 10), "up", m)}'
 
 
 def p_cell(figures, p):
@@ -236,23 +238,23 @@ def shear_cell(worked, number, divisor, wanted):
     """One of the three shears."""
     frame, W = worked.frame, worked.W
     exact = Fraction(frame.I * number * W, divisor * frame.alphay)
-    return (f'{frame.I} · {comma(number)} · {comma(W)} / ({divisor} · {frame.alphay}) = '
+    return (f'{frame.I} · {comma(number)} · {comma(W)} / ({comma(divisor)} · {frame.alphay}) = '
             f'{rounded(exact, "up", wanted)} N')
 
 
 def star_divisor(worked):
-    """What divides V*, for p in millionths and W in kN."""
-    return 3500 if in_basin(worked) else 4200
+    """What divides V*, for p in ten-millionths and W in kN."""
+    return BASIN_STAR if in_basin(worked) else STAR
 
 
 def response_table(worked):
     """Spectrum, roots, factor, ratio and shear of each column."""
     T, equations = worked.T, '(10), (15)' if in_basin(worked) else '(4)'
-    rows = [[f'branch of the spectrum {equations}'], ['Sa, millionths of g'], ['capacity'], ['root²'], ['root, millionths'],
-            ['branch of the factor (6), (16)'], ['factor, millionths'], ['q = Sa / factor, millionths'], ['m by (8), (18), millionths'],
-            ['p by (19), millionths'], ['shear']]
-    ends = ((*ratio_cells(worked.design, worked.q, worked.m), '', shear_cell(worked, worked.m, 1400, worked.V)),
-            (*ratio_cells(worked.mce, worked.q_M, worked.m_M), '', shear_cell(worked, worked.m_M, 1400, worked.V_M)),
+    rows = [[f'branch of the spectrum {equations}'], ['Sa, 10⁻⁷ g'], ['capacity'], ['root²'], ['root, 10⁻⁷'],
+            ['branch of the factor (6), (16)'], ['factor, 10⁻⁷'], ['q = Sa / factor, 10⁻⁷'], ['m by (8), (18), 10⁻⁷'],
+            ['p by (19), 10⁻⁷ g'], ['shear']]
+    ends = ((*ratio_cells(worked.design, worked.q, worked.m), '', shear_cell(worked, worked.m, SHEAR, worked.V)),
+            (*ratio_cells(worked.mce, worked.q_M, worked.m_M), '', shear_cell(worked, worked.m_M, SHEAR, worked.V_M)),
             ('', '', p_cell(worked.star, worked.p), shear_cell(worked, worked.p, star_divisor(worked), worked.V_star)))
     responses = (worked.design, worked.mce, worked.star)
     for column, (figures, (capacity_text, capacity, square_text, square)) in enumerate(zip(responses, ductilities(worked))):
@@ -325,7 +327,7 @@ def shear_rows(worked):
                                                ('V_M', lower_M, worked.mce, worked.q_M, worked.m_M, worked.V_M)):
         q_text, m_text = ratio_cells(figures, q, m)
         rows += [(f'lower factor of {name}', factor), (f'q of {name}', q_text), (f'm of {name}', m_text),
-                 (name, shear_cell(worked, m, 1400, shear))]
+                 (name, shear_cell(worked, m, SHEAR, shear))]
     return rows + [('upper factor of V*', upper), ('p of V*', p_cell(worked.star, worked.p)),
                    ('V*', shear_cell(worked, worked.p, star_divisor(worked), worked.V_star))]
 
@@ -408,7 +410,7 @@ def basin_names(worked):
     listings = '\n\n'.join(f'With zone {other.ground.zone} in line 1:\n\n' + code(sheet.listing(other).decode().splitlines()) for other in others)
     return {'basin_table': basin_table(worked), 'zone': str(worked.ground.zone), 'A_design': comma(basins.S_DS), 'A_mce': comma(basins.S_MS),
             'zones': table(('zone', 'T0, ms', 'T0, s', 'B of V and V*, 10⁻⁸ g', 'B of V_M, 10⁻⁸ g'), zones),
-            'other_spectra': across(others, '', spectrum_rows), 'other_shears': across(others, 'millionths; shears in N', shear_rows),
+            'other_spectra': across(others, '', spectrum_rows), 'other_shears': across(others, '10⁻⁷; shears in N', shear_rows),
             'other_storeys': across(others, '', storey_rows), 'other_listings': listings,
             'other_x': ' and '.join(each for other in others for each in x_fraction(other))}
 

@@ -11,9 +11,9 @@ import string
 from fractions import Fraction
 from math import ceil
 
-from tests.model import exact, limits, soil, storeys
+from tests.model import exact, limits, response, soil, storeys
 from tests.model.sheet import listing
-from tests.writes import by_hand, calls, near_fault, roof
+from tests.writes import by_hand, calls, finer, near_fault, roof
 from tests.writes.by_hand import code, comma, decimal, table
 
 ROOT = pathlib.Path(__file__).resolve().parents[2]
@@ -92,8 +92,9 @@ def rounding_names():
             ('q rounded up', comma(q), decimal(q * unit), decimal((q - of_lower_root) * unit)),
             ('V rounded up', '', comma(other.V), decimal(other.V - q * unit))]
     assert other.m == q and other.V == other.V_D and of_lower_root < q
+    assert other.V - q * unit > (q - of_lower_root) * unit > of_lower_root * unit - above.V
     I, alphay = decimal(Fraction(frame.I, 100)), decimal(Fraction(frame.alphay, 100))
-    millionth = code([f'{I} · {comma(other.W)} kN · 1000 / (1.4 · {alphay}) / 10⁶ = {decimal(unit)} N'])
+    ten_millionth = code([f'{I} · {comma(other.W)} kN · 1000 / (1.4 · {alphay}) / 10⁷ = {decimal(unit)} N'])
     shears = []
     for name, each in (('worked sheet', worked), ('second sheet', other), ('near-fault sheet', near), ('Basin sheet', basin)):
         below, _ = exact.bounds(each)
@@ -103,18 +104,18 @@ def rounding_names():
             least = below.storeys[place]
             shears.append((name, f'storey {place + 1}', comma(each.shears[place]), decimal(least), decimal(each.shears[place] - least),
                            decimal(margin + 2)))
-    return {'millionth': millionth, 'V_printed': comma(other.V), 'margin': decimal(6 * unit + 1), **heaviest(),
-            'V_steps': table(('', 'q, millionths', 'V, N', 'added, N'), rows),
+    return {'ten_millionth': ten_millionth, 'V_printed': comma(other.V), 'margin': decimal(6 * unit + 1), **heaviest(),
+            'V_steps': table(('', 'q, 10⁻⁷', 'V, N', 'added, N'), rows),
             'shears_table': table(('', '', 'printed', 'exact', 'above it by', 'less than'), shears), **alone(worked)}
 
 
 def heaviest():
-    """Six millionths of I*W/(1.4*alpha-y) for the heaviest building, and the largest V_D: 0.7 times the largest spectrum, 1.5 g, of
+    """Six ten-millionths of I*W/(1.4*alpha-y) for the heaviest building, and the largest V_D: 0.7 times the largest spectrum, 1.5 g, of
     it at a factor of 1."""
     W, I, alphay = limits.LEVELS[-1] * limits.WEIGHT[-1], limits.I_VALUES[-1], limits.ALPHA_Y[0]
     unit = Fraction(I * W * 1000 * 10, 14 * alphay)
     most = Fraction(7, 10) * Fraction(limits.S_S_MCE[-1] * limits.N_A[-1], 10**4) * unit
-    return {'heaviest': comma(round(6 * unit / 10**6)), 'most_V_D': comma(int(most))}
+    return {'heaviest': comma(round(6 * unit / response.UNIT)), 'most_V_D': comma(int(most))}
 
 
 def alone(worked):
@@ -143,6 +144,12 @@ def calls_names():
             'base_shears': ranged(limits.BASE_SHEAR), 'periods': ranged(limits.PERIOD)}
 
 
+def finer_names():
+    """What the page on the finer spectrum names."""
+    others = {f'{name}.sheet': by_hand.read(example(name)) for name in ('office', 'soft_ground', 'near_fault', 'basin', 'tower')}
+    return finer.names(example('light_frame'), others)
+
+
 def filled(page, names):
     """A page with its names filled in; each is used."""
     text = (PAGES / page).read_text()
@@ -157,7 +164,7 @@ def written():
     pages = {'worked.md': by_hand.names(example('office')), 'soft_ground.md': by_hand.names(example('soft_ground')),
              'near_fault.md': near_fault.names(example('near_fault')), 'basin.md': by_hand.names(example('basin')),
              'roof_force.md': roof.names(*map(example, ('office', 'soft_ground', 'tower'))), 'rounding.md': rounding_names(), 'soil.md': soil_names(),
-             'shear_and_storeys.md': calls_names()}
+             'shear_and_storeys.md': calls_names(), 'finer_spectrum.md': finer_names()}
     assert {path.name for path in PAGES.iterdir()} == pages.keys()
     return {page: filled(page, names) for page, names in pages.items()}
 

@@ -12,12 +12,14 @@ from xml.sax.saxutils import escape
 from tests.model import basin as basins, calls, exact, limits, response, site as sites
 from tests.model.job import job
 from tests.writes import by_hand
+from tests.writes import finer
 from tests.writes.calls import scaled
 
 ROOT = pathlib.Path(__file__).resolve().parents[2]
 PICTURES = ROOT / 'docs' / 'manual' / 'pictures'
 SHEET, LISTING = ROOT / 'examples' / 'office.sheet', ROOT / 'examples' / 'office.listing'
 NEAR_FAULT = ROOT / 'examples' / 'near_fault.sheet'
+LIGHT_FRAME = ROOT / 'examples' / 'light_frame.sheet'
 BLUE, RED, GREEN, GREY, BLACK = '#0072b2', '#d55e00', '#00795a', '#707070', '#000000'
 CLASSES = ((1, 'hard', BLUE, ''), (2, 'normal', GREEN, '12 6'), (3, 'soft', RED, '3 5'))
 ZONES = ((1, BLUE, ''), (2, GREEN, '12 6'), (3, RED, '3 5'), (4, BLACK, '14 5 3 5'))
@@ -182,11 +184,11 @@ def modified():
     axes = Axes(picture, (90, 70, 930, 520), Fraction(12, 10), Fraction(9, 10))
     axes.frame('q = Sa / lower factor', 'm', tenths(12, 2), tenths(9))
     axes.curve([(0, 0), (Fraction(9, 10), Fraction(9, 10))], GREY, '2 6', 2)
-    bends = (0, 300_000, 800_000, 1_200_000)
+    bends = (0, 3_000_000, 8_000_000, 12_000_000)
     for first, last, colour, words, place, right, down in (
-            (bends[0], bends[1], BLUE, 'm = q', 150_000, 24, 20),
-            (bends[1], bends[2], GREEN, 'm = 0.52·q + 0.144', 550_000, 30, 26),
-            (bends[2], bends[3], RED, 'm = 0.7·q', 1_000_000, 30, 30)):
+            (bends[0], bends[1], BLUE, 'm = q', 1_500_000, 24, 20),
+            (bends[1], bends[2], GREEN, 'm = 0.52·q + 0.144', 5_500_000, 30, 26),
+            (bends[2], bends[3], RED, 'm = 0.7·q', 10_000_000, 30, 30)):
         ends = [(Fraction(q, UNIT), Fraction(response.modified_ratio(q), UNIT)) for q in (first, last)]
         axes.curve(ends, colour, width=4)
         axes.words(Fraction(place, UNIT), Fraction(response.modified_ratio(place), UNIT), words, right=right, down=down, colour=colour,
@@ -420,8 +422,36 @@ def periods():
     return picture.svg()
 
 
+def steps():
+    """V of the light frame at neighbouring periods, in millionths and in ten-millionths, beside the exact one."""
+    worked = by_hand.read(LIGHT_FRAME.read_bytes())
+    before, now, exacts = finer.check_steps(worked)
+    first, last, lowest, highest = finer.PERIODS[0], finer.PERIODS[-1], min(map(int, exacts)) - 2, max(before) + 2
+    picture = Picture(960, 600, 'V of a light frame at neighbouring periods, in millionths and in ten-millionths')
+    axes = Axes(picture, (130, 70, 930, 520), last + 1 - first, highest - lowest)
+    axes.frame('period T (ms)', '', [(T - first, str(T)) for T in range(first, last + 1, 5)],
+               [(N - lowest, f'{N:,}') for N in range(lowest + -lowest % 5, highest, 5)])
+    picture.words(120, 62, 'V (N)', anchor='end')
+    axes.curve([(T - first, V - lowest) for T, V in zip(finer.PERIODS, exacts)], GREY, '3 5')
+    for values, colour, mark in ((before, RED, picture.ring), (now, BLUE, picture.dot)):
+        for T, V in zip(finer.PERIODS, values):
+            x, y = axes.point(T - first, V - lowest)
+            right, _ = axes.point(T + 1 - first, 0)
+            picture.line([(x, y), (right, y)], colour, 2)
+            mark(x, y, colour)
+    for place, (words, colour, mark) in enumerate((('before, in millionths', RED, picture.ring), ('now, in ten-millionths', BLUE, picture.dot))):
+        y = 104 + 28 * place
+        picture.line([(640, y - 6), (676, y - 6)], colour, 2)
+        mark(640, y - 6, colour)
+        picture.words(688, y, words, size=16)
+    picture.line([(640, 154), (676, 154)], GREY, 3, '3 5')
+    picture.words(688, 160, 'exact', size=16)
+    picture.words(130, 36, f'A light frame of {worked.W:,} kN, R = {decimal(Fraction(worked.frame.R, 100), 2)}: V at neighbouring periods', size=19, weight='bold')
+    return picture.svg()
+
+
 DRAWN = {'spectrum': spectrum, 'factor': factor, 'modified': modified, 'storeys': storeys, 'classes': classes, 'near_fault': near_fault,
-         'basin': basin, 'roof_force': roof_force, 'two_calls': two_calls, 'periods': periods}
+         'basin': basin, 'roof_force': roof_force, 'two_calls': two_calls, 'periods': periods, 'steps': steps}
 
 
 def wrong():

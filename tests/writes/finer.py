@@ -1,0 +1,126 @@
+"""The page on the finer spectrum: a light frame at neighbouring periods in millionths and in ten-millionths, and the examples in both.
+
+What the page says in words is asserted here of the model.
+"""
+
+from fractions import Fraction
+
+from tests.model import calls, exact, response
+from tests.writes import by_hand
+from tests.writes.by_hand import code, comma, decimal, table
+
+BEFORE, NOW = 10**6, response.UNIT
+PERIODS = range(60, 86)         # of the picture
+SHOWN = range(76, 86)           # of the table
+BY_HAND = (83, 84)
+UNITS = {BEFORE: '10⁻⁶', NOW: '10⁻⁷'}
+
+
+def at_period(worked, T, s):
+    """The figures of the frame with another calculated period, in a unit."""
+    result = calls.base_figures(worked.ground, worked.frame._replace(calculated_period=T), worked.W, worked.heights[-1], s)
+    assert result.T == T and result.V == result.V_D and 5 * T <= result.design.T0
+    return result
+
+
+def exact_shear(worked, T):
+    """The exact V at a period; its root to 30 digits."""
+    return exact.bounds(at_period(worked, T, NOW), by=exact.base_of)[0].V
+
+
+def shears(worked, s):
+    """V at each period of the picture."""
+    return [at_period(worked, T, s).V for T in PERIODS]
+
+
+def steps(values):
+    """How far each is below the one before it."""
+    return [one - other for one, other in zip(values, values[1:])]
+
+
+def unit_in_newtons(worked, s):
+    """What a unit of q is worth in V."""
+    return exact.shear_unit(worked) / s
+
+
+def check_steps(worked):
+    """What the page says of the steps."""
+    before, now, exacts = shears(worked, BEFORE), shears(worked, NOW), [exact_shear(worked, T) for T in PERIODS]
+    assert all(0 < step < 2 for step in steps(exacts)) and all(step >= 0 for step in (*steps(before), *steps(now)))
+    assert all(old >= new for old, new in zip(before, now))
+    assert {step for step in steps(now)} == {0, 1, 2} and {step for step in steps(before)} == {0, 3, 4}
+    return before, now, exacts
+
+
+def longest_run(values):
+    """The most neighbours that are the same."""
+    longest = run = 1
+    for one, other in zip(values, values[1:]):
+        run = run + 1 if one == other else 1
+        longest = max(longest, run)
+    return longest
+
+
+def step_rows(worked):
+    """V at neighbouring periods, before and now, with the step from the period before."""
+    rows = []
+    for T in SHOWN:
+        cells = [str(T), decimal(exact_shear(worked, T), 1)]
+        for s in (BEFORE, NOW):
+            V = at_period(worked, T, s).V
+            cells += [comma(V), comma(at_period(worked, T - 1, s).V - V), decimal(V - exact_shear(worked, T), 1)]
+        rows.append(cells)
+    return table(('T, ms', 'exact V, N', 'V before, N', 'falls by', 'above the exact V by', 'V now, N', 'falls by', 'above the exact V by'), rows)
+
+
+def by_hand_table(worked):
+    """Each step of V at two neighbouring periods in both units."""
+    columns = [(T, s, at_period(worked, T, s)) for s in (BEFORE, NOW) for T in BY_HAND]
+    rows = [['A, 10⁻⁸ g'], ['T0, ms'], ['Sa = A · (0.4 + 3 · T / T0), up'], ['root, down'], ['y = (T − 0.2 · T0) / (0.2 · T0)'],
+            ['factor = root + (root − 1) · y, down'], ['q = Sa / factor, up'], ['m = 0.52 · q + 0.144, up'], ['V = I · m · W / (1.4 · alpha-y), up']]
+    for T, s, result in columns:
+        figures, T0 = result.design, result.design.T0
+        y = Fraction(5 * T, 1) / T0 - 1
+        root = figures.lower_root
+        Sa, factor = s * response.spectrum_in_g(figures.A, figures.B, T), root + (root - s) * y
+        q, m = Fraction(s * figures.spectrum, figures.lower_factor), Fraction(52 * result.q, 100) + Fraction(144 * s, 1000)
+        V = result.m * unit_in_newtons(worked, s)
+        assert 3 * s < 10 * result.q <= 8 * s
+        cells = (comma(figures.A), decimal(T0, 2), by_hand.rounded(Sa, 'up', figures.spectrum), f'**{comma(root)}**', f'−{decimal(-y, 6)}',
+                 by_hand.rounded(factor, 'down', figures.lower_factor), by_hand.rounded(q, 'up', result.q), by_hand.rounded(m, 'up', result.m),
+                 by_hand.rounded(V, 'up', result.V) + ' N')
+        for row, cell in zip(rows, cells):
+            row.append(cell)
+    return table(('', *(f'{T} ms, in {UNITS[s]}' for T, s, _ in columns)), rows)
+
+
+def example_rows(examples):
+    """V, V_M, V* and V_D of the examples, before and now."""
+    rows = []
+    for name, worked in examples.items():
+        old, new = (calls.base_figures(worked.ground, worked.frame, worked.W, worked.heights[-1], s) for s in (BEFORE, NOW))
+        cells = []
+        for shear in ('V', 'V_M', 'V_star', 'V_D'):
+            before, now = getattr(old, shear), getattr(new, shear)
+            assert before >= now
+            cells.append(comma(now) if before == now else f'{comma(before)}, now {comma(now)}')
+        rows.append((f'`examples/{name}`', *cells))
+    return table(('sheet', 'V, N', 'V_M, N', 'V*, N', 'V_D, N'), rows)
+
+
+def names(data, others):
+    """What the page may name; `others` are the other examples by their names."""
+    worked = by_hand.read(data)
+    before, now, exacts = check_steps(worked)
+    frame, jump = worked.frame, max(steps(before))
+    falls = decimal(exacts[0] - exacts[-1], 1)
+    return {'sheet': code(data.decode().splitlines()), 'steps_table': step_rows(worked), 'hand_table': by_hand_table(worked),
+            'examples_table': example_rows(others | {'light_frame.sheet': worked}),
+            'first': str(PERIODS[0]), 'last': str(PERIODS[-1]), 'falls': falls, 'same': str(longest_run(before)), 'jump': str(jump),
+            'jump_now': str(max(steps(now))), 'most_before': decimal(max(one - other for one, other in zip(before, exacts)), 1),
+            'most_now': decimal(max(one - other for one, other in zip(now, exacts)), 1),
+            'unit_before': decimal(unit_in_newtons(worked, BEFORE), 2), 'unit_now': decimal(unit_in_newtons(worked, NOW), 3),
+            'W': comma(worked.W), 'R': by_hand.hundredths(frame.R), 'I': by_hand.hundredths(frame.I), 'alphay': by_hand.hundredths(frame.alphay),
+            'T': str(worked.T), 'T0': decimal(worked.design.T0, 2), 'fifth': decimal(worked.design.T0 / 5, 2),
+            'one': str(BY_HAND[0]), 'other': str(BY_HAND[1]), 'root_square': decimal(Fraction(frame.R - 25, 75), 6),
+            'margin_before': decimal(6 * unit_in_newtons(worked, BEFORE) + 1, 2), 'margin_now': decimal(6 * unit_in_newtons(worked, NOW) + 1, 2)}
