@@ -20,7 +20,9 @@ use site::coefficients::fv;
 use site::hazards::LINES;
 use soil::velocity::VelocityAnswer;
 use whole::roots::lower_root;
-ghost use Prim.Native.Nat.{_≤_};
+ghost use Prim.Native.Nat.{_≤_, _<_};
+
+const MILLIONTHS: u64 = 1_000_000;
 
 fn hold(name: &[u8], got: u64, stated: u64) {
     io::write_all(STDOUT_FILENO, name);
@@ -104,25 +106,57 @@ fn ratios() {
     );
 }
 
-fn design_root(r: u64) -> u64
-    requires { ⌜ (100 ≤ r) × (r ≤ 600) ⌝ }
+fn design_root(s: u64, r: u64) -> u64
+    requires { ⌜ (0 < s) × (s ≤ 10_000_000) × (100 ≤ r) × (r ≤ 600) ⌝ }
 {
     let q = design_square(r);
-    lower_root(UNIT, q.num, q.den)
+    lower_root(s, q.num, q.den)
 }
 
-fn mce_root(r: u64) -> u64
-    requires { ⌜ (100 ≤ r) × (r ≤ 600) ⌝ }
+fn mce_root(s: u64, r: u64) -> u64
+    requires { ⌜ (0 < s) × (s ≤ 10_000_000) × (100 ≤ r) × (r ≤ 600) ⌝ }
 {
     let q = mce_square(r);
-    lower_root(UNIT, q.num, q.den)
+    lower_root(s, q.num, q.den)
 }
 
 fn roots() {
-    hold(b"lower root, design, R 480", design_root(480), 24_630_604);
-    hold(b"lower root, MCE, R 480", mce_root(480), 29_325_756);
-    hold(b"lower root, design, R 100", design_root(100), 10_000_000);
-    hold(b"lower root, MCE, R 100", mce_root(100), 10_000_000);
+    hold(
+        b"lower root, design, R 480",
+        design_root(UNIT, 480),
+        24_630_604,
+    );
+    hold(b"lower root, MCE, R 480", mce_root(UNIT, 480), 29_325_756);
+    hold(
+        b"lower root, design, R 100",
+        design_root(UNIT, 100),
+        10_000_000,
+    );
+    hold(b"lower root, MCE, R 100", mce_root(UNIT, 100), 10_000_000);
+}
+
+// Document 01's own figures: the root is a function of its unit.
+fn roots_in_millionths() {
+    hold(
+        b"in millionths, design, R 480",
+        design_root(MILLIONTHS, 480),
+        2_463_060,
+    );
+    hold(
+        b"in millionths, MCE, R 480",
+        mce_root(MILLIONTHS, 480),
+        2_932_575,
+    );
+    hold(
+        b"in millionths, design, R 100",
+        design_root(MILLIONTHS, 100),
+        1_000_000,
+    );
+    hold(
+        b"in millionths, MCE, R 100",
+        mce_root(MILLIONTHS, 100),
+        1_000_000,
+    );
 }
 
 fn periods() {
@@ -250,6 +284,7 @@ fn main() {
     spectra();
     ratios();
     roots();
+    roots_in_millionths();
     periods();
     velocities();
     coefficients();

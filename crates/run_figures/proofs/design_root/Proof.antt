@@ -4,7 +4,6 @@ use mathlib.Core.Path.{sym, subst}
 use Prim.Native.Nat.{_*_, _≤_, _<_}
 use native.Mathlib.Omega.{arith}
 use Rattle.whole.specs.declared.Fraction.{Fraction}
-use Rattle.response.specs.Unit.{unit}
 use Rattle.run_figures.proofs.design_root.Statement.{statement}
 use Rattle.run_figures.proofs.design_root.Tie as tie
 
@@ -13,8 +12,10 @@ design-square-requires c κs = search needs
 
 lower-root-requires : tie.Need-lower-root-requires
 lower-root-requires c κs =
-    subst (λ (q : Fraction). (0 < unit) × (unit ≤ 10_000_000) × (0 < q .den) × (q .den ≤ 1000) × (q .num ≤ 11 * q .den))
-    (sym (c .design-square .ensures)) (omega arith, omega arith, omega arith, omega arith, omega arith)
+    let s = c .before .args .s in
+    let p = c .before .pre in
+    subst (λ (q : Fraction). (0 < s) × (s ≤ 10_000_000) × (0 < q .den) × (q .den ≤ 1000) × (q .num ≤ 11 * q .den))
+    (sym (c .design-square .ensures)) (omega (arith, p), omega (arith, p), omega (arith, p), omega (arith, p), omega (arith, p))
 
 returns : tie.Need-returns
 returns c = search needs
