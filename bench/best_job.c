@@ -52,17 +52,17 @@ static inline u64 spectrum(u64 a, u64 b, u64 ta, u64 t)
 {
     if (ta <= 200 * b) {
         u64 u = 3 * ta;
-        return up((400 + u / b) * a + up(u % b * a, b), 100000);
+        return up((400 + u / b) * a + up(u % b * a, b), 10000);
     }
-    if (ta <= 1000 * b) return up(a, 100);
-    if (ta <= 2500 * b) return up(10 * b, t);
-    return up(4 * a, 1000);
+    if (ta <= 1000 * b) return up(a, 10);
+    if (ta <= 2500 * b) return up(100 * b, t);
+    return up(4 * a, 100);
 }
 
 static inline u64 modified(u64 q)
 {
-    if (q <= 300000) return q;
-    if (q <= 800000) return up(52 * q + 14400000, 100);
+    if (q <= 3000000) return q;
+    if (q <= 8000000) return up(52 * q + 144000000, 100);
     return up(7 * q, 10);
 }
 
@@ -74,9 +74,9 @@ static inline __attribute__((always_inline)) u64 lower_q(u64 a, u64 b, u64 t, u6
         u64 k = root_of(square);
         if (600 * b <= ta) f = k + (thirds - 3 * k) * (ta - 600 * b) / (1200 * b);
         else if (200 * b <= ta) f = k;
-        else f = k - up((k - 1000000) * (200 * b - ta), 200 * b);
+        else f = k - up((k - 10000000) * (200 * b - ta), 200 * b);
     }
-    return up(sa * 1000000, f);
+    return up(sa * 10000000, f);
 }
 
 /* the part of V_D at the roof, in 100,000: none up to 700 ms, then 0.07 a second, at most a quarter */
@@ -105,18 +105,18 @@ u64 OF(job)(const Site *s, const Frame *f, const u64 *w, u64 n, const u64 *h, u6
     }
     u64 T = period(f->kind, f->calculated, below), c = s->class_number - 1;
     u64 a = fa(c, s->ssd * s->nad), b = fv(c, s->s1d * s->nvd), am = fa(c, s->ssm * s->nam), bm = fv(c, s->s1m * s->nvm);
-    u64 ap = fa(c, 100 * s->ssd), bp = fv(c, 100 * s->s1d), design = (2 * f->r + 100) * 10000, mce = 3 * f->r * 10000;
-    u64 q = lower_q(a, b, T, design, 1000000000000 * (f->r - 25) / 75), qm = lower_q(am, bm, T, mce, 1000000000000 * (f->r - 50) / 50);
+    u64 ap = fa(c, 100 * s->ssd), bp = fv(c, 100 * s->s1d), design = (2 * f->r + 100) * 100000, mce = 3 * f->r * 100000;
+    u64 q = lower_q(a, b, T, design, 100000000000000 * (f->r - 25) / 75), qm = lower_q(am, bm, T, mce, 100000000000000 * (f->r - 50) / 50);
     u64 ta = T * ap, sa = spectrum(ap, bp, ta, T), uf;
     if (1000 * bp <= ta) uf = up(design, 3);
     else {
-        u64 k = root_of((1000000000000 * (f->r - 25) - 1) / 75) + 1;
+        u64 k = root_of((100000000000000 * (f->r - 25) - 1) / 75) + 1;
         if (600 * bp <= ta) uf = k + up((design - 3 * k) * (ta - 600 * bp), 1200 * bp);
         else if (200 * bp <= ta) uf = k;
-        else uf = k - (k - 1000000) * (200 * bp - ta) / (200 * bp);
+        else uf = k - (k - 10000000) * (200 * bp - ta) / (200 * bp);
     }
     u64 p = 10 * sa <= 3 * uf ? sa : 10 * sa <= 8 * uf ? up(520 * sa + 144 * uf, 1000) : up(7 * sa, 10);
-    u64 iw = f->i * W, d = 1400 * f->alpha_y;
+    u64 iw = f->i * W, d = 14000 * f->alpha_y;
     u64 v = up(iw * modified(q), d), vm = up(iw * modified(qm), d), star = up(iw * p, 3 * d), vd = v > vm ? v : vm;
     vd = star > vd ? star : vd;
     u64 ft = up(roof_part(T) * vd, 100000), px = 0, above = 0, moment = 0, part = vd - ft;

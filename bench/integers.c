@@ -44,38 +44,38 @@ static u64 spectrum(u64 a, u64 b, u64 t)
     u64 ta = t * a;
     if (ta <= 200 * b) {
         u64 u = 3 * ta;
-        return up((400 + u / b) * a + up(u % b * a, b), 100000);
+        return up((400 + u / b) * a + up(u % b * a, b), 10000);
     }
-    if (ta <= 1000 * b) return up(a, 100);
-    if (ta <= 2500 * b) return up(10 * b, t);
-    return up(4 * a, 1000);
+    if (ta <= 1000 * b) return up(a, 10);
+    if (ta <= 2500 * b) return up(100 * b, t);
+    return up(4 * a, 100);
 }
 
-/* thirds: the capacity in thirds of a millionth; n over d: the root's square */
+/* thirds: the capacity in thirds of a ten-millionth; n over d: the root's square */
 static u64 lower_factor(u64 a, u64 b, u64 t, u64 thirds, u64 n, u64 d)
 {
     u64 ta = t * a;
     if (1000 * b <= ta) return thirds / 3;
-    u64 k = root(d, 1000000000000 * n);
+    u64 k = root(d, 100000000000000 * n);
     if (600 * b <= ta) return k + (thirds - 3 * k) * (ta - 600 * b) / (1200 * b);
     if (200 * b <= ta) return k;
-    return k - up((k - 1000000) * (200 * b - ta), 200 * b);
+    return k - up((k - 10000000) * (200 * b - ta), 200 * b);
 }
 
 static u64 upper_factor(u64 a, u64 b, u64 t, u64 thirds, u64 n, u64 d)
 {
     u64 ta = t * a;
     if (1000 * b <= ta) return up(thirds, 3);
-    u64 k = root(d, 1000000000000 * n - 1) + 1;
+    u64 k = root(d, 100000000000000 * n - 1) + 1;
     if (600 * b <= ta) return k + up((thirds - 3 * k) * (ta - 600 * b), 1200 * b);
     if (200 * b <= ta) return k;
-    return k - (k - 1000000) * (200 * b - ta) / (200 * b);
+    return k - (k - 10000000) * (200 * b - ta) / (200 * b);
 }
 
 static u64 modified(u64 q)
 {
-    if (q <= 300000) return q;
-    if (q <= 800000) return up(52 * q + 14400000, 100);
+    if (q <= 3000000) return q;
+    if (q <= 8000000) return up(52 * q + 144000000, 100);
     return up(7 * q, 10);
 }
 
@@ -103,12 +103,12 @@ u64 OF(job)(const Site *s, const Frame *f, const u64 *w, u64 n, const u64 *h, u6
     u64 a = between(COLUMNS_A, fa, ss) * ss, b = between(COLUMNS_V, fv, s1) * s1;
     u64 am = between(COLUMNS_A, fa, ms) * ms, bm = between(COLUMNS_V, fv, m1) * m1;
     u64 ap = between(COLUMNS_A, fa, ps) * ps, bp = between(COLUMNS_V, fv, p1) * p1;
-    u64 design = (2 * f->r + 100) * 10000, mce = 3 * f->r * 10000;
-    u64 q = up(spectrum(a, b, T) * 1000000, lower_factor(a, b, T, design, f->r - 25, 75));
-    u64 qm = up(spectrum(am, bm, T) * 1000000, lower_factor(am, bm, T, mce, f->r - 50, 50));
+    u64 design = (2 * f->r + 100) * 100000, mce = 3 * f->r * 100000;
+    u64 q = up(spectrum(a, b, T) * 10000000, lower_factor(a, b, T, design, f->r - 25, 75));
+    u64 qm = up(spectrum(am, bm, T) * 10000000, lower_factor(am, bm, T, mce, f->r - 50, 50));
     u64 p = blended(spectrum(ap, bp, T), upper_factor(ap, bp, T, design, f->r - 25, 75));
-    u64 v = up(f->i * modified(q) * W, 1400 * f->alpha_y), vm = up(f->i * modified(qm) * W, 1400 * f->alpha_y);
-    u64 star = up(f->i * p * W, 4200 * f->alpha_y), vd = v > vm ? v : vm;
+    u64 v = up(f->i * modified(q) * W, 14000 * f->alpha_y), vm = up(f->i * modified(qm) * W, 14000 * f->alpha_y);
+    u64 star = up(f->i * p * W, 42000 * f->alpha_y), vd = v > vm ? v : vm;
     if (star > vd) vd = star;
     u64 ft = up(roof_part(T) * vd, 100000), px = 0, above = 0;
     for (size_t x = n; x-- > 0;) {

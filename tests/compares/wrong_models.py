@@ -1,5 +1,5 @@
-"""01's 'Errors that look right', some of the Basin, some of two pairs of near-fault factors, some of the roof force and some of the shear
-call and the distribution, each put into the model: how many of the comparisons with the compiled core show it, and of the last how many of
+"""01's 'Errors that look right', some of the Basin, some of two pairs of near-fault factors, some of the roof force, some of the finer unit and some
+of the shear call and the distribution, each put into the model: how many of the comparisons with the compiled core show it, and of the last how many of
 the stored cases of crates/run_calls.
 
 usage: python3 -m tests.compares.wrong_models [JOBS [SEED]]        after tests/compares/compare.py has built the archive
@@ -20,10 +20,11 @@ from tests.draws import faults, pair_faults
 from tests.draws.plain_jobs import draw, draw_basin, draw_pairs, draw_site, lengths
 from tests.draws.roof import period_strata
 from tests.draws.sample import draw_in
-from tests.model import basin as basins, limits, response, site as sites, storeys
+from tests.model import basin as basins, calls as model_calls, limits, response, shears, site as sites, storeys
 from tests.writes import call_cases
 
 JOBS, SEED = 10_000, 1
+MILLIONTHS = 10**6
 
 
 def rounded_corner(A, B):
@@ -128,6 +129,31 @@ def two_roundings(T, V_D):
     return 0 if T <= 700 else ceil(min(Fraction(ceil(Fraction(7 * T, 1_000)), 100), Fraction(1, 4)) * V_D)
 
 
+def to_millionths(right):
+    """A figure of the model, whose last number is its unit, rounded to millionths and then written in the unit."""
+    return lambda *numbers: numbers[-1] // MILLIONTHS * right(*numbers[:-1], MILLIONTHS)
+
+
+def ratio_in_millionths(Sa, F, s, right=response.ratio):
+    """q to a whole millionth."""
+    return s // MILLIONTHS * right(Sa, F, MILLIONTHS)
+
+
+def thresholds_of_millionths(q, s, right=response.modified_ratio):
+    """300,000, 800,000 and 144,000 kept."""
+    return right(q, MILLIONTHS)
+
+
+def divisor_of_millionths(s, divided_by=Fraction(14, 10), right=shears.divisor):
+    """1400, 4200 and 3500 kept."""
+    return right(MILLIONTHS, divided_by)
+
+
+def all_in_millionths(ground, frame, W, h, s, right=model_calls.base_figures):
+    """The unit as it was."""
+    return right(ground, frame, W, h, MILLIONTHS)
+
+
 ERRORS = {
     'the lower factor used in V*': [(response, 'upper_factor', response.lower_factor)],
     'near-fault factors left in V*': [(sites, 'star', sites.design)],
@@ -162,6 +188,17 @@ ROOF_ERRORS = {
     'no quarter': [(storeys, 'F_t', without_quarter)],
     'the quarter taken of what is left': [(storeys, 'F_t', quarter_of_the_rest)],
     'two roundings': [(storeys, 'F_t', two_roundings)],
+}
+
+
+UNIT_ERRORS = {
+    'everything left in millionths': [(model_calls, 'base_figures', all_in_millionths)],
+    'the thresholds of millionths': [(response, 'modified_ratio', thresholds_of_millionths)],
+    'the divisors of millionths': [(shears, 'divisor', divisor_of_millionths)],
+    'the spectrum to millionths': [(response, 'spectrum', to_millionths(response.spectrum))],
+    'the lower root to millionths': [(response, 'lower_root', to_millionths(response.lower_root))],
+    'the upper root to millionths': [(response, 'upper_root', to_millionths(response.upper_root))],
+    'q to millionths': [(response, 'ratio', ratio_in_millionths)],
 }
 
 
@@ -213,6 +250,13 @@ def roof_calls(rng, count):
         yield (*inputs, lengths(rng, inputs.weights))
 
 
+def unit_calls(rng, count):
+    """Accepted jobs on sites, in the Basin and with two pairs by turns."""
+    for number in range(count):
+        ground, frame, weights, heights = draw(rng, (draw_site, draw_basin, draw_pairs)[number % 3])
+        yield ground, frame, weights, heights, lengths(rng, weights)
+
+
 DISTRIBUTION_ERRORS = {
     **wrong_calls.DISTRIBUTION_ERRORS,
     'a roof force at every period': ROOF_ERRORS['a roof force at every T'],
@@ -238,7 +282,7 @@ def unseen_stored(kind, where, errors):
 
 
 def main(jobs=JOBS, seed=SEED):
-    """Try the errors on sites, those of the Basin, of two pairs, of the roof force and of the two calls; 1 where one is not seen at all."""
+    """Try the errors on sites, those of the Basin, of two pairs, of the roof force, of the finer unit and of the two calls; 1 where one is not seen at all."""
     count = unseen_stored(call_cases.Shear, 'stored shear calls', wrong_calls.SHEAR_ERRORS)
     count += unseen_stored(call_cases.Distribution, 'stored distributions', DISTRIBUTION_ERRORS)
     rng, library = random.Random(seed), core.load()
@@ -247,6 +291,7 @@ def main(jobs=JOBS, seed=SEED):
             (basin_calls, got_job, expected_job, 'in the Basin', BASIN_ERRORS),
             (pair_calls, got_job, expected_job, 'with two pairs', PAIR_ERRORS),
             (roof_calls, got_job, expected_job, 'at the ends of the roof force', ROOF_ERRORS),
+            (unit_calls, got_job, expected_job, 'in the finer unit', UNIT_ERRORS),
             (wrong_calls.shear_calls, core.shear_call, expected_shear, 'shear calls', wrong_calls.SHEAR_ERRORS),
             (wrong_calls.distributions, got_distribution, expected_distribution, 'distributions', DISTRIBUTION_ERRORS)):
         drawn = list(calls(rng, jobs))

@@ -154,8 +154,8 @@ def excesses(rows, call):
 def check(job, digits=DIGITS):
     """Assert demand 3 for base and storey shears; the excess of printed over exact as `Shears`.
 
-    None is below; a base shear exceeds by less than "six ten-millionths of I*W/(1.4*alpha-y) plus one newton", a storey shear by less than
-    "two more".
+    None is below; a base shear exceeds by less than "six ten-millionths of I*W/(1.4*alpha-y) plus one newton", a storey shear by
+    less than "two more".
     """
     below, above = bounds(job, digits)
     margin = base_margin(job) + 2

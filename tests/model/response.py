@@ -1,7 +1,7 @@
 """Period, spectrum, roots, reduction factor and modified ratio; figures in the unit 1/s.
 
-Document 01 words them in millionths; by Wish 7 "spectrum, reduction factors and roots are to be answered in ten-millionths, the ratio and
-everything above following, thresholds scaled alike". The quotes of 01 below are read with the unit in place of its 10^6.
+Document 01 words them in millionths; by Wish 7 of 02 "spectrum, reduction factors and roots are to be answered in ten-millionths, the
+ratio and everything above following, thresholds scaled alike". The quotes of 01 below are read with the unit s in place of its 10^6.
 """
 
 from fractions import Fraction

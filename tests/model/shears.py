@@ -33,7 +33,7 @@ def respond(A, B, capacity_and_square, T, s=response.UNIT):
 
 
 def divisor(s=response.UNIT, divided_by=Fraction(14, 10)):
-    """The 14000 of "I*m*W/(14000*alpha-y)": 1.4 times the unit of m, over 1000 N in a kN; the 42000 of V*, "35000 for 42000 in the Basin", likewise."""
+    """The 14000 of "I*m*W/(14000*alpha-y)": 1.4 times the unit of m, over 1000 N in a kN; "42000" and "35000" of V* likewise."""
     return divided_by * s / 1000
 
 

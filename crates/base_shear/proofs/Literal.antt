@@ -1,4 +1,5 @@
--- The shears in the unit in use, in document 02's own numbers: I·m·W/(14000·alpha-y) and I·p·W/(42000·alpha-y), in the Taipei Basin I·p·W/(35000·alpha-y).
+-- The shears in the unit in use, in document 02's own numbers: I·m·W/(14000·alpha-y) and I·p·W/(42000·alpha-y), in the Taipei Basin
+-- I·p·W/(35000·alpha-y).
 -- Assumes nothing.
 use mathlib.Core.Path.{_≡_, refl, ap₂, _∙_}
 use Prim.Native.Nat.{ℕ, _*_, _<_}

@@ -28,3 +28,4 @@ pub mod JobNumbers
 pub mod SharpMargin
 pub mod SharpHanded
 pub mod WrongCores
+pub mod Finer

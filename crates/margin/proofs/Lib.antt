@@ -11,3 +11,6 @@ pub mod Reached
 pub mod MovesWithRoot
 pub mod RootFractions
 pub mod Literal
+pub mod FinerStages
+pub mod RisesWithBase
+pub mod Finer

@@ -1,4 +1,5 @@
--- The modified ratio in ten-millionths, and p of V*, in document 02's own numbers.
+-- The modified ratio in ten-millionths: document 01's thresholds, 300,000 and 800,000 millionths, and its 144,000, 'scaled alike' by document 02;
+-- and p of V* in 01's own numbers, which have no unit.
 -- Assumes nothing.
 use mathlib.Core.Path.{_≡_, refl, sym, ap₂, _∙_}
 use Prim.Native.Nat.{ℕ, _+_, _*_, _≤_, _<_}
@@ -10,7 +11,7 @@ use Rattle.site.specs.Hazards.{lines}
 use Rattle.response.specs.Unit.{unit}
 use Rattle.response.specs.Ratio.{bent, modified, blended}
 
--- 'Up to 3,000,000: q.'
+-- 'Up to 300,000: q.', scaled
 pub modified-first : (q : ℕ) → q ≤ 3_000_000 → modified unit lines q ≡ q
 unfolding modified bent
 modified-first q h =
@@ -18,7 +19,7 @@ modified-first q h =
     (λ _. sym (up-at (1000 * q) 1000 q (omega arith) (omega arith) (omega arith)))
     (λ k. absurd (omega arith))
 
--- 'Up to 8,000,000: 0.52·q + 1,440,000, up.'
+-- 'Up to 800,000: 0.52·q + 144,000, up.', scaled
 pub modified-second : (q : ℕ) → 3_000_000 < q → q ≤ 8_000_000 → modified unit lines q ≡ up (52 * q + 144_000_000) 100
 unfolding modified bent
 modified-second q h k =
