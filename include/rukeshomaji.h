@@ -30,7 +30,8 @@ extern "C" {
 /* Three numbers name what you link; the functions at the end of this page give those of the library. Version: 1,000,000 times the major
  * number, 1,000 times the minor one, and the last. A struct or a declaration changes only when the major number changes: a program that was
  * compiled with a header of another major number may call rukeshomaji_version, which never changes, and nothing else. Edition: the year of
- * the code. Source: the state of the rules, which goes up by one whenever any call answers differently. */
+ * the code. Source: the state of the rules, which goes up by one whenever any call answers differently; it is 5 since spectrum, roots, factors
+ * and ratios are worked out in ten-millionths (2.3.0). */
 #define RUKESHOMAJI_VERSION 2003000
 #define RUKESHOMAJI_EDITION 2005
 #define RUKESHOMAJI_SOURCE 5
