@@ -311,7 +311,7 @@ def spectrum_rows(worked):
     (branch, Sa), (same_branch, Sa_M) = (spectrum_cells(figures, worked.T) for figures in (worked.design, worked.mce))
     assert branch == same_branch and worked.star[:4] == worked.design[:4]
     return [('T0 by Table 4, ms', T0), ('0.2 · T0, 0.6 · T0, 2.5 · T0', ends), ('B of V and V*, 10⁻⁸ g', B), ('B of V_M, 10⁻⁸ g', B_M),
-            ('branch of the spectrum (10), (15)', branch), ('Sa of V and V*', Sa), ('Sa of V_M', Sa_M)]
+            ('branch of the spectrum (10), (15)', branch), ('Sa of V and V*, 10⁻⁷ g', Sa), ('Sa of V_M, 10⁻⁷ g', Sa_M)]
 
 
 def shear_rows(worked):

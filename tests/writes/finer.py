@@ -10,8 +10,9 @@ from tests.writes import by_hand
 from tests.writes.by_hand import code, comma, decimal, table
 
 BEFORE, NOW = 10**6, response.UNIT
-PERIODS = range(60, 86)         # of the picture
+PERIODS = range(60, 91)         # of the picture
 SHOWN = range(76, 86)           # of the table
+ON_A_SLOPE = 492                # an R with which V changes by more than a step each millisecond
 BY_HAND = (83, 84)
 UNITS = {BEFORE: '10⁻⁶', NOW: '10⁻⁷'}
 
@@ -46,10 +47,20 @@ def unit_in_newtons(worked, s):
 def check_steps(worked):
     """What the page says of the steps."""
     before, now, exacts = shears(worked, BEFORE), shears(worked, NOW), [exact_shear(worked, T) for T in PERIODS]
-    assert all(0 < step < 2 for step in steps(exacts)) and all(step >= 0 for step in (*steps(before), *steps(now)))
+    assert all(0 < step < 1 for step in steps(exacts)) and all(step >= 0 for step in (*steps(before), *steps(now)))
     assert all(old >= new for old, new in zip(before, now))
-    assert {step for step in steps(now)} == {0, 1, 2} and {step for step in steps(before)} == {0, 3, 4}
+    assert set(steps(now)) == {0, 1, 2} and set(steps(before)) == {0, 3, 4}
     return before, now, exacts
+
+
+def on_a_slope(worked):
+    """By how much V rises from one period to the next with another R: least and most, exact, before and now."""
+    other = worked._replace(frame=worked.frame._replace(R=ON_A_SLOPE))
+    rises = [[-step for step in steps(values)] for values in ([exact_shear(other, T) for T in PERIODS], shears(other, BEFORE), shears(other, NOW))]
+    assert all(step > unit_in_newtons(worked, BEFORE) for step in rises[0])
+    (low, high), *printed = [(min(each), max(each)) for each in rises]
+    return {'slope_R': by_hand.hundredths(ON_A_SLOPE), 'slope_exact': f'{decimal(low, 1)} to {decimal(high, 1)}',
+            **{f'slope_{name}': f'{least} to {most}' for name, (least, most) in zip(('before', 'now'), printed)}}
 
 
 def longest_run(values):
@@ -70,14 +81,15 @@ def step_rows(worked):
             V = at_period(worked, T, s).V
             cells += [comma(V), comma(at_period(worked, T - 1, s).V - V), decimal(V - exact_shear(worked, T), 1)]
         rows.append(cells)
-    return table(('T, ms', 'exact V, N', 'V before, N', 'falls by', 'above the exact V by', 'V now, N', 'falls by', 'above the exact V by'), rows)
+    return table(('T, ms', 'exact V, N', 'V before, N', 'less than 1 ms earlier by, N', 'above the exact V by, N',
+                  'V now, N', 'less than 1 ms earlier by, N', 'above the exact V by, N'), rows)
 
 
 def by_hand_table(worked):
     """Each step of V at two neighbouring periods in both units."""
     columns = [(T, s, at_period(worked, T, s)) for s in (BEFORE, NOW) for T in BY_HAND]
-    rows = [['A, 10⁻⁸ g'], ['T0, ms'], ['Sa = A · (0.4 + 3 · T / T0), up'], ['root, down'], ['y = (T − 0.2 · T0) / (0.2 · T0)'],
-            ['factor = root + (root − 1) · y, down'], ['q = Sa / factor, up'], ['m = 0.52 · q + 0.144, up'], ['V = I · m · W / (1.4 · alpha-y), up']]
+    rows = [['Sa = A · (0.4 + 3 · T / T0), up'], ['root²'], ['root, down'], ['y = (T − 0.2 · T0) / (0.2 · T0)'],
+            ['factor = root + (root − 1) · y, down'], ['q = Sa / factor, up'], ['m = 0.52 · q + 0.144, up'], ['V, up']]
     for T, s, result in columns:
         figures, T0 = result.design, result.design.T0
         y = Fraction(5 * T, 1) / T0 - 1
@@ -86,9 +98,18 @@ def by_hand_table(worked):
         q, m = Fraction(s * figures.spectrum, figures.lower_factor), Fraction(52 * result.q, 100) + Fraction(144 * s, 1000)
         V = result.m * unit_in_newtons(worked, s)
         assert 3 * s < 10 * result.q <= 8 * s
-        cells = (comma(figures.A), decimal(T0, 2), by_hand.rounded(Sa, 'up', figures.spectrum), f'**{comma(root)}**', f'−{decimal(-y, 6)}',
-                 by_hand.rounded(factor, 'down', figures.lower_factor), by_hand.rounded(q, 'up', result.q), by_hand.rounded(m, 'up', result.m),
-                 by_hand.rounded(V, 'up', result.V) + ' N')
+        digits = len(str(s)) - 1
+        in_ones = [f'{each // s}.{each % s:0{digits}}' for each in (root, root + 1)]
+        squares = [decimal(Fraction(each**2, s**2), 8) for each in (root, root + 1)]
+        divisor = 14 * s // 10_000
+        cells = (f'{comma(figures.A)} · (0.4 + 3 · {T} / {decimal(T0, 2)}) / {10**8 // s} = {by_hand.rounded(Sa, "up", figures.spectrum)}',
+                 decimal(Fraction(worked.frame.R - 25, 75), 8),
+                 f'{in_ones[0]}² = {squares[0]}, {in_ones[1]}² = {squares[1]}: **{comma(root)}**', f'−{decimal(-y, 6)}',
+                 f'{comma(root)} + ({comma(root)} − {comma(s)}) · y = {by_hand.rounded(factor, "down", figures.lower_factor)}',
+                 f'{comma(figures.spectrum)} · {comma(s)} / {comma(figures.lower_factor)} = {by_hand.rounded(q, "up", result.q)}',
+                 f'0.52 · {comma(result.q)} + {comma(144 * s // 1000)} = {by_hand.rounded(m, "up", result.m)}',
+                 f'{worked.frame.I} · {comma(result.m)} · {comma(worked.W)} / ({comma(divisor)} · {worked.frame.alphay}) = '
+                 f'{by_hand.rounded(V, "up", result.V)} N')
         for row, cell in zip(rows, cells):
             row.append(cell)
     return table(('', *(f'{T} ms, in {UNITS[s]}' for T, s, _ in columns)), rows)
@@ -114,7 +135,10 @@ def names(data, others):
     before, now, exacts = check_steps(worked)
     frame, jump = worked.frame, max(steps(before))
     falls = decimal(exacts[0] - exacts[-1], 1)
-    return {'sheet': code(data.decode().splitlines()), 'steps_table': step_rows(worked), 'hand_table': by_hand_table(worked),
+    same = [str(T) for T, one, other in zip(PERIODS, before, now) if one == other]
+    assert same == [str(T) for T in range(int(same[0]), int(same[-1]) + 1)]
+    return {**on_a_slope(worked), 'alike': ' and '.join(same), 'height': str(max(before) + 2 - (min(map(int, exacts)) - 2)), 'about': comma(round(min(now), -2)),
+            'sheet': code(data.decode().splitlines()), 'steps_table': step_rows(worked), 'hand_table': by_hand_table(worked),
             'examples_table': example_rows(others | {'light_frame.sheet': worked}),
             'first': str(PERIODS[0]), 'last': str(PERIODS[-1]), 'falls': falls, 'same': str(longest_run(before)), 'jump': str(jump),
             'jump_now': str(max(steps(now))), 'most_before': decimal(max(one - other for one, other in zip(before, exacts)), 1),

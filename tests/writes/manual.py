@@ -106,7 +106,7 @@ def rounding_names():
                            decimal(margin + 2)))
     return {'ten_millionth': ten_millionth, 'V_printed': comma(other.V), 'margin': decimal(6 * unit + 1), **heaviest(),
             'V_steps': table(('', 'q, 10⁻⁷', 'V, N', 'added, N'), rows),
-            'shears_table': table(('', '', 'printed', 'exact', 'above it by', 'less than'), shears), **alone(worked)}
+            'shears_table': table(('', '', 'printed, N', 'exact, N', 'above it by, N', 'margin, N'), shears), **alone(worked)}
 
 
 def heaviest():
@@ -115,7 +115,7 @@ def heaviest():
     W, I, alphay = limits.LEVELS[-1] * limits.WEIGHT[-1], limits.I_VALUES[-1], limits.ALPHA_Y[0]
     unit = Fraction(I * W * 1000 * 10, 14 * alphay)
     most = Fraction(7, 10) * Fraction(limits.S_S_MCE[-1] * limits.N_A[-1], 10**4) * unit
-    return {'heaviest': comma(round(6 * unit / response.UNIT)), 'most_V_D': comma(int(most))}
+    return {'heaviest': decimal(6 * unit / response.UNIT), 'most_V_D': comma(int(most))}
 
 
 def alone(worked):

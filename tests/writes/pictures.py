@@ -59,6 +59,10 @@ class Picture:
         """An open circle."""
         self.parts.append(f'<circle cx="{at(x)}" cy="{at(y)}" r="5" fill="#ffffff" stroke="{colour}" stroke-width="2"/>')
 
+    def wide_ring(self, x, y, colour):
+        """An open circle that is seen around a filled one."""
+        self.parts.append(f'<circle cx="{at(x)}" cy="{at(y)}" r="8" fill="#ffffff" stroke="{colour}" stroke-width="2"/>')
+
     def bar(self, x, y, width, height, colour, opacity=''):
         """A filled rectangle."""
         seen = f' fill-opacity="{opacity}"' if opacity else ''
@@ -427,25 +431,26 @@ def steps():
     worked = by_hand.read(LIGHT_FRAME.read_bytes())
     before, now, exacts = finer.check_steps(worked)
     first, last, lowest, highest = finer.PERIODS[0], finer.PERIODS[-1], min(map(int, exacts)) - 2, max(before) + 2
+    on_line = Fraction(8, 10)       # how much of a millisecond is drawn behind a mark
     picture = Picture(960, 600, 'V of a light frame at neighbouring periods, in millionths and in ten-millionths')
     axes = Axes(picture, (130, 70, 930, 520), last + 1 - first, highest - lowest)
     axes.frame('period T (ms)', '', [(T - first, str(T)) for T in range(first, last + 1, 5)],
                [(N - lowest, f'{N:,}') for N in range(lowest + -lowest % 5, highest, 5)])
     picture.words(120, 62, 'V (N)', anchor='end')
     axes.curve([(T - first, V - lowest) for T, V in zip(finer.PERIODS, exacts)], GREY, '3 5')
-    for values, colour, mark in ((before, RED, picture.ring), (now, BLUE, picture.dot)):
+    drawn = ((before, 'up to 2.2.0, in millionths', RED, picture.wide_ring), (now, 'since 2.3.0, in ten-millionths', BLUE, picture.dot))
+    for place, (values, words, colour, mark) in enumerate(drawn):
         for T, V in zip(finer.PERIODS, values):
             x, y = axes.point(T - first, V - lowest)
-            right, _ = axes.point(T + 1 - first, 0)
+            right, _ = axes.point(T + on_line - first, 0)
             picture.line([(x, y), (right, y)], colour, 2)
             mark(x, y, colour)
-    for place, (words, colour, mark) in enumerate((('before, in millionths', RED, picture.ring), ('now, in ten-millionths', BLUE, picture.dot))):
         y = 104 + 28 * place
-        picture.line([(640, y - 6), (676, y - 6)], colour, 2)
-        mark(640, y - 6, colour)
-        picture.words(688, y, words, size=16)
-    picture.line([(640, 154), (676, 154)], GREY, 3, '3 5')
-    picture.words(688, 160, 'exact', size=16)
+        picture.line([(580, y - 6), (616, y - 6)], colour, 2)
+        mark(580, y - 6, colour)
+        picture.words(628, y, words, size=16)
+    picture.line([(580, 154), (616, 154)], GREY, 3, '3 5')
+    picture.words(628, 160, 'exact', size=16)
     picture.words(130, 36, f'A light frame of {worked.W:,} kN, R = {decimal(Fraction(worked.frame.R, 100), 2)}: V at neighbouring periods', size=19, weight='bold')
     return picture.svg()
 

@@ -6,7 +6,7 @@ What the page says in words is asserted here of the model.
 from fractions import Fraction
 from math import ceil
 
-from tests.model import limits, response, sheet, storeys
+from tests.model import calls, limits, response, sheet, storeys
 from tests.model.job import job
 from tests.writes import by_hand
 from tests.writes.by_hand import code, comma, decimal, table
@@ -85,7 +85,8 @@ def low(worked):
     check_moves(worked)
     assert worked.F_t == 0 and worked.T <= NONE_UP_TO
     top, forces, _, moments = by_the_text(worked)
-    return {'low_T': comma(worked.T), 'low_V_D': comma(worked.V_D), 'low_count': str(len(worked.heights)),
+    then = calls.base_figures(worked.ground, worked.frame, worked.W, worked.heights[-1], 10**6)
+    return {'low_T': comma(worked.T), 'low_V_D': comma(worked.V_D), 'low_V_D_then': comma(then.V_D), 'low_count': str(len(worked.heights)),
             'low_h': decimal(Fraction(worked.heights[-1], 10)),
             'low_steps': code([text_step(worked, top), f'now:    T = {comma(worked.T)} ms is not above {NONE_UP_TO} ms: F_t = 0 N']),
             'low_table': both_rules(worked, reversed(range(len(worked.heights)))),

@@ -28,7 +28,7 @@ fn number(n: u64) {
     io::print_decimal(STDOUT_FILENO, n);
 }
 
-// A square's lower and upper root, in millionths.
+// A square's lower and upper root, in the unit.
 fn roots(square: Fraction)
     requires { ⌜ (0 < square .num) × (0 < square .den) × (square .den ≤ 1000) × (square .num ≤ 11 * square .den) ⌝ }
 {
@@ -36,7 +36,7 @@ fn roots(square: Fraction)
     number(upper_root(UNIT, square.num, square.den));
 }
 
-// A capacity, rounded down and up to millionths.
+// A capacity, rounded down and up to the unit.
 fn capacity(c: Fraction)
     requires { ⌜ (0 < c .den) × (c .num ≤ 2000) ⌝ }
 {

@@ -19,7 +19,7 @@ LIGHT_FIGURES = {
     (TEN_MILLIONTHS, 83): (6_741_334, 25_006_665, 21_071_583, 3_199_254, 3_103_613, 997_590),
     (TEN_MILLIONTHS, 84): (6_784_000, 25_006_665, 21_204_976, 3_199_250, 3_103_610, 997_589),
 }
-MOST_RISE = 2       # of a force, which is a difference of two shears
+MOST_RISE = 1       # of a force below the roof, which is a difference of two shears
 
 
 def light(s, T):
@@ -31,7 +31,7 @@ def light(s, T):
 
 
 def larger(inputs):
-    """What is larger in ten-millionths than in millionths, and forces that are larger by more than a newton or two."""
+    """What is larger in ten-millionths than in millionths, and forces that are larger by more than a newton."""
     now, before = (job(*inputs, s=s) for s in (TEN_MILLIONTHS, MILLIONTHS))
     found = [name for name in ('V', 'V_M', 'V_star', 'V_D') if getattr(now, name) > getattr(before, name)]
     found += [name for name in ('shears', 'moments') if any(one > other for one, other in zip(getattr(now, name), getattr(before, name)))]
