@@ -107,16 +107,17 @@ def product_strata():
 
 
 def light_frame():
-    """Up to two levels and 2,000 kN, T below 0.2 T0 and R near 4.94, where V hardly moves with T: what users saw in steps."""
+    """Up to two levels, 6 m and 2,000 kN, T below 0.2 T0, R of 4.70 to 5.20: what users saw in steps. On a site V hardly moves with T at 4.94."""
     def reach(inputs):
-        """A low frame."""
+        """A low frame; the period as drawn, or 14*t/10 where that cuts it."""
         A, B, _ = made_by(inputs.ground).hazard('design', inputs.ground, inputs.frame.R)
-        frame = inputs.frame._replace(kind=4, R=470 + inputs.frame.R % 51)
+        period = 1 + inputs.frame.calculated_period % int(response.corner(A, B) / 5)
+        frame = inputs.frame._replace(kind=4, R=470 + inputs.frame.R % 51, calculated_period=period)
         weights = [1 + weight % 1_000 for weight in inputs.weights[:2]]
-        heights = [30 * (i + 1) for i in range(len(weights))]
-        return with_period(Inputs(inputs.ground, frame, weights, heights), 1 + inputs.frame.calculated_period % int(response.corner(A, B) / 5))
+        return Inputs(inputs.ground, frame, weights, [30 * (i + 1) for i in range(len(weights))])
 
-    return Stratum('a light frame, T below 0.2 T0, R near 4.94', reach, lambda job: job.W <= 2_000 and 5 * job.T <= job.design.T0)
+    return Stratum('a light frame, T below 0.2 T0, R of 4.70 to 5.20', reach,
+                   lambda job: job.W <= 2_000 and job.heights[-1] <= 60 and 470 <= job.frame.R <= 520 and 5 * job.T <= job.design.T0)
 
 
 def rare_strata():

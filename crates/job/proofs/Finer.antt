@@ -1,5 +1,5 @@
--- What a job answers in ten-millionths is not above what it would answer in millionths: V, V_M, V*, V_D and the shear of every storey. So an
--- older listing, of the same job in millionths, is not below.
+-- What a job answers in ten-millionths is not above what it would answer in millionths: V, V_M, V*, V_D and the shear of every storey. So the
+-- shears of an older listing, of the same job in millionths, are not below.
 --   inMillionths g W h    the five figures of a building in millionths
 --   NotAbove n m          V, V_M, V* and V_D of n are at most those of m
 -- Assumes nothing.

@@ -1,4 +1,4 @@
--- The exact chain in document 01's own numbers: m, the newtons, the margin, the storeys. The spectrum and the factor stand so in
+-- The exact chain in document 01's own numbers: m, the newtons, the margin, this in document 02's too, the storeys. The spectrum and the factor stand so in
 -- their definitions. That the factor's sign is never a minus is `factor-natural`, that p is the factor times m of the spectrum
 -- over the factor `blended-is-modified`, both of response/proofs/Exact.antt.
 -- Assumes nothing.
@@ -12,12 +12,13 @@ use Rattle.limits.specs.declared.frame.Frame.{Frame}
 use Rattle.site.specs.Hazards.{lines}
 use Rattle.site.specs.declared.hazard.Hazards.{Hazards}
 use Rattle.response.specs.Ratio.{bent, exactModified}
+use Rattle.response.specs.Unit.{unit}
 use Rattle.base_shear.specs.Exact.{exactNewtons}
 use Rattle.storeys.specs.Exact.{exactRoofForce, rest}
 use Rattle.storeys.specs.Storeys.{RoofAtMostOne, roofPart}
 use Rattle.margin.specs.Demand3.{allowed}
 
--- 'Up to 300,000: q.'
+-- 'Up to 300,000: q.', of 10⁶
 pub exact-modified-first : (q : Fraction) → AtMost q (over 3 10) → Same (exactModified lines q) q
 unfolding bent
 exact-modified-first q h =
@@ -25,7 +26,7 @@ exact-modified-first q h =
     (λ _. omega arith)
     (λ k. absurd (omega arith))
 
--- 'Up to 800,000: 0.52·q + 144,000.'
+-- 'Up to 800,000: 0.52·q + 144,000.', of 10⁶
 pub exact-modified-second : (q : Fraction) → Less (over 3 10) q → AtMost q (over 8 10)
     → Same (exactModified lines q) (plus (times (over 52 100) q) (over 144 1000))
 unfolding bent
@@ -64,6 +65,15 @@ pub allowed-is : (s : ℕ) (k : Hazards) (f : Frame) (W : ℕ)
     (quotient (times (over (f .i) 100) (over (1000 * W) 1)) (times (over (k .divisor) 10) (over (f .alpha) 100))))
     (over 1 1))
 allowed-is s k f W = omega arith
+
+-- in the unit in use: 'six ten-millionths of I·W/(1.4·alpha-y) plus one newton'
+pub allowed-in-units : (k : Hazards) (f : Frame) (W : ℕ)
+    → Same (allowed unit k f W)
+    (plus
+    (times (over 6 10_000_000)
+    (quotient (times (over (f .i) 100) (over (1000 * W) 1)) (times (over (k .divisor) 10) (over (f .alpha) 100))))
+    (over 1 1))
+allowed-in-units = allowed-is unit
 
 -- V − F_t, as the storeys have it: what is left of V beside F_t, whatever part of V it is
 rest-beside : (t v : Fraction) → t .num ≤ t .den → Same (plus (times t v) (times (rest t) v)) v
