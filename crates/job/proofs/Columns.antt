@@ -8,7 +8,7 @@ use native.Mathlib.Omega.{arith}
 use lib.ListN.{length, take, drop, getD}
 use Rattle.whole.specs.Cells.{sum}
 use Rattle.whole.proofs.Cells.{cells-at, cells-length, laid-at, laid-part, laid-rest}
-use Rattle.storeys.specs.Storeys.{weightHeight, shearUnder, shears, force, forces, overturning}
+use Rattle.storeys.specs.Storeys.{weightHeight, shearUnder, shears, force, forces, overturning, overturnings}
 use Rattle.storeys.proofs.Chain.{shears-length, forces-length}
 use Rattle.storeys.proofs.Roof.{roof-at-most-one}
 use Rattle.storeys.proofs.Telescope.{shear-lowest, shears-fall, force-whole, forces-sum}
@@ -56,6 +56,21 @@ module _ (T v : ℕ) (ws hs : List ℕ) where
         ap (λ (d : Buffers). getD (d .shears) x 0) e
         ∙ laid-at (shears T v ws hs) (b .shears) x (omega (arith, shears-cells))
         ∙ cells-at (shearUnder T v ws hs) (length ws) x h
+
+    -- that of a force is the level's, and that of an overturning moment the one about the bottom of storey x
+    pub force-cell : (x : ℕ) → x < length ws → getD (b′ .forces) x 0 ≡ force (columnsAt T v ws hs .shears) x
+    force-cell x h =
+        let us = shears T v ws hs in
+        ap (λ (d : Buffers). getD (d .forces) x 0) e
+        ∙ laid-at (forces us) (b .forces) x (omega (arith, forces-cells))
+        ∙ cells-at (force us) (length us) x (omega (arith, shears-cells))
+
+    pub overturning-cell : (x : ℕ) → x < length ws → getD (b′ .overturnings) x 0 ≡ overturning (columnsAt T v ws hs .forces) hs x
+    overturning-cell x h =
+        let fs = columnsAt T v ws hs .forces in
+        ap (λ (d : Buffers). getD (d .overturnings) x 0) e
+        ∙ laid-at (overturnings fs hs) (b .overturnings) x (omega (arith, overturnings-cells))
+        ∙ cells-at (overturning fs hs) (length fs) x (omega (arith, forces-cells))
 
     -- ---- the storeys, in the cells that were written
     abbrev pub forcesOut : List ℕ

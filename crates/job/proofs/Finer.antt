@@ -1,11 +1,13 @@
--- What a job answers in ten-millionths is not above what it would answer in millionths: V, V_M, V*, V_D and the shear of every storey. So the
--- shears of an older listing, of the same job in millionths, are not below.
+-- What a job answers in ten-millionths is not above what it would answer in millionths: V, V_M, V*, V_D, the shear and the overturning moment of
+-- every storey and the force of the top level. So the shears and moments of an older listing, of the same job in millionths, are not below. A force
+-- below the top level is at most one newton above, as it is the difference of two shears that are each rounded.
 --   inMillionths g W h    the five figures of a building in millionths
+--   columnsInMillionths g T ws hs    forces, shears and overturning moments of that V_D, at the period T
 --   NotAbove n m          V, V_M, V* and V_D of n are at most those of m
 -- Assumes nothing.
 use mathlib.Core.Path.{_≡_, sym, subst}
 use mathlib.Core.List.{List}
-use Prim.Native.Nat.{ℕ, _≤_, _<_}
+use Prim.Native.Nat.{ℕ, _+_, _≤_, _<_}
 use native.Mathlib.Omega.{arith}
 use lib.ListN.{length, getD}
 use Rattle.whole.specs.Cells.{sum}
@@ -21,17 +23,18 @@ use Rattle.limits.proofs.AcceptedCalls.{given-building}
 use Rattle.response.specs.Period.{periodOf}
 use Rattle.base_shear.specs.declared.Figures.{Figures}
 use Rattle.base_shear.specs.Shears.{figuresAt}
-use Rattle.storeys.specs.Storeys.{shearUnder}
+use Rattle.storeys.specs.Storeys.{shearUnder, force, overturning}
 use Rattle.storeys.proofs.Roof.{roof-at-most-one}
 use Rattle.margin.proofs.Finer.{finer-shear-never-above, finer-star-never-above, unit-never-above-millionths}
-use Rattle.margin.proofs.RisesWithBase.{shear-rises}
+use Rattle.margin.proofs.RisesWithBase.{shear-rises, top-force-rises, force-rises-by-one}
+use Rattle.margin.proofs.OverturningRises.{overturning-rises}
 use Rattle.job.specs.declared.FiguresAnswer.the-variants.{Taken}
-use Rattle.job.specs.Distribution.{Buffers, shortest}
+use Rattle.job.specs.Distribution.{Columns, columnsAt, Buffers, shortest}
 use Rattle.job.specs.Job.{Answers}
 use Rattle.job.specs.ShearCall.{givenHazards, buildingFigures}
 use Rattle.job.proofs.Answered.{taken-accepted}
 use Rattle.job.proofs.GivenReached.{standing, given-reached, given-between}
-use Rattle.job.proofs.Storeys.{shear-cell}
+use Rattle.job.proofs.Storeys.{shear-cell, force-cell, overturning-cell}
 
 abbrev pub inMillionths : Given → ℕ → ℕ → Figures
 inMillionths g W h = figuresAt 1_000_000 (givenHazards g) (g .frame) W (periodOf (g .frame .kind) (g .frame .calculated) h)
@@ -59,6 +62,9 @@ building-not-above g W h a =
       vd = unit-never-above-millionths k f _ c (a .frame) t W;
     }
 
+abbrev pub columnsInMillionths : Given → ℕ → List ℕ → List ℕ → Columns
+columnsInMillionths g T ws hs = columnsAt T (inMillionths g (sum ws) (topHeight hs) .vd) ws hs
+
 module _ (s : GroundValues) (f : FrameValues) (ws hs : List ℕ) (b : Buffers) where
   pub record AtMostMillionths (n : Figures) (b′ : Buffers) : Type 0 where
     pub given : Given
@@ -66,6 +72,10 @@ module _ (s : GroundValues) (f : FrameValues) (ws hs : List ℕ) (b : Buffers) w
     pub figures : NotAbove n (inMillionths given (sum ws) (topHeight hs))
     pub shears : (x : ℕ) → x < length ws
         → getD (b′ .shears) x 0 ≤ shearUnder (n .t) (inMillionths given (sum ws) (topHeight hs) .vd) ws hs x
+    pub overturnings : (x : ℕ) → x < length ws
+        → getD (b′ .overturnings) x 0 ≤ overturning (columnsInMillionths given (n .t) ws hs .forces) hs x
+    pub forces : (x : ℕ) → x < length ws → getD (b′ .forces) x 0 ≤ force (columnsInMillionths given (n .t) ws hs .shears) x + 1
+    pub top-force : (x : ℕ) → x + 1 ≡ length ws → getD (b′ .forces) x 0 ≤ force (columnsInMillionths given (n .t) ws hs .shears) x
 
   -- the one premise is that it answered with figures
   pub job-not-above : (n : Figures) (b′ : Buffers) → Answers s f ws hs b (Taken n) b′ → AtMostMillionths n b′
@@ -74,7 +84,10 @@ module _ (s : GroundValues) (f : FrameValues) (ws hs : List ℕ) (b : Buffers) w
       let g = t .given in
       let all = given-allowed s f ws hs (shortest b) g (t .judged) .0 in
       let m = inMillionths g (sum ws) (topHeight hs) in
+      let c = columnsInMillionths g (n .t) ws hs in
       let least = subst (λ (k : Figures). NotAbove k m) (sym (t .figures)) (building-not-above g _ _ (given-building g ws hs all)) in
+      let stands = standing ws hs (all .levels) in
+      let roof = roof-at-most-one (n .t) in
       record {
         given = g;
         judged = t .judged;
@@ -82,5 +95,17 @@ module _ (s : GroundValues) (f : FrameValues) (ws hs : List ℕ) (b : Buffers) w
         shears =
             λ x h.
             subst (λ (u : ℕ). u ≤ shearUnder (n .t) (m .vd) ws hs x) (sym (shear-cell s f ws hs b n b′ a x h))
-            (shear-rises (n .t) (n .vd) (m .vd) ws hs x (roof-at-most-one (n .t)) (standing ws hs (all .levels) .positive) (least .vd));
+            (shear-rises (n .t) (n .vd) (m .vd) ws hs x roof (stands .positive) (least .vd));
+        overturnings =
+            λ x h.
+            subst (λ (u : ℕ). u ≤ overturning (c .forces) hs x) (sym (overturning-cell s f ws hs b n b′ a x h))
+            (overturning-rises (n .t) (n .vd) (m .vd) ws hs x roof (stands .positive) (stands .paired .same) (stands .rising) (least .vd));
+        forces =
+            λ x h.
+            subst (λ (u : ℕ). u ≤ force (c .shears) x + 1) (sym (force-cell s f ws hs b n b′ a x h))
+            (force-rises-by-one (n .t) (n .vd) (m .vd) ws hs x roof (stands .positive) (least .vd));
+        top-force =
+            λ x e.
+            subst (λ (u : ℕ). u ≤ force (c .shears) x) (sym (force-cell s f ws hs b n b′ a x (omega arith)))
+            (top-force-rises (n .t) (n .vd) (m .vd) ws hs x roof (stands .positive) (least .vd) (omega arith));
       }

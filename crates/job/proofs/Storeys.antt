@@ -11,7 +11,7 @@ use Rattle.limits.specs.declared.ground.GroundValues.{GroundValues}
 use Rattle.limits.proofs.Accepted.{given-allowed}
 use Rattle.base_shear.specs.declared.Figures.{Figures}
 use Rattle.storeys.specs.Reach.{Standing}
-use Rattle.storeys.specs.Storeys.{shearUnder}
+use Rattle.storeys.specs.Storeys.{shearUnder, force, overturning}
 use Rattle.job.specs.declared.FiguresAnswer.the-variants.{Taken}
 use Rattle.job.specs.Distribution.{columnsAt, Buffers, shortest, laidOver}
 use Rattle.job.specs.Job.{Answers}
@@ -50,3 +50,11 @@ module _ (s : GroundValues) (f : FrameValues) (ws hs : List ℕ) (b : Buffers) (
   -- the cell of level x is the shear under it
   pub shear-cell : (x : ℕ) → x < length ws → getD (b′ .shears) x 0 ≡ shearUnder (n .t) (n .vd) ws hs x
   shear-cell = columns.shear-cell (n .t) (n .vd) ws hs b b′ laid
+
+  -- that of a force is the level's, and that of an overturning moment the one about the bottom of storey x
+  pub force-cell : (x : ℕ) → x < length ws → getD (b′ .forces) x 0 ≡ force (columnsAt (n .t) (n .vd) ws hs .shears) x
+  force-cell = columns.force-cell (n .t) (n .vd) ws hs b b′ laid
+
+  pub overturning-cell : (x : ℕ) → x < length ws
+      → getD (b′ .overturnings) x 0 ≡ overturning (columnsAt (n .t) (n .vd) ws hs .forces) hs x
+  overturning-cell = columns.overturning-cell (n .t) (n .vd) ws hs b b′ laid

@@ -13,4 +13,5 @@ pub mod RootFractions
 pub mod Literal
 pub mod FinerStages
 pub mod RisesWithBase
+pub mod OverturningRises
 pub mod Finer
