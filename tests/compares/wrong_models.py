@@ -1,6 +1,6 @@
 """01's 'Errors that look right', some of the Basin, some of two pairs of near-fault factors, some of the roof force, some of the finer unit and some
-of the shear call and the distribution, each put into the model: how many of the comparisons with the compiled core show it, and of the last how many of
-the stored cases of crates/run_calls.
+of the shear call and the distribution, each put into the model: how many of the comparisons with the compiled core show it, and of the
+last how many of the stored cases of crates/run_calls.
 
 usage: python3 -m tests.compares.wrong_models [JOBS [SEED]]        after tests/compares/compare.py has built the archive
 """
@@ -282,7 +282,8 @@ def unseen_stored(kind, where, errors):
 
 
 def main(jobs=JOBS, seed=SEED):
-    """Try the errors on sites, those of the Basin, of two pairs, of the roof force, of the finer unit and of the two calls; 1 where one is not seen at all."""
+    """Try the errors on sites, those of the Basin, of two pairs, of the roof force, of the finer unit and of the two calls; 1 where one is not
+    seen at all."""
     count = unseen_stored(call_cases.Shear, 'stored shear calls', wrong_calls.SHEAR_ERRORS)
     count += unseen_stored(call_cases.Distribution, 'stored distributions', DISTRIBUTION_ERRORS)
     rng, library = random.Random(seed), core.load()

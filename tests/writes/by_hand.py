@@ -12,6 +12,7 @@ from tests.model.job import job
 
 UNIT = response.UNIT
 IN_A = 10**8 // UNIT             # a unit of g, in 10⁻⁸ g
+PER_MS = 1000 // IN_A            # B/(T in s) in the unit is so many times B/T
 SHEAR, STAR, BASIN_STAR = 14_000, 42_000, 35_000      # what divides V and V_M, V*, and V* in the Basin
 CLASS_NAMES = {1: 'hard', 2: 'normal', 3: 'soft'}
 COLUMNS = ('V (design)', 'V_M (MCE)', 'V* (design, N_A = N_V = 1.00)')
@@ -173,7 +174,7 @@ def spectrum_cells(figures, T):
     elif T <= T0:
         branch, text, exact = '0.2 · T0 < T ≤ T0', f'A / {IN_A} = {comma(A)} / {IN_A}', Fraction(A, IN_A)
     elif T <= T0 * 5 / 2:
-        branch, text, exact = 'T0 < T ≤ 2.5 · T0', f'{1000 // IN_A} · B / T = {1000 // IN_A} · {comma(B)} / {comma(T)}', Fraction(1000 // IN_A * B, T)
+        branch, text, exact = 'T0 < T ≤ 2.5 · T0', f'{PER_MS} · B / T = {PER_MS} · {comma(B)} / {comma(T)}', Fraction(PER_MS * B, T)
     else:
         branch, text, exact = 'T > 2.5 · T0', f'0.4 · A / {IN_A} = 0.4 · {comma(A)} / {IN_A}', Fraction(4 * A, 10 * IN_A)
     return branch, f'{text} = {rounded(exact, "up", figures.spectrum)}'

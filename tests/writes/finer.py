@@ -53,6 +53,12 @@ def check_steps(worked):
     return before, now, exacts
 
 
+def picture_ends(worked):
+    """Between which V the picture is drawn, in N."""
+    before, _, exacts = check_steps(worked)
+    return min(map(int, exacts)) - 2, max(before) + 2
+
+
 def on_a_slope(worked):
     """By how much V rises from one period to the next with another R: least and most, exact, before and now."""
     other = worked._replace(frame=worked.frame._replace(R=ON_A_SLOPE))
@@ -137,7 +143,8 @@ def names(data, others):
     falls = decimal(exacts[0] - exacts[-1], 1)
     same = [str(T) for T, one, other in zip(PERIODS, before, now) if one == other]
     assert same == [str(T) for T in range(int(same[0]), int(same[-1]) + 1)]
-    return {**on_a_slope(worked), 'alike': ' and '.join(same), 'height': str(max(before) + 2 - (min(map(int, exacts)) - 2)), 'about': comma(round(min(now), -2)),
+    lowest, highest = picture_ends(worked)
+    return {**on_a_slope(worked), 'alike': ' and '.join(same), 'height': str(highest - lowest), 'about': comma(round(min(now), -2)),
             'sheet': code(data.decode().splitlines()), 'steps_table': step_rows(worked), 'hand_table': by_hand_table(worked),
             'examples_table': example_rows(others | {'light_frame.sheet': worked}),
             'first': str(PERIODS[0]), 'last': str(PERIODS[-1]), 'falls': falls, 'same': str(longest_run(before)), 'jump': str(jump),

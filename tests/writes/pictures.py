@@ -430,7 +430,7 @@ def steps():
     """V of the light frame at neighbouring periods, in millionths and in ten-millionths, beside the exact one."""
     worked = by_hand.read(LIGHT_FRAME.read_bytes())
     before, now, exacts = finer.check_steps(worked)
-    first, last, lowest, highest = finer.PERIODS[0], finer.PERIODS[-1], min(map(int, exacts)) - 2, max(before) + 2
+    first, last, (lowest, highest) = finer.PERIODS[0], finer.PERIODS[-1], finer.picture_ends(worked)
     on_line = Fraction(8, 10)       # how much of a millisecond is drawn behind a mark
     picture = Picture(960, 600, 'V of a light frame at neighbouring periods, in millionths and in ten-millionths')
     axes = Axes(picture, (130, 70, 930, 520), last + 1 - first, highest - lowest)
@@ -451,7 +451,8 @@ def steps():
         picture.words(628, y, words, size=16)
     picture.line([(580, 154), (616, 154)], GREY, 3, '3 5')
     picture.words(628, 160, 'exact', size=16)
-    picture.words(130, 36, f'A light frame of {worked.W:,} kN, R = {decimal(Fraction(worked.frame.R, 100), 2)}: V at neighbouring periods', size=19, weight='bold')
+    title = f'A light frame of {worked.W:,} kN, R = {decimal(Fraction(worked.frame.R, 100), 2)}: V at neighbouring periods'
+    picture.words(130, 36, title, size=19, weight='bold')
     return picture.svg()
 
 

@@ -1,5 +1,6 @@
--- One newton would be too little for a base shear that is handed in: the job `tall` (SharpMargin.antt) shows it, by its V_D of 1,033 N at its T of 3,568 ms,
--- as the shear call gives them. Under its roof the distribution writes 321 N, and the exact figure from 1,033 N is 319.08 N. The definition, computed.
+-- One newton would be too little for a base shear that is handed in: the job `tall` (SharpMargin.antt) shows it, by its V_D of 1,033 N at its T
+-- of 3,568 ms, as the shear call gives them. Under its roof the distribution writes 321 N, and the exact figure from 1,033 N is 319.08 N. The
+-- definition, computed.
 -- Assumes nothing.
 use mathlib.Core.Path.{refl}
 use mathlib.Core.List.{List, [], _∷_}

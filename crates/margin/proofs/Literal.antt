@@ -1,5 +1,5 @@
--- The exact chain in document 01's own numbers: m, the newtons, the margin, this in document 02's too, the storeys. The spectrum and the factor stand so in
--- their definitions. That the factor's sign is never a minus is `factor-natural`, that p is the factor times m of the spectrum
+-- The exact chain in document 01's own numbers: m, the newtons, the margin, which stands in document 02's too, the storeys. The spectrum and the
+-- factor stand so in their definitions. That the factor's sign is never a minus is `factor-natural`, that p is the factor times m of the spectrum
 -- over the factor `blended-is-modified`, both of response/proofs/Exact.antt.
 -- Assumes nothing.
 use mathlib.Core.Path.{_≡_, ap}
