@@ -30,11 +30,11 @@ extern "C" {
 /* Three numbers name what you link; the functions at the end of this page give those of the library. Version: 1,000,000 times the major
  * number, 1,000 times the minor one, and the last. A struct or a declaration changes only when the major number changes: a program that was
  * compiled with a header of another major number may call rukeshomaji_version, which never changes, and nothing else. Edition: the year of
- * the code. Source: the state of the rules, which goes up by one whenever any call answers differently; it is 5 since spectrum, roots, factors
- * and ratios are worked out in ten-millionths (2.3.0). */
-#define RUKESHOMAJI_VERSION 2003000
+ * the code. Source: the state of the rules, which goes up by one whenever any call answers differently; it is 6 since a soil log takes soft
+ * clay by its unconfined compression strength (2.4.0). */
+#define RUKESHOMAJI_VERSION 2004000
 #define RUKESHOMAJI_EDITION 2005
-#define RUKESHOMAJI_SOURCE 5
+#define RUKESHOMAJI_SOURCE 6
 
 /* the most levels of a job or a distribution, layers of a soil log and bytes of a sheet, and the most bytes that a listing can have */
 #define RUKESHOMAJI_MOST_LEVELS 50
@@ -87,6 +87,7 @@ extern "C" {
 #define RUKESHOMAJI_MEASURED 1            /* its value is a velocity in dm/s */
 #define RUKESHOMAJI_COHESIVE 2            /* its value is N */
 #define RUKESHOMAJI_COHESIONLESS 3        /* its value is N */
+#define RUKESHOMAJI_SOFT_CLAY 4           /* its value is q, the unconfined compression strength in 0.01 kgf/cm2; since 2.4.0 */
 
 /* A site. V uses nad and nvd, V_M nam and nvm, V* none of them. With one pair for both hazard levels, set nam and nvm to the values of nad and
  * nvd; far from a fault all four are 100. */
@@ -231,8 +232,9 @@ uint64_t rukeshomaji_distribution(uint64_t base_shear, uint64_t period, const ui
 /* The site class of a soil log: the layers of the upper 30 m.
  *
  * Given      thicknesses     of the layers, cm: above 0, together 3,000; 1 to 40 layers
- *            kinds           1 measured, 2 cohesive, 3 cohesionless; as many
- *            values          measured: velocity, dm/s: 500 to 30,000; cohesive: N: 2 to 25; cohesionless: N: 1 to 50; as many
+ *            kinds           1 measured, 2 cohesive, 3 cohesionless, 4 soft clay (N below 2, which is not checked); as many
+ *            values          measured: velocity, dm/s: 500 to 30,000; cohesive: N: 2 to 25; cohesionless: N: 1 to 50;
+ *                            soft clay: q, 0.01 kgf/cm2: 1 to 400; as many
  * Returned   0, or the refusal
  * Refused    2, 13, 14, 15
  * Written    reply: all fields

@@ -27,7 +27,7 @@ from tests.writes import call_cases, log_cases, refusal_cases, vectors
 LEFT = {
     **dict.fromkeys(('DIGITS', 'low_fraction', 'high_fraction', 'squares', 'bounds', 'base_margin', 'check', 'check_distribution'),
                     'the margin, not the chain'),
-    'cube_root': 'where a search begins and how it goes; that it ends at the root is asserted',
+    'root': 'where a search begins and how it goes; that it ends at the root is asserted',
 }
 # (module, line, numeral): why the changed text means the same
 SAME = {
@@ -103,7 +103,7 @@ def judged(*case):
 
 
 def log_or_velocity(*case):
-    """What the program `run_logs` says of three lists, or of a kind and its N."""
+    """What the program `run_logs` says of three lists, or of a kind and its value."""
     return log_cases.outcome(*case) if len(case) == 3 else str(log_cases.velocity(*case))
 
 
@@ -131,7 +131,7 @@ def suites():
     """(modules, the function tried, its cases, what it is known to answer)."""
     rows = list(vector_rows())
     yield (site, basin, response, shears, storeys, exact), vector, rows, [vector(*row) for row in rows]
-    logs = [*(log_cases.lists(*case) for case in log_cases.all_cases()), *log_cases.blow_counts()]
+    logs = [*(log_cases.lists(*case) for case in log_cases.all_cases()), *log_cases.values()]
     yield (soil,), log_or_velocity, logs, answers(CRATES / 'run_logs' / 'stdout')
     jobs = [(changes,) for changes in refusal_cases.all_cases()]
     cases = call_cases.all_cases()

@@ -1,4 +1,4 @@
-"""Random soil logs: plain ones, ones whose average lies at a class limit, and bad ones."""
+"""Random soil logs: plain ones, ones whose average lies at a class limit, ones in soft clay, and bad ones."""
 
 from tests.model import soil
 
@@ -11,20 +11,41 @@ def thicknesses(rng, layers):
     return [b - a for a, b in zip([0, *cuts], [*cuts, soil.THICKNESS_SUM])]
 
 
-def plain(rng):
+def plain(rng, allowed=((1,), (2, 3), (1, 2, 3))):
     """Any kinds and values, slow, fast or mixed."""
     layers = rng.choice((1, 2, 3, 40, rng.randint(1, 40)))
     slow, fast = rng.choice(((500, 30_000), (1_500, 3_500), (1_700, 2_900), (500, 2_000), (2_500, 30_000)))
-    kinds = [rng.choice(rng.choice(((1,), (2, 3), (1, 2, 3)))) for _ in range(layers)]
+    kinds = [rng.choice(rng.choice(allowed)) for _ in range(layers)]
     values = [rng.randint(slow, fast) if kind == soil.MEASURED else rng.choice(soil.VALUE[kind]) for kind in kinds]
     return thicknesses(rng, layers), kinds, values
 
 
-def at_limit(rng):
+def soft_clay(rng):
+    """At least one layer of soft clay, among any others."""
+    while True:
+        log = plain(rng, ((4,), (1, 4), (2, 3, 4), (1, 2, 3, 4)))
+        if soil.SOFT_CLAY in log[1]:
+            return log
+
+
+def soft_clay_at_ends(rng):
+    """Soft clay alone, each q one of the ends, or one unit from them, or at and about 1 kgf/cm²."""
+    ds = thicknesses(rng, rng.choice((1, 2, 40, rng.randint(1, 40))))
+    return ds, [soil.SOFT_CLAY] * len(ds), [rng.choice((1, 2, 99, 100, 101, 399, 400)) for _ in ds]
+
+
+def soft_clay_at_limit(rng):
+    """A layer of soft clay among others, one of which is measured and set so that the average is as near to 180 or 270 m/s as can be."""
+    return at_limit(rng, soft_clay)
+
+
+def at_limit(rng, drawn=plain):
     """One measured layer's velocity set so that the average comes as near to 180 or 270 m/s as a whole dm/s allows."""
     while True:
-        ds, kinds, values = plain(rng)
+        ds, kinds, values = drawn(rng)
         layer = rng.randrange(len(ds))
+        if soil.SOFT_CLAY in kinds and soil.SOFT_CLAY not in kinds[:layer] + kinds[layer + 1:]:
+            continue
         limit = rng.choice((1_800, 2_700))
         rest = sum(10**8 * d / soil.velocity(kind, value)
                    for i, (d, kind, value) in enumerate(zip(ds, kinds, values)) if i != layer)
@@ -42,16 +63,21 @@ def exactly(rng):
     return ds, [soil.MEASURED] * len(ds), [speed] * len(ds)
 
 
-def spoilt(rng):
-    """A plain log with one to three numbers or lengths changed."""
-    lists = list(plain(rng))
+def soft_clay_spoilt(rng):
+    """A log with soft clay in it, with one to three numbers or lengths changed."""
+    return spoilt(rng, soft_clay)
+
+
+def spoilt(rng, drawn=plain):
+    """A log with one to three numbers or lengths changed."""
+    lists = list(drawn(rng))
     for _ in range(rng.choice((1, 1, 2, 3))):
         which = rng.randrange(3)
         if rng.random() < 0.3 or not lists[which]:
             lists[which] = lists[which] * rng.randrange(3) + [1] * rng.randrange(2)
             continue
         place = rng.randrange(len(lists[which]))
-        near = rng.choice((0, 1, 2, 3, 4, 25, 26, 50, 51, 499, 500, 30_000, 30_001, 3_000, MOST, rng.randrange(4_000)))
+        near = rng.choice((0, 1, 2, 3, 4, 5, 25, 26, 50, 51, 400, 401, 499, 500, 30_000, 30_001, 3_000, MOST, rng.randrange(4_000)))
         lists[which] = [*lists[which][:place], near, *lists[which][place + 1:]]
     return tuple(lists)
 
@@ -74,10 +100,12 @@ def systematic():
         yield put(ds, layer, 0), kinds, values
         yield put(put(ds, layer, 0), (layer + 1) % 40, 150), kinds, values
         yield from ((put(ds, layer, value), kinds, values) for value in (74, 76, 75 + 2**16, 75 + 2**32, 75 + 2**63, MOST))
-        yield from ((ds, put(kinds, layer, kind), values) for kind in (0, 4, 1 + 2**16, 1 + 2**32, 1 + 2**63, MOST))
+        yield from ((ds, put(kinds, layer, kind), values) for kind in (0, 4, 5, 1 + 2**16, 4 + 2**16, 4 + 2**32, 1 + 2**32, 1 + 2**63, MOST))
         for kind, allowed in soil.VALUE.items():
             ends = (allowed[0] - 1, allowed[0], allowed[-1], allowed[-1] + 1, allowed[0] + 2**16, allowed[0] + 2**32, allowed[0] + 2**63, MOST)
             yield from ((ds, put(kinds, layer, kind), put(values, layer, value)) for value in ends)
 
 
-STRATA = {'plain': plain, 'average at 180 or 270 m/s': at_limit, 'every layer at a limit': exactly, 'spoilt': spoilt}
+STRATA = {'plain': plain, 'average at 180 or 270 m/s': at_limit, 'every layer at a limit': exactly, 'spoilt': spoilt,
+          'soft clay': soft_clay, 'soft clay at the ends of q': soft_clay_at_ends,
+          'soft clay, average at 180 or 270 m/s': soft_clay_at_limit, 'soft clay, spoilt': soft_clay_spoilt}

@@ -6,8 +6,8 @@ from typing import NamedTuple
 
 LAYERS = range(1, 40 + 1)
 THICKNESS_SUM = 3_000
-MEASURED, COHESIVE, COHESIONLESS = 1, 2, 3
-VALUE = {MEASURED: range(500, 30_000 + 1), COHESIVE: range(2, 25 + 1), COHESIONLESS: range(1, 50 + 1)}
+MEASURED, COHESIVE, COHESIONLESS, SOFT_CLAY = 1, 2, 3, 4
+VALUE = {MEASURED: range(500, 30_000 + 1), COHESIVE: range(2, 25 + 1), COHESIONLESS: range(1, 50 + 1), SOFT_CLAY: range(1, 400 + 1)}
 HARD, NORMAL, SOFT = 1, 2, 3
 
 
@@ -41,26 +41,33 @@ def judge(thicknesses, kinds, values):
     return next(refusals(thicknesses, kinds, values), None)
 
 
-def cube_root(number):
-    """The largest whole v with v^3 <= number."""
+def root(number, power):
+    """The largest whole v with v^power <= number."""
     v, above = 0, 1
-    while above**3 <= number:
+    while above**power <= number:
         above *= 2
     while above - v > 1:
         middle = (v + above) // 2
-        if middle**3 <= number:
+        if middle**power <= number:
             v = middle
         else:
             above = middle
-    assert v**3 <= number < (v + 1)**3
+    assert v**power <= number < (v + 1)**power
     return v
 
 
+def by_strength(q):
+    """Soft clay, "120*q^0.36 m/s", q in hundredths of kgf/cm^2: the largest whole v, in dm/s, with v^25 <= 1200^25*(q/100)^9."""
+    return root(1200**25 * Fraction(q, 100)**9, 25)
+
+
 def velocity(kind, value):
-    """Measured, or by (3.a) "v^3 <= 1000^3*N", (3.b) "v^3 <= 800^3*N likewise", in dm/s."""
+    """Measured, or by (3.a) "v^3 <= 1000^3*N", (3.b) "v^3 <= 800^3*N likewise", or soft clay's, in dm/s."""
     if kind == MEASURED:
         return value
-    return cube_root({COHESIVE: 1000, COHESIONLESS: 800}[kind]**3 * value)
+    if kind == SOFT_CLAY:
+        return by_strength(value)
+    return root({COHESIVE: 1000, COHESIONLESS: 800}[kind]**3 * value, 3)
 
 
 def time(thickness, v):

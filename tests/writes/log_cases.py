@@ -48,6 +48,8 @@ def class_cases():
     yield three(710, 7_470, 8_042)          # L = 166,666,667 ns, the least that is soft
     yield three(700, 5_030, 25_453)         # L = 166,666,666 ns, though the average is below 180 m/s
     yield from ((plain(5), [at('kind', 3, kind), at('value', 3, N)]) for kind, N in ((2, 25), (3, 50)))
+    yield from ((plain(1), [at('kind', 1, soil.SOFT_CLAY), at('value', 1, q)]) for q in (1, 308, 309, 400))
+    yield from ((plain(5), [at('kind', 3, soil.SOFT_CLAY), at('value', 3, q)]) for q in (1, 2, 99, 100, 101, 400))
 
 
 def count_cases():
@@ -80,7 +82,7 @@ def thickness_cases():
 def layer_cases():
     """Unknown kinds, and both sides of each range of values, at the first, middle and last layer."""
     for layer in (1, 3, 5):
-        yield from ((plain(5), [at('kind', layer, kind)]) for kind in (0, 4, MOST))
+        yield from ((plain(5), [at('kind', layer, kind)]) for kind in (0, 4, 5, MOST))
         for kind, allowed in soil.VALUE.items():
             ends = (0, allowed[0] - 1, allowed[0], allowed[0] + 1, allowed[-1] - 1, allowed[-1], allowed[-1] + 1, MOST)
             yield from ((plain(5), [at('kind', layer, kind), at('value', layer, value)]) for value in sorted(set(ends)))
@@ -123,9 +125,9 @@ def outcome(thicknesses, kinds, values):
     return CLASS[answer.cls] if isinstance(answer, soil.Log) else 'refused {} at {}'.format(*answer[1:])
 
 
-def velocity(kind, N):
-    """What the model says of the velocity of N."""
-    return soil.velocity(kind, N) if N in soil.VALUE[kind] else 'refused 15 at 1'
+def velocity(kind, value):
+    """What the model says of the velocity of N or q."""
+    return soil.velocity(kind, value) if value in soil.VALUE[kind] else 'refused 15 at 1'
 
 
 def all_cases():
@@ -133,9 +135,10 @@ def all_cases():
     return [*class_cases(), *count_cases(), *thickness_cases(), *layer_cases(), *pair_cases()]
 
 
-def blow_counts():
-    """Every N of both kinds, and one beyond."""
-    return [(kind, N) for kind in (soil.COHESIVE, soil.COHESIONLESS) for N in range(52)]
+def values():
+    """Every N of both kinds and every q, with 0 and one beyond."""
+    counts = [(kind, N) for kind in (soil.COHESIVE, soil.COHESIONLESS) for N in range(52)]
+    return counts + [(soil.SOFT_CLAY, q) for q in range(402)]
 
 
 def main():
@@ -143,7 +146,7 @@ def main():
     cases = all_cases()
     lines = ['{} of {} cm at {} dm/s; '.format(*log) + ''.join(said(*change) for change in changes)
              + outcome(*lists(log, changes)) for log, changes in cases]
-    lines += [f'kind {kind}, N {N}: {velocity(kind, N)}' for kind, N in blow_counts()]
+    lines += [f'kind {kind}, {"q" if kind == soil.SOFT_CLAY else "N"} {value}: {velocity(kind, value)}' for kind, value in values()]
     (HERE / 'stdout').write_text(''.join(line + '\n' for line in lines))
     rows = [[len(cases)], *((*log, *itertools.chain(*(changes + 3 * [(NONE, 0)])[:3])) for log, changes in cases)]
     (HERE / 'stdin').write_text(''.join(' '.join(map(str, row)) + '\n' for row in rows))

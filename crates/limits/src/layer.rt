@@ -29,4 +29,10 @@ impl Layer {
     pub const COHESIONLESS_LEAST: u64 = 1;
 
     pub const COHESIONLESS_MOST: u64 = 50;
+    // Kind 4: soft clay, by its unconfined compression strength q in 0.01 kgf/cm².
+    pub const SOFT_CLAY: u64 = 4;
+
+    pub const SOFT_CLAY_LEAST: u64 = 1;
+
+    pub const SOFT_CLAY_MOST: u64 = 400;
 }

@@ -69,10 +69,10 @@ pub record SheetReplies (s old : List ℕ) (n : ℕ) (held r : List ℕ) : Type 
   pub listed : held ≡ laid (sheetListing s) old
 
 abbrev pub version : ℕ
-version = 2_003_000
+version = 2_004_000
 
 abbrev pub edition : ℕ
 edition = 2_005
 
 abbrev pub source : ℕ
-source = 5
+source = 6

@@ -1,5 +1,5 @@
 // Runs the entry on changed copies of plain logs, as standard input gives them, and says what comes back of each; then the
-// velocity of every N.
+// velocity of every N and of every q.
 use fields::FIELDS;
 use fields::KIND_COUNT;
 use fields::KINDS;
@@ -174,22 +174,26 @@ fn run(s: &[u8]) {
     }
 }
 
-// The velocity of each N from 0 to 51, or its refusal.
-fn velocities(kind: u64) {
-    let mut n = 0;
-    while n <= 51 {
-        say_count(kind, n);
-        n += 1;
+// The velocity of each value from 0 up to below `past`, or its refusal.
+fn velocities(kind: u64, past: u64) {
+    let mut value = 0;
+    while value < past {
+        say_value(kind, value);
+        value += 1;
     }
 }
 
-fn say_count(kind: u64, n: u64) {
+fn say_value(kind: u64, value: u64) {
     io::write_all(STDOUT_FILENO, b"kind ");
     io::print_decimal(STDOUT_FILENO, kind);
-    io::write_all(STDOUT_FILENO, b", N ");
-    io::print_decimal(STDOUT_FILENO, n);
+    if kind == Layer::SOFT_CLAY {
+        io::write_all(STDOUT_FILENO, b", q ");
+    } else {
+        io::write_all(STDOUT_FILENO, b", N ");
+    }
+    io::print_decimal(STDOUT_FILENO, value);
     io::write_all(STDOUT_FILENO, b": ");
-    say_velocity(velocity(kind, n, 1));
+    say_velocity(velocity(kind, value, 1));
 }
 
 fn say_velocity(a: VelocityAnswer) {
@@ -206,6 +210,7 @@ fn main() {
     let mut input = io::large_buffer();
     let n = io::read_full(STDIN_FILENO, &mut input);
     run(&input[..n]);
-    velocities(Layer::COHESIVE);
-    velocities(Layer::COHESIONLESS);
+    velocities(Layer::COHESIVE, Layer::COHESIONLESS_MOST + 2);
+    velocities(Layer::COHESIONLESS, Layer::COHESIONLESS_MOST + 2);
+    velocities(Layer::SOFT_CLAY, Layer::SOFT_CLAY_MOST + 2);
 }

@@ -1,4 +1,4 @@
--- Document 01's figures of velocities; and two logs of three layers of 10 m, measured, that come out normal though their
+-- Document 01's figures of velocities, and of soft clay those of the ends of q and of 1 kgf/cm², 1200 dm/s exactly; and two logs of three layers of 10 m, measured, that come out normal though their
 -- averages are above 270 m/s (270.0000033) and below 180 m/s (179.9999980): their exact times lie within 2 ns of the limits.
 -- Assumes nothing.
 use mathlib.Core.Path.{_≡_, refl}
@@ -16,11 +16,15 @@ use Rattle.soil.specs.Class.{table3, classOf}
 use Rattle.soil.specs.Exact.{slowness, average}
 use Rattle.soil.specs.Log.{thick, deep, judgedLog, siteClass}
 use Rattle.soil.specs.Times.{added, judgedTimes}
-use Rattle.soil.specs.Velocity.{cubeRoot, measured, byCount, velocity, velocities}
+use Rattle.soil.specs.Velocity.{cubeRoot, strengthRoot, measured, byRule, velocity, velocities}
 
 pub velocity-figures : (velocity 2 25 1 ≡ accepted 2_924) × (velocity 3 50 1 ≡ accepted 2_947)
-unfolding velocity byCount cubeRoot largest bitsFrom within inRange
+unfolding velocity byRule cubeRoot largest bitsFrom within inRange
 velocity-figures = (refl, refl)
+
+pub soft-clay-figures : (velocity 4 1 1 ≡ accepted 228) × (velocity 4 100 1 ≡ accepted 1_200) × (velocity 4 400 1 ≡ accepted 1_976)
+unfolding velocity byRule strengthRoot largest bitsFrom within inRange
+soft-clay-figures = (refl, refl, refl)
 
 abbrev thicknesses : List ℕ
 thicknesses = 1_000 ∷ 1_000 ∷ 1_000 ∷ []

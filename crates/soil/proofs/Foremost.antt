@@ -18,10 +18,10 @@ use Rattle.limits.specs.Order.{InOrder, Before, NoLater}
 use Rattle.limits.specs.Outcome.{accepted, refused, require, _>>=_, _>>_}
 use Rattle.limits.specs.Ranges.{within}
 use Rattle.soil.specs.declared.class.ClassLimits.{ClassLimits}
-use Rattle.soil.specs.Applies.{Allowed, measured, cohesive, cohesionless, Applies, lists, layers, thickness, depth, layer}
+use Rattle.soil.specs.Applies.{Allowed, measured, cohesive, cohesionless, softClay, Applies, lists, layers, thickness, depth, layer}
 use Rattle.soil.specs.Log.{counted, thick, deep, judgedLog, siteClass}
 use Rattle.soil.specs.Times.{judgedTimes, times}
-use Rattle.soil.specs.Velocity.{measured as measuredAt, byCount, velocity, velocities}
+use Rattle.soil.specs.Velocity.{measured as measuredAt, byRule, velocity, velocities}
 use Rattle.limits.proofs.Passed.{require-passed}
 use Rattle.soil.proofs.Refusing.{refused-applies}
 use Rattle.soil.proofs.Sound.{log-sound}
@@ -39,15 +39,16 @@ module _ (n q : ℕ) where
       (require-yields n q (not (eqb e 0)) 14 p (a p)) (thick-yields (p + 1) es a)
 
   velocity-yields : (k x p : ℕ) → Ahead n q 15 p → Yields n q (velocity k x p)
-  unfolding velocity measuredAt byCount
+  unfolding velocity measuredAt byRule
   velocity-yields k x p a =
       by-test (Yields n q) (eqb k 1) _ _ (λ _. both-yield n q (within 500 30_000 x 15 p) _ (within-yields n q 500 30_000 x 15 p a) tt)
       (λ _. by-test (Yields n q) (eqb k 2) _ _ (λ _. both-yield n q (within 2 25 x 15 p) _ (within-yields n q 2 25 x 15 p a) tt)
       (λ _. by-test (Yields n q) (eqb k 3) _ _ (λ _. both-yield n q (within 1 50 x 15 p) _ (within-yields n q 1 50 x 15 p a) tt)
-      (λ _. a)))
+      (λ _. by-test (Yields n q) (eqb k 4) _ _ (λ _. both-yield n q (within 1 400 x 15 p) _ (within-yields n q 1 400 x 15 p a) tt)
+      (λ _. a))))
 
   velocity-stops : (k x p : ℕ) → (Allowed k x → ⊥) → Ahead n q 15 p → Stops n q (velocity k x p)
-  unfolding velocity measuredAt byCount
+  unfolding velocity measuredAt byRule
   velocity-stops k x p w a =
       by-test (Stops n q) (eqb k 1) _ _
       (λ e. first-stops n q (within 500 30_000 x 15 p) _
@@ -58,7 +59,10 @@ module _ (n q : ℕ) where
       (λ _. by-test (Stops n q) (eqb k 3) _ _
       (λ e. first-stops n q (within 1 50 x 15 p) _
       (within-stops n q 1 50 x 15 p (λ r. w (cohesionless (eqb-true k 3 e) (r .0) (r .1))) a))
-      (λ _. a)))
+      (λ _. by-test (Stops n q) (eqb k 4) _ _
+      (λ e. first-stops n q (within 1 400 x 15 p) _
+      (within-stops n q 1 400 x 15 p (λ r. w (softClay (eqb-true k 4 e) (r .0) (r .1))) a))
+      (λ _. a))))
 
 thick-stops : (q p : ℕ) (es : List ℕ) (j : ℕ) → 1 ≤ p → q ≡ p + j → j < length es → getD es j 0 ≡ 0 → Stops 14 q (thick p es)
 unfolding thick

@@ -1,5 +1,6 @@
-pub mod Cubes
 pub mod ByTable
+pub mod Cubes
+pub mod Strength
 pub mod Speeds
 pub mod Layers
 pub mod Adding

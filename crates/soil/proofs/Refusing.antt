@@ -16,19 +16,20 @@ use Rattle.limits.specs.Levels.{paired}
 use Rattle.limits.specs.Outcome.{accepted, refused, require, _>>=_, _>>_}
 use Rattle.limits.specs.Ranges.{within}
 use Rattle.soil.specs.declared.class.ClassLimits.{ClassLimits}
-use Rattle.soil.specs.Applies.{Allowed, measured, cohesive, cohesionless, Applies, lists, layers, thickness, depth, layer}
+use Rattle.soil.specs.Applies.{Allowed, measured, cohesive, cohesionless, softClay, Applies, lists, layers, thickness, depth, layer}
 use Rattle.soil.specs.Log.{counted, thick, deep, judgedLog, siteClass}
 use Rattle.soil.specs.Times.{judgedTimes, times}
-use Rattle.soil.specs.Velocity.{measured as measuredAt, byCount, velocity, velocities}
+use Rattle.soil.specs.Velocity.{measured as measuredAt, byRule, velocity, velocities}
 use Rattle.limits.proofs.GivenApplies.{Told, then-told, bind-told, require-told, within-told, given-applies, accepted-unless}
 use Rattle.soil.proofs.Sound.{log-sound}
 
 -- a kind and value that miss each range of their kind are not allowed
 wrong : (k x : ℕ) → (k ≡ 1 → (x < 500) ⊎ (30_000 < x)) → (k ≡ 2 → (x < 2) ⊎ (25 < x)) → (k ≡ 3 → (x < 1) ⊎ (50 < x))
-    → Allowed k x → ⊥
-wrong k x f g h (measured e lo hi) = ⊎-elim (λ l. omega arith) (λ l. omega arith) (f e)
-wrong k x f g h (cohesive e lo hi) = ⊎-elim (λ l. omega arith) (λ l. omega arith) (g e)
-wrong k x f g h (cohesionless e lo hi) = ⊎-elim (λ l. omega arith) (λ l. omega arith) (h e)
+    → (k ≡ 4 → (x < 1) ⊎ (400 < x)) → Allowed k x → ⊥
+wrong k x f g h i (measured e lo hi) = ⊎-elim (λ l. omega arith) (λ l. omega arith) (f e)
+wrong k x f g h i (cohesive e lo hi) = ⊎-elim (λ l. omega arith) (λ l. omega arith) (g e)
+wrong k x f g h i (cohesionless e lo hi) = ⊎-elim (λ l. omega arith) (λ l. omega arith) (h e)
+wrong k x f g h i (softClay e lo hi) = ⊎-elim (λ l. omega arith) (λ l. omega arith) (i e)
 
 module _ (ds ks xs : List ℕ) where
   abbrev A : ℕ → ℕ → Type 0
@@ -56,15 +57,18 @@ module _ (ds ks xs : List ℕ) where
     other {A} {a} {b} n e h = let one = eqb-true k a e in absurd (n (omega arith))
 
     velocity-told : Told A (velocity k x p)
-    unfolding velocity measuredAt byCount
+    unfolding velocity measuredAt byRule
     velocity-told =
         by-test (Told A) (eqb k 1) _ _
-        (λ e. ranged 500 30_000 x (λ o. wrong k x (λ h. o) (λ h. other (λ z. omega arith) e h) (λ h. other (λ z. omega arith) e h)))
+        (λ e. ranged 500 30_000 x (λ o. wrong k x (λ h. o) (other (λ z. omega arith) e) (other (λ z. omega arith) e) (other (λ z. omega arith) e)))
         (λ e₁. by-test (Told A) (eqb k 2) _ _
-        (λ e. ranged 2 25 _ (λ o. wrong k x (λ h. other (λ z. omega arith) e h) (λ h. o) (λ h. other (λ z. omega arith) e h)))
+        (λ e. ranged 2 25 _ (λ o. wrong k x (other (λ z. omega arith) e) (λ h. o) (other (λ z. omega arith) e) (other (λ z. omega arith) e)))
         (λ e₂. by-test (Told A) (eqb k 3) _ _
-        (λ e. ranged 1 50 _ (λ o. wrong k x (λ h. other (λ z. omega arith) e h) (λ h. other (λ z. omega arith) e h) (λ h. o)))
-        (λ e₃. f (wrong k x (λ h. absurd (eqb-false k 1 e₁ h)) (λ h. absurd (eqb-false k 2 e₂ h)) (λ h. absurd (eqb-false k 3 e₃ h))))))
+        (λ e. ranged 1 50 _ (λ o. wrong k x (other (λ z. omega arith) e) (other (λ z. omega arith) e) (λ h. o) (other (λ z. omega arith) e)))
+        (λ e₃. by-test (Told A) (eqb k 4) _ _
+        (λ e. ranged 1 400 _ (λ o. wrong k x (other (λ z. omega arith) e) (other (λ z. omega arith) e) (other (λ z. omega arith) e) (λ h. o)))
+        (λ e₄. f (wrong k x (λ h. absurd (eqb-false k 1 e₁ h)) (λ h. absurd (eqb-false k 2 e₂ h)) (λ h. absurd (eqb-false k 3 e₃ h))
+        (λ h. absurd (eqb-false k 4 e₄ h)))))))
 
   velocities-told : (p : ℕ) (ls ys : List ℕ)
       → ((j : ℕ) → j < length ls → (Allowed (getD ls j 0) (getD ys j 0) → ⊥) → A 15 (p + j))

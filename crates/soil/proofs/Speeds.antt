@@ -3,16 +3,16 @@
 -- Assumes nothing.
 use mathlib.Core.Path.{_≡_, sym, ap, subst}
 use mathlib.Core.List.{List, [], _∷_}
-use Prim.Native.Nat.{ℕ, _+_, _^_, _≤_, _<_}
-use native.Mathlib.Nat.{le-mul-of-pos-right}
+use Prim.Native.Nat.{ℕ, _+_, _≤_, _<_}
 use native.Mathlib.Omega.{arith}
 use lib.Dec.{eqb}
 use lib.ListN.{length}
 use Rattle.whole.proofs.Choice.{by-test}
 use Rattle.limits.specs.Outcome.{Outcome, accepted}
 use Rattle.limits.specs.Ranges.{within}
-use Rattle.soil.specs.Velocity.{cubeRoot, measured, byCount, velocity, velocities}
-use Rattle.soil.proofs.Cubes.{cube-root-is}
+use Rattle.soil.specs.Velocity.{cubeRoot, strengthRoot, measured, byRule, velocity, velocities}
+use Rattle.soil.proofs.Cubes.{cube-root-least}
+use Rattle.soil.proofs.Strength.{strength-positive}
 use Rattle.limits.proofs.Passed.{never, one-value, then-passed, bind-passed, within-passed}
 
 abbrev pub Positive : List ℕ → Type 0
@@ -25,24 +25,24 @@ measured-positive x p v e =
     let s = then-passed (within 500 30_000 x 15 p) (accepted x) e in
     omega (arith, within-passed 500 30_000 x 15 p (s .0) .0, one-value (s .1))
 
--- v³ ≤ s³·N from v = s on
-count-positive : (least most s N p v : ℕ) → 1 ≤ least → most ≤ 50 → s ≤ 1_000 → 0 < s
-    → byCount least most s N p ≡ accepted v → 0 < v
-unfolding byCount
-count-positive least most s N p v h₁ h₂ h₃ h₄ e =
-    let q = then-passed (within least most N 15 p) (accepted (cubeRoot s N)) e in
-    let w = within-passed least most N 15 p (q .0) in
-    let pos : 0 < N = omega arith in
-    let at : s ≤ cubeRoot s N = cube-root-is s N h₃ (omega arith) .largest s (omega (arith, le-mul-of-pos-right (s ^ 3) pos)) in
-    omega (arith, one-value (q .1))
+rule-positive : (rule : ℕ → ℕ) (least most x p v : ℕ) → (least ≤ x → x ≤ most → 0 < rule x)
+    → byRule rule least most x p ≡ accepted v → 0 < v
+unfolding byRule
+rule-positive rule least most x p v above e =
+    let q = then-passed (within least most x 15 p) (accepted (rule x)) e in
+    let w = within-passed least most x 15 p (q .0) in
+    subst (λ (n : ℕ). 0 < n) (one-value (q .1)) (above (w .0) (w .1))
 
 pub velocity-positive : (k x p v : ℕ) → velocity k x p ≡ accepted v → 0 < v
 unfolding velocity
 velocity-positive k x p v =
     by-test P (eqb k 1) _ _ (λ _. measured-positive x p v)
-    (λ _. by-test P (eqb k 2) _ _ (λ _. count-positive 2 25 1_000 x p v (omega arith) (omega arith) (omega arith) (omega arith))
-    (λ _. by-test P (eqb k 3) _ _ (λ _. count-positive 1 50 800 x p v (omega arith) (omega arith) (omega arith) (omega arith))
-    (λ _. λ e. absurd (never e))))
+    (λ _. by-test P (eqb k 2) _ _
+    (λ _. rule-positive (cubeRoot 1_000) 2 25 x p v (λ lo hi. omega (arith, cube-root-least 1_000 x (omega arith) (omega arith) (omega arith))))
+    (λ _. by-test P (eqb k 3) _ _
+    (λ _. rule-positive (cubeRoot 800) 1 50 x p v (λ lo hi. omega (arith, cube-root-least 800 x (omega arith) (omega arith) (omega arith))))
+    (λ _. by-test P (eqb k 4) _ _ (λ _. rule-positive strengthRoot 1 400 x p v (strength-positive x))
+    (λ _. λ e. absurd (never e)))))
   where
     P : Outcome ℕ → Type 0
     P o = o ≡ accepted v → 0 < v

@@ -25,6 +25,6 @@ one-class ds ks xs p q = class-unique p q
 pub times-unique : {a b : TimesAnswer} {o : Outcome Times} → timesOutcome a ≡ o → timesOutcome b ≡ o → a ≡ b
 times-unique = one-answer timesOutcome TakenTimes RefusedTimes (λ x. elim x [ TakenTimes t ↦ refl | RefusedTimes r ↦ refl ])
 
--- `measured`, `by_count`, `velocity`
+-- `measured`, `by_table`, `velocity`
 pub velocity-unique : {a b : VelocityAnswer} {o : Outcome ℕ} → velocityOutcome a ≡ o → velocityOutcome b ≡ o → a ≡ b
 velocity-unique = one-answer velocityOutcome TakenVelocity RefusedVelocity (λ x. elim x [ TakenVelocity v ↦ refl | RefusedVelocity r ↦ refl ])

@@ -30,6 +30,7 @@ pub data Allowed (k x : ℕ) : Type 0 where
   measured : k ≡ 1 → 500 ≤ x → x ≤ 30_000 → Allowed k x
   cohesive : k ≡ 2 → 2 ≤ x → x ≤ 25 → Allowed k x
   cohesionless : k ≡ 3 → 1 ≤ x → x ≤ 50 → Allowed k x
+  softClay : k ≡ 4 → 1 ≤ x → x ≤ 400 → Allowed k x
 
 abbrev pub WrongLayer : List ℕ → List ℕ → ℕ → Type 0
 WrongLayer ks xs i = Allowed (getD ks i 0) (getD xs i 0) → ⊥

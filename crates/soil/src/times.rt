@@ -1,6 +1,7 @@
 // The time of each layer in ns, rounded up and down, and the sums U and L.
 use crate::tables::COHESIONLESS;
 use crate::tables::COHESIVE;
+use crate::tables::SOFT_CLAY;
 use crate::velocity::VelocityAnswer;
 use crate::velocity::velocity_by;
 use limits::refusal::Refusal;
@@ -38,20 +39,28 @@ const NS_AT_UNIT: u64 = 100_000_000;
 
 // 15 at the first layer to which it applies; else U and L: with the tables of velocities lent.
 fn timed_by(
-    cohesive: &[u64],
-    cohesionless: &[u64],
+    cohesive: &[u16],
+    cohesionless: &[u16],
+    clay: &[u16],
     thicknesses: &[u64],
     kinds: &[u64],
     values: &[u64],
 ) -> TimesAnswer
-    requires { ⌜ Tables (now cohesive) (now cohesionless) × Matched (now thicknesses) (now kinds) (now values) ⌝ }
+    requires { ⌜ Tables (now cohesive) (now cohesionless) (now clay) × Matched (now thicknesses) (now kinds) (now values) ⌝ }
     ensures { λ a. ⌜ timesOutcome a ≡ judgedTimes (now (thicknesses .entry)) (now (kinds .entry)) (now (values .entry)) ⌝ }
 {
     let mut up = 0;
     let mut down = 0;
     let mut i = 0;
     while i < thicknesses.len() {
-        let a = velocity_by(cohesive, cohesionless, kinds[i], values[i], i as u64 + 1);
+        let a = velocity_by(
+            cohesive,
+            cohesionless,
+            clay,
+            kinds[i],
+            values[i],
+            i as u64 + 1,
+        );
         let VelocityAnswer::Taken(v) = a else {
             return TimesAnswer::Refused(a.refusal());
         };
@@ -68,5 +77,12 @@ pub fn timed(thicknesses: &[u64], kinds: &[u64], values: &[u64]) -> TimesAnswer
     requires { ⌜ Matched (now thicknesses) (now kinds) (now values) ⌝ }
     ensures { λ a. ⌜ timesOutcome a ≡ judgedTimes (now (thicknesses .entry)) (now (kinds .entry)) (now (values .entry)) ⌝ }
 {
-    timed_by(&COHESIVE, &COHESIONLESS, thicknesses, kinds, values)
+    timed_by(
+        &COHESIVE,
+        &COHESIONLESS,
+        &SOFT_CLAY,
+        thicknesses,
+        kinds,
+        values,
+    )
 }

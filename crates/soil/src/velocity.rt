@@ -1,6 +1,7 @@
-// The velocity of a layer by its kind: measured, or by its blow count (3.a), (3.b).
+// The velocity of a layer by its kind: measured, by its blow count (3.a), (3.b), or by its unconfined compression strength (3.a).
 use crate::tables::COHESIONLESS;
 use crate::tables::COHESIVE;
+use crate::tables::SOFT_CLAY;
 use limits::layer::Layer;
 use limits::ranges::within;
 use limits::refusal::Refusal;
@@ -46,35 +47,43 @@ fn measured(value: u64, place: u64) -> VelocityAnswer
     VelocityAnswer::Taken(value)
 }
 
-// The velocity that N blows give, where N is from least to most, by the table of those velocities.
-fn by_count(least: u64, most: u64, velocities: &[u64], n: u64, place: u64) -> VelocityAnswer
-    requires { ⌜ most < least + length (now velocities) ⌝ }
-    ensures { λ a. ⌜ velocityOutcome a ≡ fromTable least most (now (velocities .entry)) n place ⌝ }
+// An entry of a table: they are of 16 bits, as the tables are laid out anew for each log.
+fn wide(v: u16) -> u64
+    ensures { λ r. ⌜ r ≡ v ⌝ }
 {
-    let v = within(least, most, n, Refusal::LAYER, place);
+    v as u64
+}
+
+// The velocity that a value from least to most gives, N or q, by the table of those velocities.
+fn by_table(least: u64, most: u64, velocities: &[u16], value: u64, place: u64) -> VelocityAnswer
+    requires { ⌜ most < least + length (now velocities) ⌝ }
+    ensures { λ a. ⌜ velocityOutcome a ≡ fromTable least most (now (velocities .entry)) value place ⌝ }
+{
+    let v = within(least, most, value, Refusal::LAYER, place);
     let Verdict::Passed = v else {
         return VelocityAnswer::Refused(v.refusal());
     };
-    VelocityAnswer::Taken(velocities[(n - least) as usize])
+    VelocityAnswer::Taken(wide(velocities[(value - least) as usize]))
 }
 
-// 15: the velocity of a layer, by its kind and value, with the tables of both kinds of soil lent: a constant table is laid out anew by each
-// function that names it, so once a log and not once a layer.
+// 15: the velocity of a layer, by its kind and value, with the tables of the three kinds of soil lent: a constant table is laid out anew by
+// each function that names it, so once a log and not once a layer.
 pub fn velocity_by(
-    cohesive: &[u64],
-    cohesionless: &[u64],
+    cohesive: &[u16],
+    cohesionless: &[u16],
+    clay: &[u16],
     kind: u64,
     value: u64,
     place: u64,
 ) -> VelocityAnswer
-    requires { ⌜ Tables (now cohesive) (now cohesionless) ⌝ }
+    requires { ⌜ Tables (now cohesive) (now cohesionless) (now clay) ⌝ }
     ensures { λ a. ⌜ velocityOutcome a ≡ velocity kind value place ⌝ }
 {
     if kind == Layer::MEASURED {
         return measured(value, place);
     }
     if kind == Layer::COHESIVE {
-        return by_count(
+        return by_table(
             Layer::COHESIVE_LEAST,
             Layer::COHESIVE_MOST,
             cohesive,
@@ -83,10 +92,19 @@ pub fn velocity_by(
         );
     }
     if kind == Layer::COHESIONLESS {
-        return by_count(
+        return by_table(
             Layer::COHESIONLESS_LEAST,
             Layer::COHESIONLESS_MOST,
             cohesionless,
+            value,
+            place,
+        );
+    }
+    if kind == Layer::SOFT_CLAY {
+        return by_table(
+            Layer::SOFT_CLAY_LEAST,
+            Layer::SOFT_CLAY_MOST,
+            clay,
             value,
             place,
         );
@@ -101,5 +119,5 @@ pub fn velocity_by(
 pub fn velocity(kind: u64, value: u64, place: u64) -> VelocityAnswer
     ensures { λ a. ⌜ velocityOutcome a ≡ velocity kind value place ⌝ }
 {
-    velocity_by(&COHESIVE, &COHESIONLESS, kind, value, place)
+    velocity_by(&COHESIVE, &COHESIONLESS, &SOFT_CLAY, kind, value, place)
 }

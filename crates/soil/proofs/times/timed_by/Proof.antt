@@ -16,16 +16,16 @@ use Rattle.soil.proofs.times.timed_by.Statement.{statement}
 use Rattle.soil.proofs.times.timed_by.Tie as tie
 
 abbrev Inv-loop : tie.InvT-loop
-Inv-loop cs ls ds ks xs up₀ down₀ i₀ up down i =
+Inv-loop cs ls qs ds ks xs up₀ down₀ i₀ up down i =
     (i ≤ length ds) × Small ds i up × Small ds i down
     × (judgedTimes ds ks xs ≡ left up down (drop i ds) (velocities (i + 1) (drop i ks) (drop i xs)))
 
 abbrev μ-loop : tie.MeasureT-loop
-μ-loop cs ls ds ks xs up₀ down₀ i₀ up down i = length ds - i
+μ-loop cs ls qs ds ks xs up₀ down₀ i₀ up down i = length ds - i
 
 loop-holds : tie.Need-loop-holds Inv-loop μ-loop
 loop-holds c =
-    let a = c .before .before .before .before .before .args in
+    let a = c .before .before .before .before .before .before .args in
     (omega arith, omega arith, omega arith, left-all (a .thicknesses .now) (a .kinds .now) (a .values .now))
 
 mul-velocity-by : tie.Need-mul-velocity-by Inv-loop μ-loop
@@ -58,7 +58,7 @@ refusal-requires c κs = search needs
 returns : tie.Need-returns Inv-loop μ-loop
 returns c =
     let at = c .before .before .before .before .before .before .before .loop in
-    let a = c .before .before .before .before .before .before .before .before .before .before .before .before .before .args in
+    let a = c .before .before .before .before .before .before .before .before .before .before .before .before .before .before .args in
     let ds = a .thicknesses .now in
     let ks = a .kinds .now in
     let xs = a .values .now in
@@ -74,7 +74,7 @@ shared-slice-read-ns c = search needs
 mul-ns-2 : tie.Need-mul-ns-2 Inv-loop μ-loop
 mul-ns-2 c =
     let at = c .before .before .before .before .before .before .before .before .loop in
-    let ds = c .before .before .before .before .before .before .before .before .before .before .before .before .before .before .args .thicknesses .now in
+    let ds = c .before .before .before .before .before .before .before .before .before .before .before .before .before .before .before .args .thicknesses .now in
     omega (arith, sum-step ds (at .i) (omega arith))
 
 up-requires : tie.Need-up-requires Inv-loop μ-loop
@@ -83,7 +83,7 @@ up-requires c κs = omega (arith, velocity-positive _ _ _ _ (says velocityOutcom
 add-up : tie.Need-add-up Inv-loop μ-loop
 add-up c =
     let at = c .before .before .before .before .before .before .before .before .before .loop in
-    let ds = c .before .before .before .before .before .before .before .before .before .before .before .before .before .before .before .args .thicknesses .now in
+    let ds = c .before .before .before .before .before .before .before .before .before .before .before .before .before .before .before .before .args .thicknesses .now in
     let v = c .before .before .before .a .given .0 .0 in
     let said = says velocityOutcome (c .before .before .before .before .before .velocity-by .ensures) (c .before .before .before .a .given .1) in
     let pos : 0 < v = omega (arith, velocity-positive _ _ _ _ said) in
@@ -95,7 +95,7 @@ down-requires c κs = omega (arith, velocity-positive _ _ _ _ (says velocityOutc
 add-down : tie.Need-add-down Inv-loop μ-loop
 add-down c =
     let at = c .before .before .before .before .before .before .before .before .before .before .loop in
-    let ds = c .before .before .before .before .before .before .before .before .before .before .before .before .before .before .before .before .args .thicknesses .now in
+    let ds = c .before .before .before .before .before .before .before .before .before .before .before .before .before .before .before .before .before .args .thicknesses .now in
     let v = c .before .before .before .before .a .given .0 .0 in
     let said = says velocityOutcome (c .before .before .before .before .before .before .velocity-by .ensures) (c .before .before .before .before .a .given .1) in
     let pos : 0 < v = omega (arith, velocity-positive _ _ _ _ said) in
@@ -110,7 +110,7 @@ loop-less c = search needs
 loop-again : tie.Need-loop-again Inv-loop μ-loop
 loop-again c =
     let at = c .before .before .before .before .before .before .before .before .before .before .loop in
-    let a = c .before .before .before .before .before .before .before .before .before .before .before .before .before .before .before .before .args in
+    let a = c .before .before .before .before .before .before .before .before .before .before .before .before .before .before .before .before .before .args in
     let ds = a .thicknesses .now in
     let ks = a .kinds .now in
     let xs = a .values .now in
@@ -127,7 +127,7 @@ loop-again c =
 returns-2 : tie.Need-returns-2 Inv-loop μ-loop
 returns-2 c =
     let at = c .before .loop in
-    let a = c .before .before .before .before .before .before .before .args in
+    let a = c .before .before .before .before .before .before .before .before .args in
     let ds = a .thicknesses .now in
     let ks = a .kinds .now in
     let xs = a .values .now in

@@ -1,10 +1,11 @@
--- `soil::velocity::velocity` meets its contract: the cube rule holds of both tables, of all entries at once, by computing it.
+-- `soil::velocity::velocity` meets its contract: the rules hold of the tables, each of all its entries at once, by computing it.
 -- Assumes nothing.
 use borrow.Author.Needs.{needs}
 use mathlib.Core.Path.{refl}
-use Rattle.whole.specs.Cells.{cells}
-use Rattle.whole.specs.Search.{largest, bitsFrom}
-use Rattle.soil.specs.Velocity.{cubeRoot}
+use native.Mathlib.Omega.{arith}
+use Rattle.soil.proofs.ByTable.{eachLargest}
+use Rattle.soil.proofs.Cubes.{cube-table}
+use Rattle.soil.proofs.Strength.{strength-table}
 use Rattle.soil.proofs.velocity.velocity.Statement.{statement}
 use Rattle.soil.proofs.velocity.velocity.Tie as tie
 
@@ -14,9 +15,16 @@ slice-aggregate-velocity-by c = search needs
 slice-aggregate-velocity-by-2 : tie.Need-slice-aggregate-velocity-by-2
 slice-aggregate-velocity-by-2 c = search needs
 
+slice-aggregate-velocity-by-3 : tie.Need-slice-aggregate-velocity-by-3
+slice-aggregate-velocity-by-3 c = search needs
+
 velocity-by-requires : tie.Need-velocity-by-requires
-unfolding cubeRoot largest bitsFrom cells
-velocity-by-requires c κs = record { cohesive = refl; cohesionless = refl }
+unfolding eachLargest
+velocity-by-requires c κs = record {
+  cohesive = cube-table 1_000 2 25 _ (omega arith) (omega arith) refl tt;
+  cohesionless = cube-table 800 1 50 _ (omega arith) (omega arith) refl tt;
+  softClay = strength-table _ refl tt;
+}
 
 returns : tie.Need-returns
 returns c = search needs
@@ -24,4 +32,4 @@ returns c = search needs
 pub velocity-spec : {M : Type 1} → statement M
 velocity-spec =
     tie.close
-    (tie.spec slice-aggregate-velocity-by slice-aggregate-velocity-by-2 velocity-by-requires returns)
+    (tie.spec slice-aggregate-velocity-by slice-aggregate-velocity-by-2 slice-aggregate-velocity-by-3 velocity-by-requires returns)
