@@ -169,11 +169,12 @@ static int same(void)
     for (int i = 0; i < COMPARED; i++) {
         size_t n = 1 + drawn(LEVELS);
         JobInput p = i % 5 ? drawn_job(n) : spoilt_job(n);
-        LogInput l = i ? drawn_log() : fixed_log();
+        LogInput l = i ? i % 3 ? drawn_log() : clay_log() : fixed_log();
         char text[BYTES + 64];
         size_t length = sheet_of(&p, text);
         if (i % 4 == 1) l.thicknesses[drawn(LAYERS)] = drawn(3) ? 0 : 99;
         if (i % 4 == 2) l.values[drawn(LAYERS)] = drawn(60);
+        if (i % 8 == 3) l.kinds[drawn(LAYERS)] = drawn(6);
         if (i % 7 == 3) text[drawn(length)] = '0' + drawn(12);
         if (i % 100 == 99) long_sheet(&p, text, drawn_weight), length = BYTES;
         if (!same_job(&p) || !same_log(&l) || !same_sheet(text, length)) return 0;

@@ -4,9 +4,10 @@
 typedef int64_t i64;
 #define likely(x) __builtin_expect(!!(x), 1)
 
-/* velocities of N up to 50, cohesive and cohesionless, with their reciprocals: made once */
-static u64 vel[2][51];
-static double inverse[2][51];
+/* velocities of N up to 50, cohesive and cohesionless, and of q up to 400, with their reciprocals: made once */
+static u64 vel[3][401];
+static double inverse[3][401];
+static const u64 least[] = {2, 1, 1}, most[] = {25, 50, 400};
 __attribute__((constructor)) static void make(void)
 {
     for (int k = 0; k < 2; k++)
@@ -15,6 +16,7 @@ __attribute__((constructor)) static void make(void)
             while ((v + 1) * (v + 1) * (v + 1) <= n) v++;
             vel[k][i] = v, inverse[k][i] = 1.0 / v;
         }
+    for (u64 q = 1; q <= 400; q++) vel[2][q] = clay_velocity(q), inverse[2][q] = 1.0 / vel[2][q];
 }
 
 u64 OF(site_class)(const u64 *d, u64 n, const u64 *kinds, u64 nk, const u64 *values, u64 nv, ClassReply *reply)
@@ -31,8 +33,8 @@ u64 OF(site_class)(const u64 *d, u64 n, const u64 *kinds, u64 nk, const u64 *val
     u64 upper = 0, lower = 0;
     for (size_t i = 0; i < n; i++) {
         u64 k = kinds[i] - 2, v = values[i], ns = 100000000 * d[i];
-        if (likely(k < 2)) {
-            if (k ? v - 1 > 49 : v - 2 > 23) return reply_class(reply, 15, i + 1, 0);
+        if (likely(k < 3)) {
+            if (v - least[k] > most[k] - least[k]) return reply_class(reply, 15, i + 1, 0);
             u64 z = vel[k][v], q = (u64)(i64)((double)(i64)ns * inverse[k][v]);
             i64 r = (i64)(ns - q * z);
             q -= r < 0;

@@ -69,6 +69,13 @@ LogInput drawn_log(void)
     return p;
 }
 
+LogInput clay_log(void)
+{
+    LogInput p = drawn_log();
+    for (size_t i = drawn(LAYERS); i < LAYERS; i += 1 + drawn(4)) p.kinds[i] = 4, p.values[i] = 1 + drawn(400);
+    return p;
+}
+
 static size_t first_lines(const JobInput *p, char *out)
 {
     const Site *s = &p->site;

@@ -26,6 +26,7 @@ JobInput drawn_job(size_t levels);
 JobInput spoilt_job(size_t levels);               /* a drawn job with one number that is refused */
 LogInput fixed_log(void);
 LogInput drawn_log(void);
+LogInput clay_log(void);                          /* a drawn log with soft clay in it */
 
 /* into BYTES bytes, and how many were written */
 size_t sheet_of(const JobInput *, char *);

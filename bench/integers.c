@@ -123,9 +123,17 @@ u64 OF(job)(const Site *s, const Frame *f, const u64 *w, u64 n, const u64 *h, u6
     return 0;
 }
 
+/* velocities of soft clay by q: made once */
+static u64 clay[401];
+__attribute__((constructor)) static void make(void)
+{
+    for (u64 q = 1; q <= 400; q++) clay[q] = clay_velocity(q);
+}
+
 static u64 velocity(u64 kind, u64 value)
 {
     if (kind == 1) return value;
+    if (kind == 4) return clay[value];
     u64 n = (kind == 2 ? 1000000000 : 512000000) * value, lo = 0, hi = 4096;
     while (lo + 1 < hi) {
         u64 mid = (lo + hi) / 2;
@@ -146,11 +154,11 @@ u64 OF(site_class)(const u64 *d, u64 n, const u64 *kinds, u64 nk, const u64 *val
         left -= d[i];
     }
     if (left) return reply_class(reply, 14, 0, 0);
-    static const u64 least[] = {500, 2, 1}, most[] = {30000, 25, 50};
+    static const u64 least[] = {500, 2, 1, 1}, most[] = {30000, 25, 50, 400};
     u64 upper = 0, lower = 0;
     for (size_t i = 0; i < n; i++) {
         u64 k = kinds[i];
-        if (k < 1 || k > 3 || values[i] < least[k - 1] || values[i] > most[k - 1]) return reply_class(reply, 15, i + 1, 0);
+        if (k < 1 || k > 4 || values[i] < least[k - 1] || values[i] > most[k - 1]) return reply_class(reply, 15, i + 1, 0);
         u64 v = velocity(k, values[i]);
         upper += up(100000000 * d[i], v);
         lower += 100000000 * d[i] / v;

@@ -1,5 +1,6 @@
 /* The same rules in plain C, beside the entries of the core. A file of them is compiled once for each side that is timed: OF(job) is
  * plain_job, clang_job, best_job or double_job. */
+#include <math.h>
 #include <stddef.h>
 #include "../include/rukeshomaji.h"
 
@@ -33,6 +34,9 @@ static inline u64 refuse_job(JobReply *reply, u64 refused)
     *reply = (JobReply){refused & 0xffffffff, 0, 0, 0, 0, 0};
     return refused >> 32;
 }
+
+/* soft clay, dm/s, of q in 0.01 kgf/cm2: 25th powers do not fit 64 bits, and no q but 100 comes nearer to a whole number than 0.001 */
+static inline u64 clay_velocity(u64 q) { return (u64)(1200 * pow((double)q / 100, 0.36) + 1e-9); }
 
 static inline u64 reply_class(ClassReply *reply, u64 number, u64 place, u64 class_number)
 {

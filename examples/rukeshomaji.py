@@ -20,8 +20,11 @@ Figures = namedtuple('Figures', 'v vm star vd t')
 Job = namedtuple('Job', 'figures forces shears overturnings')
 Storeys = namedtuple('Storeys', 'forces shears overturnings')
 
+# kinds of layer: their values are a velocity in dm/s, N, N, and the unconfined compression strength q in 0.01 kgf/cm²
+MEASURED, COHESIVE, COHESIONLESS, SOFT_CLAY = 1, 2, 3, 4
+
 MAJOR = 2
-LEAST = 2_002_000
+LEAST = 2_004_000
 LONGEST = 4_610
 TEXTS = {
     1: 'no level, or over 50',
@@ -167,7 +170,7 @@ def distribution(base_shear, period, weights, heights):
 
 
 def site_class(thicknesses, kinds, values):
-    """1 hard, 2 normal, 3 soft."""
+    """1 hard, 2 normal, 3 soft, of layers by their thicknesses in cm, kinds and values."""
     lists, reply = [_array(each) for each in (thicknesses, kinds, values)], (U64 * 2)()
     return _taken(_core.rukeshomaji_site_class(*(part for each in lists for part in (each, len(each))), reply), reply)[0]
 

@@ -15,9 +15,10 @@ import re
 import subprocess
 import sys
 
-from tests.model import calls
+from tests.model import calls, soil
 from tests.writes import by_hand
 from tests.writes.calls import scaling_lines
+from tests.writes.logs import BORING, MADE_UP
 
 ROOT = pathlib.Path(__file__).resolve().parents[1]
 EXAMPLES = ROOT / 'examples'
@@ -43,12 +44,16 @@ def printed(path):
 
 
 def run_programs():
-    """Three examples print the listing of the worked sheet, two what the manual has of a scaled analysis; that in C++ prints every listing."""
+    """Three examples print the listing of the worked sheet, two what the manual has of a scaled analysis, two the class of its boring in soft
+    clay; that in C++ prints every listing."""
     expected = (EXAMPLES / 'office.listing').read_bytes()
     for name in ('office.c', 'listing.cpp', 'rukeshomaji.py'):
         yield name, printed(EXAMPLES / name) == expected
     expected = ''.join(f'{line}\n' for line in scaling_lines(by_hand.read((EXAMPLES / 'office.sheet').read_bytes()))).encode()
     for name in ('scaling.c', 'scaling.py'):
+        yield name, printed(EXAMPLES / name) == expected
+    expected = b'class\t%d\n' % soil.log(*BORING).cls
+    for name in ('boring.c', 'boring.py'):
         yield name, printed(EXAMPLES / name) == expected
     for sheet in sorted(EXAMPLES.glob('*.sheet')):
         run = subprocess.run([ROOT / 'target' / 'lib' / 'listing'], input=sheet.read_bytes(), capture_output=True, check=False)
@@ -108,6 +113,7 @@ def refusals(core):
     yield 14, 2, log([3000, 0], [2, 2], [2, 2])
     yield 14, 0, log([2999], [2], [2])
     yield 15, 1, log([3000], [2], [1])
+    yield from ((15, 2, log([1000, 2000], [core.MEASURED, kind], [2000, q])) for kind, q in ((core.SOFT_CLAY, 0), (core.SOFT_CLAY, 401), (5, 100)))
     yield 16, 1, (core.sheet, (b'',))
     yield 17, 0, (core.sheet, (b'\n' * 4097,))
     yield 18, 0, (core.sheet, (b'basin\t5\nframe\t2\t1000\t480\t100\t150\nlevel\t5000\t100\n',))
@@ -158,6 +164,12 @@ def run_module(core):
     yield 'a total weight', 'total weight out' in str(raises(core.Refused, core.shear_call, SITE, FRAME, 0, 300))
     yield 'a top height', 'top height out' in str(raises(core.Refused, core.shear_call, SITE, FRAME, 15_000, 2_001))
     yield 'a soil log', core.site_class([1000, 1000, 1000], [1, 2, 3], [3000, 20, 40]) == 1
+    yield 'a boring in soft clay', core.site_class(*BORING) == soil.log(*BORING).cls == 3
+    yield 'the same with N = 2 made up', core.site_class(*MADE_UP) == soil.log(*MADE_UP).cls == 2
+    kinds = (core.MEASURED, core.COHESIVE, core.COHESIONLESS, core.SOFT_CLAY)
+    yield 'the kinds of layer', kinds == tuple(soil.VALUE)
+    for q in soil.VALUE[soil.SOFT_CLAY]:
+        yield f'soft clay, q = {q}', core.site_class([3000], [core.SOFT_CLAY], [q]) == soil.log([3000], [soil.SOFT_CLAY], [q]).cls
     yield 'a sheet', core.sheet((EXAMPLES / 'tower.sheet').read_bytes()) == (EXAMPLES / 'tower.listing').read_bytes()
     header = (ROOT / 'include' / 'rukeshomaji.h').read_text()
     numbers = tuple(int(re.search(rf'_{name} (\d+)', header)[1]) for name in ('VERSION', 'EDITION', 'SOURCE'))

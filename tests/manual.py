@@ -21,8 +21,7 @@ from math import ceil, floor
 
 from tests.model import basin as basins, calls, limits, response, sheet, shears, site as sites, soil, storeys
 from tests.writes import manual, near_fault
-from tests.writes.by_hand import comma, decimal, read
-from tests.writes.manual import ranged
+from tests.writes.by_hand import comma, decimal, ranged, read
 
 ROOT = pathlib.Path(__file__).resolve().parents[1]
 MANUAL = ROOT / 'docs' / 'manual'
@@ -39,7 +38,8 @@ OWN = {
     'basin.md': '0.01 0.2 0.4 0.6 0.8 1 1.0 1.4 1.5 2 2.0 2.3 2.4 2.5 3 3.5 4 4.2 6 7 10 11 15 16 17 18 19 50 100 200 1000 2005 14,000 35,000',
     'roof_force.md': '0 0.07 0.7 2 2.0.0 3.1 10 14 21 50 700',
     'rounding.md': '0.07 1 3 1.4 1.5 2.2.0 4.2 10 15 21 700 701 3,571',
-    'soil.md': '0.1 1 2 3 2.1 10 13 15 18 27 30 180 270 800 1000',
+    'soil.md': '0.01 0.1 0.36 1 2 3 4 2.1 10 13 15 18 27 30 100 180 270 800 1000 1200',
+    'soft_clay.md': '0 0.2549 0.36 1 2 2.4.0 3 4 9 15 25 98.0665 100 120 120.0 180 1200',
     'finer_spectrum.md': '0.01 0.144 0.2 0.45 0.52 0.80 1 1.00 1.4 3 4 5 10 25 75 2.0.0 2.1.0 2.2.0 2.3.0 2003000 1400 3500 4200 14,000 '
                          '35,000 42,000 144,000 300,000 800,000 1,440,000 3,000,000 8,000,000',
     'shear_and_storeys.md': '0 0.07 1 1.4 2 2.5.4 3.1 3.2 3.3 3.4 4 10 14 19 20 21 24 700 701 1,000 3,571 10,000',
@@ -86,7 +86,7 @@ SAID = {
     10: ['not ' + ranged(limits.ALPHA_Y)], 11: ['not ' + either(limits.KIND)], 12: [f'above {comma(limits.CALCULATED_PERIOD[-1])} ms'],
     13: [f'more than {soil.LAYERS[-1]}'], 14: [],
     15: ['not ' + either(tuple(soil.VALUE)), f'velocity {ranged(soil.VALUE[1])} dm/s', f'cohesive N {ranged(soil.VALUE[2])}',
-         f'cohesionless N {ranged(soil.VALUE[3])}'],
+         f'cohesionless N {ranged(soil.VALUE[3])}', f'soft clay q {ranged(soil.VALUE[4])}'],
     17: [f'more than {comma(sheet.MOST_BYTES)} bytes'], 18: ['not ' + either(limits.ZONE)], 19: [f'not {ranged(limits.BASE_SHEAR)} N'],
     20: [f'above {comma(limits.PERIOD[-1])} ms'],
 }

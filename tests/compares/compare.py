@@ -33,7 +33,7 @@ from tests.draws.sample import all_strata, draw_in
 from tests.model import job as jobs, soil
 from tests.writes import log_cases
 
-JOBS, BAD, LOGS, SHEETS, SEED = 1_000_000, 120_000, 100_000, 120_000, 1
+JOBS, BAD, LOGS, SHEETS, SEED = 1_000_000, 120_000, 200_000, 120_000, 1
 BASIN, BASIN_BAD, PAIRS, PAIRS_BAD = 200_000, 24_000, 200_000, 24_000
 SHEARS, SHEARS_BAD, DISTRIBUTIONS, DISTRIBUTIONS_BAD = 200_000, 24_000, 200_000, 24_000
 SHOWN = 5
@@ -149,10 +149,15 @@ def run_systematic_pairs(library, tally, seed, count):
     run_faults(library, tally, 'pairs', pair_faults.systematic())
 
 
+def expected_log(*lists):
+    """Number, place and class of a log by the model."""
+    answer = soil.log(*lists)
+    return (0, 0, answer.cls) if isinstance(answer, soil.Log) else (*answer[1:], 0)
+
+
 def compare_log(tally, library, name, lists):
     """One log, counted by its stratum and by the refusal that the model gives."""
-    answer = soil.log(*lists)
-    expected = (0, 0, answer.cls) if isinstance(answer, soil.Log) else (*answer[1:], 0)
+    expected = expected_log(*lists)
     tally.compare(f'log, {name}', lists, core.site_class(library, *lists), expected)
     tally.counts[f'of the logs, refusal {expected[0]}' if expected[0] else 'of the logs, classed'] += 1
 

@@ -28,6 +28,7 @@ CONSTANTS = {
     'STEEL': 'limits/kind STEEL', 'CONCRETE': 'limits/kind CONCRETE', 'BRACED': 'limits/kind BRACED', 'OTHER': 'limits/kind OTHER',
     'NO_PERIOD': 'limits/frame NO_PERIOD',
     'MEASURED': 'limits/layer MEASURED', 'COHESIVE': 'limits/layer COHESIVE', 'COHESIONLESS': 'limits/layer COHESIONLESS',
+    'SOFT_CLAY': 'limits/layer SOFT_CLAY',
 }
 NOT_REFUSALS = {'NOWHERE'}      # of the constants beside the refusal numbers
 # how a range is printed: the words before it, and file and names of its ends, or of its list
@@ -43,7 +44,8 @@ RANGES = [
     ('each; ', 'limits/level FEWEST MOST', ' levels'), ('together 3,000; ', 'limits/layer FEWEST MOST', ' layers'),
     ('cm: above 0, together ', 'limits/layer DEPTH'), ('do not add up to ', 'limits/layer DEPTH'),
     ('dm/s: ', 'limits/layer VELOCITY_LEAST VELOCITY_MOST'), ('cohesive: N: ', 'limits/layer COHESIVE_LEAST COHESIVE_MOST'),
-    ('cohesionless: N: ', 'limits/layer COHESIONLESS_LEAST COHESIONLESS_MOST'), ('bytes: at most ', 'limits/sheet BYTES_MOST'),
+    ('cohesionless: N: ', 'limits/layer COHESIONLESS_LEAST COHESIONLESS_MOST'),
+    ('soft clay: q, 0.01 kgf/cm2: ', 'limits/layer SOFT_CLAY_LEAST SOFT_CLAY_MOST'), ('bytes: at most ', 'limits/sheet BYTES_MOST'),
     ('sheet over ', 'limits/sheet BYTES_MOST'), ('no level, or over ', 'limits/level MOST'), ('no layer, or over ', 'limits/layer MOST'),
     ('bytes: 1 to ', 'sheet/listing LONGEST'), ('micro-zone of the Basin: ', 'limits/zone ONE FOUR'), ('zone not ', 'limits/zone ONE FOUR'),
     ('total weight, kN: ', 'limits/building WEIGHT_LEAST WEIGHT_MOST'), ('top height, dm: ', 'limits/level HEIGHT_LEAST HEIGHT_MOST'),

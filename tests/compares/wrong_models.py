@@ -1,6 +1,6 @@
-"""01's 'Errors that look right', some of the Basin, some of two pairs of near-fault factors, some of the roof force, some of the finer unit and some
-of the shear call and the distribution, each put into the model: how many of the comparisons with the compiled core show it, and of the
-last how many of the stored cases of crates/run_calls.
+"""01's 'Errors that look right', some of the Basin, some of two pairs of near-fault factors, some of the roof force, some of the finer unit, some
+of the shear call and the distribution and some of soft clay, each put into the model: how many of the comparisons with the compiled core show it, and of
+the two calls how many of the stored cases of crates/run_calls.
 
 usage: python3 -m tests.compares.wrong_models [JOBS [SEED]]        after tests/compares/compare.py has built the archive
 """
@@ -12,8 +12,8 @@ from fractions import Fraction
 from math import ceil
 from unittest import mock
 
-from tests.compares import core, wrong_calls
-from tests.compares.compare import expected_job, got_job
+from tests.compares import core, wrong_calls, wrong_logs
+from tests.compares.compare import expected_job, expected_log, got_job
 from tests.compares.compare_calls import expected_distribution, expected_shear, got_distribution
 from tests.compares.tally import NEAR_FAULT
 from tests.draws import faults, pair_faults
@@ -282,8 +282,8 @@ def unseen_stored(kind, where, errors):
 
 
 def main(jobs=JOBS, seed=SEED):
-    """Try the errors on sites, those of the Basin, of two pairs, of the roof force, of the finer unit and of the two calls; 1 where one is not
-    seen at all."""
+    """Try the errors on sites, those of the Basin, of two pairs, of the roof force, of the finer unit, of the two calls and of soft clay; 1 where
+    one is not seen at all."""
     count = unseen_stored(call_cases.Shear, 'stored shear calls', wrong_calls.SHEAR_ERRORS)
     count += unseen_stored(call_cases.Distribution, 'stored distributions', DISTRIBUTION_ERRORS)
     rng, library = random.Random(seed), core.load()
@@ -294,7 +294,8 @@ def main(jobs=JOBS, seed=SEED):
             (roof_calls, got_job, expected_job, 'at the ends of the roof force', ROOF_ERRORS),
             (unit_calls, got_job, expected_job, 'in the finer unit', UNIT_ERRORS),
             (wrong_calls.shear_calls, core.shear_call, expected_shear, 'shear calls', wrong_calls.SHEAR_ERRORS),
-            (wrong_calls.distributions, got_distribution, expected_distribution, 'distributions', DISTRIBUTION_ERRORS)):
+            (wrong_calls.distributions, got_distribution, expected_distribution, 'distributions', DISTRIBUTION_ERRORS),
+            (wrong_logs.logs, core.site_class, expected_log, 'soil logs', wrong_logs.ERRORS)):
         drawn = list(calls(rng, jobs))
         count += unseen(drawn, [got(library, *call) for call in drawn], expected, where, errors)
     return 1 if count else 0

@@ -1,6 +1,7 @@
 """The soil log: velocities, times, class and refusals 2, 13, 14 and 15."""
 
 from fractions import Fraction
+from functools import cache
 from math import ceil, floor
 from typing import NamedTuple
 
@@ -56,6 +57,7 @@ def root(number, power):
     return v
 
 
+@cache
 def by_strength(q):
     """Soft clay, "120*q^0.36 m/s", q in hundredths of kgf/cm^2: the largest whole v, in dm/s, with v^25 <= 1200^25*(q/100)^9."""
     return root(1200**25 * Fraction(q, 100)**9, 25)

@@ -33,6 +33,11 @@ def decimal(number, digits=3):
     return text + more if more else text.rstrip('0').rstrip('.')
 
 
+def ranged(numbers):
+    """A range in words."""
+    return f'{comma(numbers[0])} to {comma(numbers[-1])}'
+
+
 def hundredths(number):
     """A whole number of hundredths with its two digits."""
     return f'{number // 100}.{number % 100:02}'

@@ -11,19 +11,13 @@ import string
 from fractions import Fraction
 from math import ceil
 
-from tests.model import exact, limits, response, soil, storeys
+from tests.model import exact, limits, response, storeys
 from tests.model.sheet import listing
-from tests.writes import by_hand, calls, finer, near_fault, roof
-from tests.writes.by_hand import code, comma, decimal, table
+from tests.writes import by_hand, calls, finer, logs, near_fault, roof
+from tests.writes.by_hand import code, comma, decimal, ranged, table
 
 ROOT = pathlib.Path(__file__).resolve().parents[2]
 PAGES, MANUAL = ROOT / 'tests' / 'writes' / 'pages', ROOT / 'docs' / 'manual'
-KINDS = {soil.MEASURED: 'measured', soil.COHESIVE: 'cohesive', soil.COHESIONLESS: 'cohesionless'}
-NEAR_270 = ([400, 600, 1000, 1000], [3, 2, 3, 1], [15, 20, 40, 3110])
-BELOW_270 = ([400, 600, 1000, 1000], [3, 2, 3, 1], [15, 20, 40, 3109])
-NEAR_180 = ([500, 700, 800, 1000], [2, 2, 3, 3], [2, 4, 10, 40])
-ABOVE_180 = ([500, 700, 800, 1000], [2, 2, 3, 3], [2, 4, 10, 41])
-CLOSEST = (([1000] * 3, [1] * 3, [1190, 7340, 7433]), ([1000] * 3, [1] * 3, [700, 5030, 25453]))
 
 
 def example(name):
@@ -32,51 +26,6 @@ def example(name):
     stored = (ROOT / 'examples' / f'{name}.listing').read_bytes()
     assert stored == listing(by_hand.read(data)), name
     return data
-
-
-def ranged(numbers):
-    """A range in words."""
-    return f'{comma(numbers[0])} to {comma(numbers[-1])}'
-
-
-def average(log):
-    """The average velocity in m/s, (2), over the whole velocities."""
-    thicknesses, kinds, values = log
-    return Fraction(sum(thicknesses), 100) / sum(Fraction(d, 100) / Fraction(soil.velocity(kind, value), 10)
-                                                 for d, kind, value in zip(thicknesses, kinds, values))
-
-
-def near(log):
-    """A log as a table, and how it is classed."""
-    answer, rows = soil.log(*log), []
-    for place, (thickness, kind, value) in enumerate(zip(*log)):
-        v = answer.velocities[place]
-        shown = f'{comma(value)} dm/s' if kind == soil.MEASURED else f'N = {value}'
-        time = soil.time(thickness, v)
-        rows.append((comma(thickness), f'{kind} {KINDS[kind]}', shown, comma(v), decimal(time, 2)))
-    head = ('thickness, cm', 'kind', 'value', 'v, dm/s', 'time, ns')
-    name = by_hand.CLASS_NAMES[answer.cls]
-    hard, soft = ('<' if 27 * answer.U < 3 * 10**9 else 'is not <'), ('>' if 18 * answer.L > 3 * 10**9 else 'is not >')
-    lines = [f'U = {comma(answer.U)} ns, L = {comma(answer.L)} ns',
-             f'27 · U = {comma(27 * answer.U)} {hard} 3,000,000,000',
-             f'18 · L = {comma(18 * answer.L)} {soft} 3,000,000,000',
-             f'class {answer.cls}, {name}; the average is {decimal(average(log), 3)} m/s']
-    return table(head, rows) + '\n\n' + code(lines)
-
-
-def soil_names():
-    """What the page on soil logs names."""
-    rows = []
-    for log in CLOSEST:
-        answer = soil.log(*log)
-        layers = ', '.join(map(comma, log[2]))
-        rows.append((f'three measured layers of 10 m at {layers} dm/s', f'{decimal(average(log), 7)} m/s',
-                     f'{comma(answer.U)} ns', f'{comma(answer.L)} ns', by_hand.CLASS_NAMES[answer.cls]))
-    return {'near_270': near(NEAR_270), 'below_270': near(BELOW_270), 'near_180': near(NEAR_180), 'above_180': near(ABOVE_180),
-            'closest_table': table(('log', 'average', 'U', 'L', 'class'), rows),
-            'tenth_second': comma(3 * 10**9 // 27), 'layers': str(soil.LAYERS[-1]), 'depth': comma(soil.THICKNESS_SUM),
-            'measured': ranged(soil.VALUE[soil.MEASURED]), 'cohesive': ranged(soil.VALUE[soil.COHESIVE]),
-            'cohesionless': ranged(soil.VALUE[soil.COHESIONLESS]), 'cohesive_least': str(soil.VALUE[soil.COHESIVE][0])}
 
 
 def rounding_names():
@@ -163,8 +112,8 @@ def written():
     """Each page that is filled, by its name."""
     pages = {'worked.md': by_hand.names(example('office')), 'soft_ground.md': by_hand.names(example('soft_ground')),
              'near_fault.md': near_fault.names(example('near_fault')), 'basin.md': by_hand.names(example('basin')),
-             'roof_force.md': roof.names(*map(example, ('office', 'soft_ground', 'tower'))), 'rounding.md': rounding_names(), 'soil.md': soil_names(),
-             'shear_and_storeys.md': calls_names(), 'finer_spectrum.md': finer_names()}
+             'roof_force.md': roof.names(*map(example, ('office', 'soft_ground', 'tower'))), 'rounding.md': rounding_names(), 'soil.md': logs.names(),
+             'soft_clay.md': logs.soft_clay_names(), 'shear_and_storeys.md': calls_names(), 'finer_spectrum.md': finer_names()}
     assert {path.name for path in PAGES.iterdir()} == pages.keys()
     return {page: filled(page, names) for page, names in pages.items()}
 
