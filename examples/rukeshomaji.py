@@ -20,8 +20,11 @@ Figures = namedtuple('Figures', 'v vm star vd t')
 Job = namedtuple('Job', 'figures forces shears overturnings')
 Storeys = namedtuple('Storeys', 'forces shears overturnings')
 
-# kinds of layer: their values are a velocity in dm/s, N, N, and the unconfined compression strength q in 0.01 kgf/cm²
-MEASURED, COHESIVE, COHESIONLESS, SOFT_CLAY = 1, 2, 3, 4
+# kinds of layer
+MEASURED = 1        # its value is a velocity in dm/s
+COHESIVE = 2        # its value is N
+COHESIONLESS = 3    # its value is N
+SOFT_CLAY = 4       # its value is q, the unconfined compression strength in 0.01 kgf/cm²
 
 MAJOR = 2
 LEAST = 2_004_000

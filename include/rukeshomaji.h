@@ -1,7 +1,7 @@
 /* Rukeshomaji: the seismic base shear of a building by Taiwan's 2005 code, in whole numbers. C99 or newer, and C++.
  *
- * examples/build.sh makes the library of x86-64 Linux, librukeshomaji.a and librukeshomaji.so; examples/ has two programs in C, one in C++,
- * a module for Python and a program that uses it. Pointers and 64-bit numbers are all that an entry takes and returns.
+ * examples/build.sh makes the library of x86-64 Linux, librukeshomaji.a and librukeshomaji.so; examples/ has programs in C and C++, a
+ * module for Python and programs that use it. Pointers and 64-bit numbers are all that an entry takes and returns.
  *
  * crates/linked/src/lib.rt has the contracts, numbers, places, figures and buffers, which each entry is proved to meet; this page prints them a
  * second time. What it says of threads, NULL, overlap, heap and stack is not proved (docs/LIMITS.md). Document 000 is the code's text in
@@ -234,7 +234,7 @@ uint64_t rukeshomaji_distribution(uint64_t base_shear, uint64_t period, const ui
  * Given      thicknesses     of the layers, cm: above 0, together 3,000; 1 to 40 layers
  *            kinds           1 measured, 2 cohesive, 3 cohesionless, 4 soft clay (N below 2, which is not checked); as many
  *            values          measured: velocity, dm/s: 500 to 30,000; cohesive: N: 2 to 25; cohesionless: N: 1 to 50;
- *                            soft clay: q, 0.01 kgf/cm2: 1 to 400; as many
+ *                            soft clay: q, 0.01 kgf/cm2: 1 to 400; as many. A library before 2.4.0 refuses soft clay with 15
  * Returned   0, or the refusal
  * Refused    2, 13, 14, 15
  * Written    reply: all fields

@@ -59,12 +59,24 @@ def names():
             'soft_clay': ranged(soil.VALUE[soil.SOFT_CLAY])}
 
 
-def unrounded(q):
-    """1200*(q/100)^0.36, cut off after three digits: the largest whole number of thousandths by the rule of the 25th powers."""
-    power = (1200 * 1000)**25 * Fraction(q, 100)**9
-    thousandths = soil.root(power, 25)
-    more = '' if thousandths**25 == power else '…'
-    return f'{thousandths // 1000:,}.{thousandths % 1000:03}{more}'
+def unrounded(number, power):
+    """A root, cut off after three digits."""
+    thousandths = soil.root(1000**power * number, power)
+    return decimal(Fraction(thousandths, 1000)) + ('' if thousandths**power == 1000**power * number else '…')
+
+
+def by_strength(q):
+    """1200*(q/100)^0.36, cut off after three digits."""
+    return unrounded(1200**25 * Fraction(q, 100)**9, 25)
+
+
+def worked(kind, value):
+    """The velocity of a layer by hand."""
+    v = soil.velocity(kind, value)
+    if kind == soil.SOFT_CLAY:
+        return f'q = {value}: 1200 · {hundredths(value)}^0.36 = {by_strength(value)}, so v = {comma(v)} dm/s'
+    scale = {soil.COHESIVE: 1000, soil.COHESIONLESS: 800}[kind]
+    return f'N = {value}: {scale} · {value}^(1/3) = {unrounded(scale**3 * value, 3)}, so v = {comma(v)} dm/s'
 
 
 def asked():
@@ -87,14 +99,11 @@ def first_soft():
 def soft_clay_names():
     """What the page on soft clay names."""
     last, (least, *_, most) = first_soft(), soil.VALUE[soil.SOFT_CLAY]
-    rows = [(str(q), hundredths(q), unrounded(q), comma(soil.velocity(soil.SOFT_CLAY, q))) for q in SHOWN]
-    (first, second), answer = [value for kind, value in zip(*BORING[1:]) if kind == soil.SOFT_CLAY], soil.log(*BORING)
-    lines = [f'q = {q}: 1200 · {hundredths(q)}^0.36 = {unrounded(q)}, so v = {soil.velocity(soil.SOFT_CLAY, q)} dm/s' for q in (first, second)]
-    made_up = soil.log(*MADE_UP)
-    assert answer.cls == soil.SOFT and made_up.cls == soil.NORMAL
-    lists = ', '.join(map(str, map(list, BORING)))
+    rows = [(str(q), hundredths(q), by_strength(q), comma(soil.velocity(soil.SOFT_CLAY, q))) for q in SHOWN]
+    answer = soil.log(*BORING)
+    assert answer.cls == soil.SOFT and soil.log(*MADE_UP).cls == soil.NORMAL
     return {'range': ranged(soil.VALUE[soil.SOFT_CLAY]), 'least': hundredths(least), 'most': hundredths(most), 'most_q': str(most),
             'slowest': comma(soil.velocity(soil.SOFT_CLAY, least)), 'fastest': comma(soil.velocity(soil.SOFT_CLAY, most)),
             'last_soft': str(last), 'first_normal': str(last + 1), 'velocities': table(('q', 'q_u, kgf/cm²', '1200·q_u^0.36', 'v, dm/s'), rows),
-            'boring': asked(), 'by_hand': code(lines), 'classed': near(BORING), 'made_up': near(MADE_UP),
-            'n_2': comma(soil.velocity(soil.COHESIVE, 2)), 'python': f'site_class({lists})', 'cls': str(answer.cls)}
+            'boring': asked(), 'by_hand': code(map(worked, *BORING[1:])), 'classed': near(BORING), 'made_up': near(MADE_UP),
+            'n_2': comma(soil.velocity(soil.COHESIVE, 2)), 'cls': str(answer.cls)}

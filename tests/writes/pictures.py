@@ -475,7 +475,7 @@ def soft_clay():
         picture.dot(x, y, BLUE)
         right, down = (-130, -14) if q == strengths[-1] else (14, 18)
         axes.words(q, v, f'q = {q}: {decimal(v, 1)} m/s', right=right, down=down)
-    picture.words(110, 36, 'Soft clay: 120·q_u^0.36 m/s, rounded down to 0.1 m/s', size=19, weight='bold')
+    picture.words(110, 36, 'Soft clay: 120·(q/100)^0.36 m/s, rounded down to 0.1 m/s', size=19, weight='bold')
     return picture.svg()
 
 

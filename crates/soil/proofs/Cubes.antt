@@ -30,7 +30,7 @@ module _ (s N : ℕ) (hs : s ≤ 1_000) (hN : N ≤ 50) where
   cube-root-is =
       largest-is (λ v. v ^ 3) cubes-rise (s ^ 3 * N) (omega arith) (omega (arith, ap (λ (z : ℕ). z * N) (cube-is s), radicand-most))
 
-  -- v = s fits from N = 1 on
+  -- v = s fits where N is 1 or more
   pub cube-root-least : 1 ≤ N → s ≤ cubeRoot s N
   cube-root-least pos = cube-root-is .largest s (omega (arith, le-mul-of-pos-right (s ^ 3) pos))
 

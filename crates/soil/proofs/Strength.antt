@@ -17,8 +17,8 @@ use Rattle.soil.proofs.ByTable.{eachLargest, table-of}
 powers-rise : Rises (λ v. v ^ 25 * 100 ^ 9)
 powers-rise a b h = mul-le-mul-right (100 ^ 9) (pow-le-pow-left h 25)
 
-none-fits : (n : ℕ) → 0 ^ 25 * 100 ^ 9 ≤ n
-none-fits n = nonneg n
+zero-fits : (n : ℕ) → 0 ^ 25 * 100 ^ 9 ≤ n
+zero-fits n = nonneg n
   where
     nonneg : (n : ℕ) → 0 ≤ n
     nonneg n = omega arith
@@ -30,10 +30,10 @@ bounded = lit< tt
 pub strength-root-is : (q : ℕ) → q ≤ 400 → Largest (λ (v : ℕ). v ^ 25 * 100 ^ 9 ≤ 1_200 ^ 25 * q ^ 9) (strengthRoot q)
 unfolding strengthRoot
 strength-root-is q h =
-    largest-is (λ v. v ^ 25 * 100 ^ 9) powers-rise (1_200 ^ 25 * q ^ 9) (none-fits _)
+    largest-is (λ v. v ^ 25 * 100 ^ 9) powers-rise (1_200 ^ 25 * q ^ 9) (zero-fits _)
     (lt-of-le-of-lt (mul-le-mul-left (1_200 ^ 25) (pow-le-pow-left h 9)) bounded)
 
--- v = 1 fits from q = 1 on
+-- v = 1 fits where q is 1 or more
 pub strength-positive : (q : ℕ) → 1 ≤ q → q ≤ 400 → 0 < strengthRoot q
 strength-positive q lo hi =
     let one : 1 ^ 25 * 100 ^ 9 ≤ 1_200 ^ 25 * 1 ^ 9 = lit≤ tt in
