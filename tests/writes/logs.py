@@ -88,8 +88,8 @@ def asked():
     return table(('thickness, cm', 'soil', 'N', 'q_u, kgf/cm²', 'kind', 'value'), rows)
 
 
-def first_soft():
-    """The largest q of which soft clay alone is soft, and the next, of which it is normal."""
+def last_soft():
+    """The largest q of which soft clay alone is soft; from the next on it is normal."""
     classed = [soil.log([soil.THICKNESS_SUM], [soil.SOFT_CLAY], [q]).cls for q in soil.VALUE[soil.SOFT_CLAY]]
     last = classed.count(soil.SOFT)
     assert classed == [soil.SOFT] * last + [soil.NORMAL] * (len(classed) - last)
@@ -98,7 +98,7 @@ def first_soft():
 
 def soft_clay_names():
     """What the page on soft clay names."""
-    last, (least, *_, most) = first_soft(), soil.VALUE[soil.SOFT_CLAY]
+    last, (least, *_, most) = last_soft(), soil.VALUE[soil.SOFT_CLAY]
     rows = [(str(q), hundredths(q), by_strength(q), comma(soil.velocity(soil.SOFT_CLAY, q))) for q in SHOWN]
     answer = soil.log(*BORING)
     assert answer.cls == soil.SOFT and soil.log(*MADE_UP).cls == soil.NORMAL

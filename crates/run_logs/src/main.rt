@@ -174,7 +174,7 @@ fn run(s: &[u8]) {
     }
 }
 
-// The velocity of each value from 0 up to below `past`, or its refusal.
+// The velocity of each value from 0 up to below `past`, or its refusal. Both kinds by N are run past the larger of their limits.
 fn velocities(kind: u64, past: u64) {
     let mut value = 0;
     while value < past {

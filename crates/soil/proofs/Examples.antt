@@ -1,5 +1,6 @@
--- Document 01's figures of velocities, and of soft clay those of the ends of q and of 1 kgf/cm², 1200 dm/s exactly; and two logs of three layers of 10 m, measured, that come out normal though their
--- averages are above 270 m/s (270.0000033) and below 180 m/s (179.9999980): their exact times lie within 2 ns of the limits.
+-- Document 01's figures of velocities. Of soft clay those of q = 1 and 400, and of 1 kgf/cm², 1200 dm/s exactly; that q of 0 and 401, kind
+-- 5 and cohesive soil of N = 1 are refused. Two logs of three layers of 10 m, measured, that come out normal though their averages are above
+-- 270 m/s (270.0000033) and below 180 m/s (179.9999980): their exact times lie within 2 ns of the limits.
 -- Assumes nothing.
 use mathlib.Core.Path.{_≡_, refl}
 use mathlib.Core.List.{List, [], _∷_}
@@ -10,7 +11,7 @@ use Rattle.whole.specs.Fraction.{over, Less}
 use Rattle.whole.specs.Rounding.{up, down}
 use Rattle.whole.specs.Search.{bitsFrom, largest}
 use Rattle.limits.specs.declared.class.Class.the-variants.{Normal}
-use Rattle.limits.specs.Outcome.{accepted}
+use Rattle.limits.specs.Outcome.{accepted, refused}
 use Rattle.limits.specs.Ranges.{inRange, within}
 use Rattle.soil.specs.Class.{table3, classOf}
 use Rattle.soil.specs.Exact.{slowness, average}
@@ -25,6 +26,11 @@ velocity-figures = (refl, refl)
 pub soft-clay-figures : (velocity 4 1 1 ≡ accepted 228) × (velocity 4 100 1 ≡ accepted 1_200) × (velocity 4 400 1 ≡ accepted 1_976)
 unfolding velocity byRule strengthRoot largest bitsFrom within inRange
 soft-clay-figures = (refl, refl, refl)
+
+pub soft-clay-refusals : (velocity 4 0 1 ≡ refused 15 1) × (velocity 4 401 1 ≡ refused 15 1) × (velocity 5 100 1 ≡ refused 15 1)
+    × (velocity 2 1 1 ≡ refused 15 1)
+unfolding velocity byRule within inRange
+soft-clay-refusals = (refl, refl, refl, refl)
 
 abbrev thicknesses : List ℕ
 thicknesses = 1_000 ∷ 1_000 ∷ 1_000 ∷ []

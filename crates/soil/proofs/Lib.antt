@@ -1,6 +1,7 @@
 pub mod ByTable
 pub mod Cubes
 pub mod Strength
+pub mod TablesHold
 pub mod Speeds
 pub mod Layers
 pub mod Adding

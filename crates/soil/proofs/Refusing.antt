@@ -53,8 +53,8 @@ module _ (ds ks xs : List ℕ) where
     ranged least most v g = then-told A (within least most x 15 p) (accepted v) (within-told A least most x 15 p (λ o. f (g o))) (λ _. tt)
 
     -- k is not two kinds at once
-    other : {A : Type 0} {a b : ℕ} → (a ≡ b → ⊥) → eqb k a ≡ true → k ≡ b → A
-    other {A} {a} {b} n e h = let one = eqb-true k a e in absurd (n (omega arith))
+    other : {B : Type 0} {a b : ℕ} → (a ≡ b → ⊥) → eqb k a ≡ true → k ≡ b → B
+    other {B} {a} {b} n e h = let one = eqb-true k a e in absurd (n (omega arith))
 
     velocity-told : Told A (velocity k x p)
     unfolding velocity measuredAt byRule

@@ -18,10 +18,10 @@ powers-rise : Rises (λ v. v ^ 25 * 100 ^ 9)
 powers-rise a b h = mul-le-mul-right (100 ^ 9) (pow-le-pow-left h 25)
 
 zero-fits : (n : ℕ) → 0 ^ 25 * 100 ^ 9 ≤ n
-zero-fits n = nonneg n
+zero-fits n = above-zero n
   where
-    nonneg : (n : ℕ) → 0 ≤ n
-    nonneg n = omega arith
+    above-zero : (m : ℕ) → 0 ≤ m
+    above-zero m = omega arith
 
 -- the search's bound is past the velocity of the largest q
 bounded : 1_200 ^ 25 * 400 ^ 9 < (2 ^ 32) ^ 25 * 100 ^ 9

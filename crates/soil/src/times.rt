@@ -41,12 +41,12 @@ const NS_AT_UNIT: u64 = 100_000_000;
 fn timed_by(
     cohesive: &[u16],
     cohesionless: &[u16],
-    clay: &[u16],
+    soft_clay: &[u16],
     thicknesses: &[u64],
     kinds: &[u64],
     values: &[u64],
 ) -> TimesAnswer
-    requires { ⌜ Tables (now cohesive) (now cohesionless) (now clay) × Matched (now thicknesses) (now kinds) (now values) ⌝ }
+    requires { ⌜ Tables (now cohesive) (now cohesionless) (now «soft_clay») × Matched (now thicknesses) (now kinds) (now values) ⌝ }
     ensures { λ a. ⌜ timesOutcome a ≡ judgedTimes (now (thicknesses .entry)) (now (kinds .entry)) (now (values .entry)) ⌝ }
 {
     let mut up = 0;
@@ -56,7 +56,7 @@ fn timed_by(
         let a = velocity_by(
             cohesive,
             cohesionless,
-            clay,
+            soft_clay,
             kinds[i],
             values[i],
             i as u64 + 1,

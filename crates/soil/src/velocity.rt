@@ -47,7 +47,7 @@ fn measured(value: u64, place: u64) -> VelocityAnswer
     VelocityAnswer::Taken(value)
 }
 
-// An entry of a table: they are of 16 bits, as the tables are laid out anew for each log.
+// An entry of a table, of 16 bits.
 fn wide(v: u16) -> u64
     ensures { λ r. ⌜ r ≡ v ⌝ }
 {
@@ -67,16 +67,16 @@ fn by_table(least: u64, most: u64, velocities: &[u16], value: u64, place: u64) -
 }
 
 // 15: the velocity of a layer, by its kind and value, with the tables of the three kinds of soil lent: a constant table is laid out anew by
-// each function that names it, so once a log and not once a layer.
+// each function that names it, so once a log and not once a layer, and with 16 bits an entry.
 pub fn velocity_by(
     cohesive: &[u16],
     cohesionless: &[u16],
-    clay: &[u16],
+    soft_clay: &[u16],
     kind: u64,
     value: u64,
     place: u64,
 ) -> VelocityAnswer
-    requires { ⌜ Tables (now cohesive) (now cohesionless) (now clay) ⌝ }
+    requires { ⌜ Tables (now cohesive) (now cohesionless) (now «soft_clay») ⌝ }
     ensures { λ a. ⌜ velocityOutcome a ≡ velocity kind value place ⌝ }
 {
     if kind == Layer::MEASURED {
@@ -104,7 +104,7 @@ pub fn velocity_by(
         return by_table(
             Layer::SOFT_CLAY_LEAST,
             Layer::SOFT_CLAY_MOST,
-            clay,
+            soft_clay,
             value,
             place,
         );

@@ -1,10 +1,8 @@
--- `soil::times::timed` meets its contract: the rules hold of the tables, each of all its entries at once, by computing it. Assumes nothing.
+-- `soil::times::timed` meets its contract: the tables hold their rules, all entries at once, by computing it. Assumes nothing.
 use borrow.Author.Needs.{needs}
 use mathlib.Core.Path.{refl}
-use native.Mathlib.Omega.{arith}
 use Rattle.soil.proofs.ByTable.{eachLargest}
-use Rattle.soil.proofs.Cubes.{cube-table}
-use Rattle.soil.proofs.Strength.{strength-table}
+use Rattle.soil.proofs.TablesHold.{allLargest, tables-hold}
 use Rattle.soil.proofs.times.timed.Statement.{statement}
 use Rattle.soil.proofs.times.timed.Tie as tie
 
@@ -18,15 +16,8 @@ slice-aggregate-timed-by-3 : tie.Need-slice-aggregate-timed-by-3
 slice-aggregate-timed-by-3 c = search needs
 
 timed-by-requires : tie.Need-timed-by-requires
-unfolding eachLargest
-timed-by-requires c κs = (
-  record {
-    cohesive = cube-table 1_000 2 25 _ (omega arith) (omega arith) refl tt;
-    cohesionless = cube-table 800 1 50 _ (omega arith) (omega arith) refl tt;
-    softClay = strength-table _ refl tt;
-  },
-  search needs,
-)
+unfolding allLargest eachLargest
+timed-by-requires c κs = (tables-hold _ _ _ refl refl refl tt, search needs)
 
 returns : tie.Need-returns
 returns c = search needs

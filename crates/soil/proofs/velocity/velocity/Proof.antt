@@ -1,11 +1,9 @@
--- `soil::velocity::velocity` meets its contract: the rules hold of the tables, each of all its entries at once, by computing it.
+-- `soil::velocity::velocity` meets its contract: the tables hold their rules, all entries at once, by computing it.
 -- Assumes nothing.
 use borrow.Author.Needs.{needs}
 use mathlib.Core.Path.{refl}
-use native.Mathlib.Omega.{arith}
 use Rattle.soil.proofs.ByTable.{eachLargest}
-use Rattle.soil.proofs.Cubes.{cube-table}
-use Rattle.soil.proofs.Strength.{strength-table}
+use Rattle.soil.proofs.TablesHold.{allLargest, tables-hold}
 use Rattle.soil.proofs.velocity.velocity.Statement.{statement}
 use Rattle.soil.proofs.velocity.velocity.Tie as tie
 
@@ -19,12 +17,8 @@ slice-aggregate-velocity-by-3 : tie.Need-slice-aggregate-velocity-by-3
 slice-aggregate-velocity-by-3 c = search needs
 
 velocity-by-requires : tie.Need-velocity-by-requires
-unfolding eachLargest
-velocity-by-requires c κs = record {
-  cohesive = cube-table 1_000 2 25 _ (omega arith) (omega arith) refl tt;
-  cohesionless = cube-table 800 1 50 _ (omega arith) (omega arith) refl tt;
-  softClay = strength-table _ refl tt;
-}
+unfolding allLargest eachLargest
+velocity-by-requires c κs = tables-hold _ _ _ refl refl refl tt
 
 returns : tie.Need-returns
 returns c = search needs
