@@ -59,8 +59,9 @@ def root(number, power):
 
 @cache
 def by_strength(q):
-    """Soft clay, "120*q^0.36 m/s", q in hundredths of kgf/cm^2: the largest whole v, in dm/s, with v^25 <= 1200^25*(q/100)^9."""
-    return root(1200**25 * Fraction(q, 100)**9, 25)
+    """Soft clay, q in hundredths of kgf/cm^2: "the largest whole v, in dm/s, with v^25*100^9 <= 1200^25*q^9"; so v^25, a whole number, is at most
+    the quotient rounded down."""
+    return root(1200**25 * q**9 // 100**9, 25)
 
 
 def velocity(kind, value):
