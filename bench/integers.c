@@ -1,4 +1,5 @@
-/* The rules in 64-bit integers: roots, period and velocities by halves, those of soft clay from a table, the overturning of each storey carried on from the one above. */
+/* The rules in 64-bit integers: roots, period and velocities by halves, those of soft clay from a table, the overturning of each storey
+ * carried on from the one above. */
 #include "rules.h"
 
 static const u64 COLUMNS_A[] = {5000, 6000, 7000, 8000, 9000}, COLUMNS_V[] = {3000, 3500, 4000, 4500, 5000};

@@ -45,7 +45,7 @@ def at_limit(rng, drawn=plain):
         ds, kinds, values = drawn(rng)
         layer = rng.randrange(len(ds))
         if soil.SOFT_CLAY in kinds and soil.SOFT_CLAY not in kinds[:layer] + kinds[layer + 1:]:
-            continue
+            continue        # the layer that is set is not the only one of soft clay
         limit = rng.choice((1_800, 2_700))
         rest = sum(10**8 * d / soil.velocity(kind, value)
                    for i, (d, kind, value) in enumerate(zip(ds, kinds, values)) if i != layer)
