@@ -1,0 +1,198 @@
+-- The root on paper: each digit keeps what is left and carries the digits one place on; down to the place 1 they are the lower root, and by what is
+-- left the upper root is the same or one more.
+-- Assumes nothing.
+use mathlib.Core.Path.{_≡_, refl, sym, ap, subst}
+use Prim.Native.Nat.{ℕ, zero, suc, _+_, _-_, _*_, _/_, _^_, _≤_, _<_, _∣_}
+use native.Mathlib.Nat.{zero-add, mul-le-mul, mul-le-mul-left, mul-le-mul-right, lt-of-not-le, le-of-mul-le-mul-right, pow-zero, pow-suc, pow-le-pow-right, one-le-pow, mul-div-cancel, le-div-iff-mul-le, one-dvd, dvd-zero, dvd-add, dvd-mul-left, dvd-mul-left-of-dvd, dvd-refl, div-mul-cancel}
+use native.Mathlib.Decide.{decLe}
+use native.Mathlib.Omega.{arith}
+use Rattle.whole.specs.declared.Fraction.{Fraction}
+use Rattle.whole.specs.Extreme.{Largest}
+use Rattle.whole.specs.Fraction.{over}
+use Rattle.whole.specs.Root.{LowerRoot, UpperRoot}
+use Rattle.whole.specs.Digits.{Left, Found, taken, Digit, Place}
+use Rattle.whole.proofs.Extreme.{largest-unique, largest-same, largest-past, smallest-next}
+use Rattle.whole.proofs.Root.{squares-rise, le-of-square, radicand}
+
+-- ---- places
+pub place-positive : {p : ℕ} → Place p → 0 < p
+place-positive h = rw (h .place) (one-le-pow (h .zeros) 10 (omega arith))
+
+pub place-one : Place 1
+place-one = record { zeros = 0; place = refl }
+
+-- a place past another is ten times one that is not below it
+pub tenth : (last p : ℕ) → Place last → Place p → last < p → (Place (p / 10)) × (p ≡ 10 * (p / 10)) × (last ≤ p / 10)
+tenth last p l h lt = go (h .zeros) (h .place)
+  where
+    go : (e : ℕ) → p ≡ 10 ^ e → (Place (p / 10)) × (p ≡ 10 * (p / 10)) × (last ≤ p / 10)
+    go zero q = absurd (omega (arith, q, pow-zero 10, place-positive l))
+    go (suc e) q =
+        let t : p ≡ 10 ^ e * 10 = rw (q, pow-suc) in
+        let d : p / 10 ≡ 10 ^ e = rw t (mul-div-cancel (10 ^ e) {n = 10} (omega arith)) in
+        (record { zeros = e; place = d }, omega (arith, t, d), omega (arith, d, below e (decLe (l .zeros) e) (omega (arith, t, l .place))))
+      where
+        below : (e : ℕ) → Dec (l .zeros ≤ e) → 10 ^ l .zeros < 10 ^ e * 10 → last ≤ 10 ^ e
+        below e (yes m) k = rw (l .place) (pow-le-pow-right (omega arith) m)
+        below e (no m) k = absurd (omega (arith, k, pow-suc 10 e, pow-le-pow-right {n = 10} (omega arith) {i = suc e} {j = l .zeros} (omega (arith, lt-of-not-le m))))
+
+-- ---- a digit takes c times what 1 takes, and more
+pub taken-least : (d k p c : ℕ) → 0 < c → c * taken d k p ≤ taken d k (c * p)
+taken-least d k p c h =
+    let l : c * (2 * k + p) ≤ c * (2 * k + c * p) = mul-le-mul-left c (omega (arith, mul-le-mul-right p h)) in
+    omega (arith, mul-le-mul-left d (mul-le-mul-right p l))
+
+-- ---- what is left, and the digits found
+module _ (s : ℕ) (ρ : Fraction) where
+  pub left-next : (k r x : ℕ) → Left s ρ k r → taken (ρ .den) k x ≤ r → Left s ρ (k + x) (r - taken (ρ .den) k x)
+  left-next k r x l h = omega arith
+
+  -- beside k, what fits with x more takes no more than is left
+  fits-taken : (k r x : ℕ) → Left s ρ k r → ρ .den * ((k + x) * (k + x)) ≤ s * s * ρ .num → taken (ρ .den) k x ≤ r
+  fits-taken k r x l h = omega arith
+
+  pub found-next : (p k r c : ℕ) → 0 < p → p ∣ k → Left s ρ k r → Digit (ρ .den) k p r c → Found s ρ p (k + c * p)
+  found-next p k r c pp z l g =
+      record {
+        holds = (dvd-add p z (dvd-mul-left p c), omega (arith, left-next k r (c * p) l (g .holds)));
+        largest = λ j h. past j h (decLe j (k + c * p));
+      }
+    where
+      past : (j : ℕ) → (p ∣ j) × (ρ .den * (j * j) ≤ s * s * ρ .num) → Dec (j ≤ k + c * p) → j ≤ k + c * p
+      past j h (yes q) = q
+      past j h (no q) =
+          let a = k / p in
+          let b = j / p in
+          let ea : a * p ≡ k = div-mul-cancel p z in
+          let eb : b * p ≡ j = div-mul-cancel p (h .0) in
+          let m : a + c + 1 ≤ b = more a b ea eb (lt-of-not-le q) in
+          let n : k + (c + 1) * p ≤ j = omega (arith, mul-le-mul-right p m, ea, eb) in
+          let f = fits-taken k r ((c + 1) * p) l (omega (arith, mul-le-mul-left (ρ .den) (mul-le-mul n n), h .1)) in
+          absurd (omega (arith, g .largest (c + 1) f))
+        where
+          more : (a b : ℕ) → a * p ≡ k → b * p ≡ j → k + c * p < j → a + c + 1 ≤ b
+          more a b ea eb lt = go (decLe (a + c + 1) b)
+            where
+              go : Dec (a + c + 1 ≤ b) → a + c + 1 ≤ b
+              go (yes y) = y
+              go (no n) =
+                  let w : b ≤ a + c = omega (arith, lt-of-not-le n) in
+                  absurd (omega (arith, mul-le-mul-right p w, ea, eb, lt))
+
+  -- behind digits found down to ten times the place, a digit is at most 9
+  pub digit-most : (p k r c : ℕ) → 0 < p → Found s ρ (10 * p) k → Left s ρ k r → taken (ρ .den) k (c * p) ≤ r → c ≤ 9
+  digit-most p k r c pp f l h = go (decLe c 9)
+    where
+      go : Dec (c ≤ 9) → c ≤ 9
+      go (yes y) = y
+      go (no n) =
+          let m : k + 10 * p ≤ k + c * p = omega (arith, mul-le-mul-right p (lt-of-not-le n)) in
+          let w : ρ .den * ((k + c * p) * (k + c * p)) ≤ s * s * ρ .num = omega (arith, left-next k r (c * p) l h) in
+          let v = f .largest (k + 10 * p) (dvd-add (10 * p) (f .holds .0) (dvd-refl (10 * p)), omega (arith, mul-le-mul-left (ρ .den) (mul-le-mul m m), w)) in
+          absurd (omega (arith, v, pp))
+
+  -- zeros behind a place are zeros behind the next
+  pub zeros-next : (p k : ℕ) → 10 * p ∣ k → p ∣ k
+  zeros-next p k z = subst (λ (j : ℕ). p ∣ j) (div-mul-cancel (10 * p) z) (dvd-mul-left-of-dvd p (dvd-mul-left p 10) (k / (10 * p)))
+
+  pub found-is-root : (k : ℕ) → Found s ρ 1 k → LowerRoot s ρ k
+  found-is-root k = largest-same (λ j h. omega (arith, h .1)) (λ j h. (one-dvd j, omega (arith, h)))
+
+  -- no second number is the digits, or what is left
+  pub found-determined : (p : ℕ) {k k′ r r′ : ℕ} → Found s ρ p k × Left s ρ k r → Found s ρ p k′ × Left s ρ k′ r′ → (k ≡ k′) × (r ≡ r′)
+  found-determined p {k} {k′} {r} {r′} a b =
+      let e = largest-unique (a .0) (b .0) in
+      let l : r + ρ .den * (k′ * k′) ≡ s * s * ρ .num = subst (λ (j : ℕ). r + ρ .den * (j * j) ≡ s * s * ρ .num) e (a .1) in
+      (e, omega (arith, l, b .1))
+
+  -- ---- the upper root, by what is left beside the lower one
+  pub upper-same : (k : ℕ) → 0 < ρ .den → LowerRoot s ρ k → Left s ρ k 0 → UpperRoot s ρ k
+  upper-same k p l e =
+      record {
+        holds = omega (arith, e);
+        smallest = λ j h. le-of-square k j (le-of-mul-le-mul-right {k = ρ .den} (omega (arith, h, e)) p);
+      }
+
+  pub upper-next : (k r : ℕ) → LowerRoot s ρ k → Left s ρ k r → 0 < r → UpperRoot s ρ (k + 1)
+  upper-next k r l e h =
+      smallest-next (λ j. j * j * ρ .den) (squares-rise (ρ .den)) (ρ .num * (s * s)) k
+      (omega (arith, e))
+      (omega (arith, largest-past (λ (j : ℕ). j * j * ρ .den) (ρ .num * (s * s)) k l))
+
+-- ---- one line of the paper: the digits k found down to a place p, on the way to a last one, and what is left beside them
+pub record Line (s : ℕ) (ρ : Fraction) (last p left k : ℕ) : Type 0 where
+  pub place : Place p
+  pub ahead : last ≤ p
+  pub below : p ≤ 10_000_000
+  pub found : Found s ρ p k
+  pub rest : Left s ρ k left
+
+-- of a square up to 11, in a unit up to ten-millionths
+module _ (s : ℕ) (ρ : Fraction) (hs : s ≤ 10_000_000) (hd : 0 < ρ .den) (hn : ρ .num ≤ 11 * ρ .den) where
+  -- what fits is at most 4·10⁷, the first digit 3
+  pub fits-small : (k : ℕ) → ρ .den * (k * k) ≤ s * s * ρ .num → k ≤ 40_000_000
+  fits-small k h =
+      le-of-square k 40_000_000
+      (le-of-mul-le-mul-right {k = ρ .den} (omega (arith, h, radicand s (ρ .num) (ρ .den) hs hn)) hd)
+
+  pub first-most : (c : ℕ) → taken (ρ .den) 0 (c * 10_000_000) ≤ s * s * ρ .num → c ≤ 3
+  first-most c h = go (decLe c 3)
+    where
+      go : Dec (c ≤ 3) → c ≤ 3
+      go (yes y) = y
+      go (no n) =
+          let m : 4 ≤ c = lt-of-not-le n in
+          absurd (omega (arith, h, hd, radicand s (ρ .num) (ρ .den) hs hn, mul-le-mul-left (ρ .den) (mul-le-mul m m)))
+
+  pub first-line : (last c t : ℕ) → last ≤ 10_000_000 → Digit (ρ .den) 0 10_000_000 (s * s * ρ .num) c → t ≡ taken (ρ .den) 0 (c * 10_000_000)
+      → Line s ρ last 10_000_000 (s * s * ρ .num - t) (c * 10_000_000)
+  first-line last c t h g e =
+      record {
+        place = record { zeros = 7; place = refl };
+        ahead = h;
+        below = omega arith;
+        found = rw zero-add at (found-next s ρ 10_000_000 0 (s * s * ρ .num) c (omega arith) (dvd-zero 10_000_000) (omega arith) g);
+        rest = omega (arith, e, g .holds);
+      }
+
+  module _ (last p left k : ℕ) (l : Place last) (line : Line s ρ last p left k) where
+    pub line-small : k ≤ 40_000_000
+    line-small = fits-small k (line .found .holds .1)
+
+    module _ (lt : last < p) where
+      next : (Place (p / 10)) × (p ≡ 10 * (p / 10)) × (last ≤ p / 10)
+      next = tenth last p l (line .place) lt
+
+      pub next-positive : 0 < p / 10
+      next-positive = place-positive (next .0)
+
+      pub next-small : p / 10 ≤ 1_000_000
+      next-small = omega (arith, next .1, line .below)
+
+      pub next-less : p / 10 < p
+      next-less = omega (arith, next .1, next-positive)
+
+      found-before : Found s ρ (10 * (p / 10)) k
+      found-before = subst (λ (q : ℕ). Found s ρ q k) (next .1) (line .found)
+
+      pub next-most : (c : ℕ) → taken (ρ .den) k (c * (p / 10)) ≤ left → c ≤ 9
+      next-most c h = digit-most s ρ (p / 10) k left c next-positive found-before (line .rest) h
+
+      pub next-fits : (c : ℕ) → c ≤ 9 → c * (p / 10) ≤ 9_000_000
+      next-fits c h = omega (arith, mul-le-mul h next-small)
+
+      pub next-line : (c t : ℕ) → Digit (ρ .den) k (p / 10) left c → t ≡ taken (ρ .den) k (c * (p / 10))
+          → Line s ρ last (p / 10) (left - t) (k + c * (p / 10))
+      next-line c t g e =
+          record {
+            place = next .0;
+            ahead = next .2;
+            below = omega (arith, next-small);
+            found =
+                found-next s ρ (p / 10) k left c next-positive (zeros-next s ρ (p / 10) k (found-before .holds .0)) (line .rest) g;
+            rest = rw e (left-next s ρ k left (c * (p / 10)) (line .rest) (g .holds));
+          }
+
+-- ---- on paper: where the unit is ten times finer, two zeros are brought down
+pub brought-down : (s : ℕ) (ρ : Fraction) (k r : ℕ) → Left s ρ k r → Left (10 * s) ρ (10 * k) (100 * r)
+brought-down s ρ k r l = omega (arith, l)

@@ -1,0 +1,28 @@
+-- `whole::paper::taken` meets its contract: what any digits take off fits 64 bits. Assumes nothing.
+use borrow.Author.Needs.{needs}
+use Prim.Native.Nat.{ℕ, _+_, _*_, _≤_}
+use native.Mathlib.Nat.{mul-le-mul}
+use native.Mathlib.Omega.{arith}
+use Rattle.whole.proofs.paper.taken.Statement.{statement}
+use Rattle.whole.proofs.paper.taken.Tie as tie
+
+product-fits : (k x : ℕ) → k ≤ 40_000_000 → x ≤ 30_000_000 → (2 * k + x) * x ≤ 3_300_000_000_000_000
+product-fits k x hk hx = omega (arith, mul-le-mul {n₁ = 2 * k + x} {m₁ = x} {n₂ = 110_000_000} {m₂ = 30_000_000} (omega arith) hx)
+
+mul-result : tie.Need-mul-result
+mul-result c = search needs
+
+add-result : tie.Need-add-result
+add-result c = search needs
+
+mul-result-2 : tie.Need-mul-result-2
+mul-result-2 c = omega (arith, product-fits (c .args .k) (c .args .x) (c .pre .1) (c .pre .2))
+
+mul-result-3 : tie.Need-mul-result-3
+mul-result-3 c = omega (arith, mul-le-mul (c .pre .0) (product-fits (c .args .k) (c .args .x) (c .pre .1) (c .pre .2)))
+
+returns : tie.Need-returns
+returns c = search needs
+
+pub taken-spec : {M : Type 1} → statement M
+taken-spec = tie.close (tie.spec mul-result add-result mul-result-2 mul-result-3 returns)
