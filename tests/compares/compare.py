@@ -26,6 +26,7 @@ from tests.compares.parts import A_STRATUM, MEASURED_EACH, chunks, figures_of, f
 from tests.compares.tally import PREFIX, Tally, kind_of, label, refusal_words
 from tests.draws import faults, pair_faults, pairs, soil_logs
 from tests.draws.basin import basin_strata
+from tests.draws.exact_roots import root_strata
 from tests.draws.plain_jobs import draw, draw_basin, draw_pairs, draw_site, lengths
 from tests.draws.rare import rare_strata
 from tests.draws.roof import roof_strata
@@ -187,11 +188,11 @@ def run(task):
 
 
 def strata(draw_ground=draw_site):
-    """Every stratum of sites, of the Basin or of two pairs, with the jobs drawn for it; those of the roof force are on each of them."""
-    roof = roof_strata(draw_ground, A_STRATUM)
+    """Every stratum of sites, of the Basin or of two pairs, with the jobs drawn for it; those of the roof force and the roots are on each of them."""
+    shared = [*roof_strata(draw_ground, A_STRATUM), *((each, A_STRATUM) for each in root_strata(draw_ground))]
     if draw_ground is draw_site:
-        return [*((each, A_STRATUM) for each in all_strata()), *rare_strata(), *roof]
-    return [*(basin_strata if draw_ground is draw_basin else pairs.pair_strata)(A_STRATUM), *roof]
+        return [*((each, A_STRATUM) for each in all_strata()), *rare_strata(), *shared]
+    return [*(basin_strata if draw_ground is draw_basin else pairs.pair_strata)(A_STRATUM), *shared]
 
 
 def job_tasks(seed, draw_ground, plain, count):

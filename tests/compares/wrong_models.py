@@ -1,5 +1,5 @@
 """01's 'Errors that look right', some of the Basin, some of two pairs of near-fault factors, some of the roof force, some of the finer unit, some
-of the shear call and the distribution and some of soft clay, each put into the model: how many of the comparisons with the compiled core show it, and of
+of the shear call and the distribution, some of soft clay and some of the roots, each put into the model: how many of the comparisons with the compiled core show it, and of
 the two calls how many of the stored cases of crates/run_calls.
 
 usage: python3 -m tests.compares.wrong_models [JOBS [SEED]]        after tests/compares/compare.py has built the archive
@@ -17,10 +17,11 @@ from tests.compares.compare import expected_job, expected_log, got_job
 from tests.compares.compare_calls import expected_distribution, expected_shear, got_distribution
 from tests.compares.tally import NEAR_FAULT
 from tests.draws import faults, pair_faults
+from tests.draws.exact_roots import root_strata
 from tests.draws.plain_jobs import draw, draw_basin, draw_pairs, draw_site, lengths
 from tests.draws.roof import period_strata
 from tests.draws.sample import draw_in
-from tests.model import basin as basins, calls as model_calls, limits, response, shears, site as sites, storeys
+from tests.model import basin as basins, calls as model_calls, limits, paper, response, shears, site as sites, storeys
 from tests.writes import call_cases
 
 JOBS, SEED = 10_000, 1
@@ -154,6 +155,30 @@ def all_in_millionths(ground, frame, W, h, s, right=model_calls.base_figures):
     return right(ground, frame, W, h, MILLIONTHS)
 
 
+def always_one_more(square, s):
+    """The upper root always one more than the lower."""
+    return response.lower_root(square, s) + 1
+
+
+def one_place_short(square, s, right=response.lower_root):
+    """The last digit left out."""
+    return right(square, s) // 10 * 10
+
+
+def last_digit_too_large(square, s, right=response.lower_root):
+    """One more than fits."""
+    return right(square, s) + 1
+
+
+def remainder_dropped(square, s):
+    """What is left of the first digit on is forgotten: each digit is that of the whole square."""
+    k, place = 0, paper.FIRST
+    while place:
+        k += place * max(c for c in range(10) if (c * place)**2 <= square * s**2)
+        place //= 10
+    return k
+
+
 ERRORS = {
     'the lower factor used in V*': [(response, 'upper_factor', response.lower_factor)],
     'near-fault factors left in V*': [(sites, 'star', sites.design)],
@@ -202,6 +227,14 @@ UNIT_ERRORS = {
 }
 
 
+ROOT_ERRORS = {
+    'the upper root always one more': [(response, 'upper_root', always_one_more)],
+    'the last digit left out': [(response, 'lower_root', one_place_short)],
+    'the last digit one too large': [(response, 'lower_root', last_digit_too_large)],
+    'what is left is dropped': [(response, 'lower_root', remainder_dropped)],
+}
+
+
 @contextmanager
 def made(patches):
     """The model with an error in it."""
@@ -242,12 +275,17 @@ def pair_calls(rng, count):
     return mixed_calls(rng, count, draw_pairs, pair_faults.random_call)
 
 
-def roof_calls(rng, count):
-    """Jobs at the ends of the rule of the roof force, sites, the Basin and two pairs by turns."""
-    strata = [(stratum, draw_ground) for draw_ground in (draw_site, draw_basin, draw_pairs) for stratum in period_strata(draw_ground)]
+def calls_in(rng, count, strata_of):
+    """Jobs of strata that each kind of ground has, in turn."""
+    strata = [(stratum, draw_ground) for draw_ground in (draw_site, draw_basin, draw_pairs) for stratum in strata_of(draw_ground)]
     for number in range(count):
         inputs = draw_in(rng, *strata[number % len(strata)])
         yield (*inputs, lengths(rng, inputs.weights))
+
+
+def roof_calls(rng, count):
+    """Jobs at the ends of the rule of the roof force, sites, the Basin and two pairs by turns."""
+    return calls_in(rng, count, period_strata)
 
 
 def unit_calls(rng, count):
@@ -255,6 +293,11 @@ def unit_calls(rng, count):
     for number in range(count):
         ground, frame, weights, heights = draw(rng, (draw_site, draw_basin, draw_pairs)[number % 3])
         yield ground, frame, weights, heights, lengths(rng, weights)
+
+
+def root_calls(rng, count):
+    """Jobs where nothing is left beside a root and beside such ones, sites, the Basin and two pairs by turns."""
+    return calls_in(rng, count, root_strata)
 
 
 DISTRIBUTION_ERRORS = {
@@ -282,8 +325,8 @@ def unseen_stored(kind, where, errors):
 
 
 def main(jobs=JOBS, seed=SEED):
-    """Try the errors on sites, those of the Basin, of two pairs, of the roof force, of the finer unit, of the two calls and of soft clay; 1 where
-    one is not seen at all."""
+    """Try the errors on sites, those of the Basin, of two pairs, of the roof force, of the finer unit, of the two calls, of soft clay and of the
+    roots; 1 where one is not seen at all."""
     count = unseen_stored(call_cases.Shear, 'stored shear calls', wrong_calls.SHEAR_ERRORS)
     count += unseen_stored(call_cases.Distribution, 'stored distributions', DISTRIBUTION_ERRORS)
     rng, library = random.Random(seed), core.load()
@@ -295,7 +338,8 @@ def main(jobs=JOBS, seed=SEED):
             (unit_calls, got_job, expected_job, 'in the finer unit', UNIT_ERRORS),
             (wrong_calls.shear_calls, core.shear_call, expected_shear, 'shear calls', wrong_calls.SHEAR_ERRORS),
             (wrong_calls.distributions, got_distribution, expected_distribution, 'distributions', DISTRIBUTION_ERRORS),
-            (wrong_logs.logs, core.site_class, expected_log, 'soil logs', wrong_logs.ERRORS)):
+            (wrong_logs.logs, core.site_class, expected_log, 'soil logs', wrong_logs.ERRORS),
+            (root_calls, got_job, expected_job, 'at exact roots and beside them', ROOT_ERRORS)):
         drawn = list(calls(rng, jobs))
         count += unseen(drawn, [got(library, *call) for call in drawn], expected, where, errors)
     return 1 if count else 0

@@ -6,9 +6,9 @@ usage: python3 -m tests.writes.exhausted > crates/run_exhausted/stdout
 from fractions import Fraction
 from math import ceil, floor
 
-from tests.model import basin, limits, response, site as sites
+from tests.model import basin, limits, paper, response, site as sites
 
-UNIT = response.UNIT
+UNIT, MILLIONTHS = response.UNIT, 10**6
 
 
 def both(capacity):
@@ -29,6 +29,18 @@ def basin_ductility(R):
     return ('basin', R, response.lower_root(square), response.upper_root(square), *both(capacity))
 
 
+def in_millionths(R):
+    """Both roots of the three squares, design, MCE and the Basin's, in document 01's own unit."""
+    squares = (capacity(R)[1] for capacity in (response.design_capacity, response.mce_capacity, basin.capacity))
+    return ('millionths', R, *(root(square, MILLIONTHS) for square in squares for root in (response.lower_root, response.upper_root)))
+
+
+def on_paper(R):
+    """The lines of both roots of a site, design and MCE: (R-25)/75 and (R-50)/50."""
+    for n, d in ((R - 25, 75), (R - 50, 50)):
+        yield from (('place', line.place, line.found, line.left) for line in paper.lines(n, d, UNIT))
+
+
 def lines():
     """Every line."""
     yield from (ductility(R) for R in limits.R_RANGE)
@@ -39,6 +51,8 @@ def lines():
         for value in sorted({*design, *mce}):
             yield from ((name, value * N, *(coefficient(cls, value * N) for cls in limits.CLASS)) for N in factors)
     yield from (basin_ductility(R) for R in limits.R_RANGE)
+    yield from (in_millionths(R) for R in limits.R_RANGE)
+    yield from on_paper(480)
 
 
 if __name__ == '__main__':

@@ -1,5 +1,6 @@
 // What is finite, exhausted: roots and capacities of every R, on a site and in the Taipei Basin, the period of every height and kind, both
-// coefficients of every product of a mapped value and a near-fault factor. (`run_logs` runs the velocity of every N.)
+// coefficients of every product of a mapped value and a near-fault factor, the roots of every R in millionths too. (`run_logs` runs the
+// velocity of every N.) Last, the roots of R = 4.80 line by line, as they are found on paper.
 use libc::STDOUT_FILENO;
 use limits::class::Class;
 use limits::frame::Frame;
@@ -17,23 +18,28 @@ use site::capacity::mce_square;
 use site::coefficients::fa;
 use site::coefficients::fv;
 use whole::Fraction;
+use whole::paper::digits_down_to;
 use whole::quotients::down;
 use whole::quotients::up;
 use whole::roots::lower_root;
 use whole::roots::upper_root;
 ghost use Prim.Native.Nat.{_*_, _≤_, _<_};
+ghost use Rattle.whole.specs.Digits.{Place};
+
+// Document 01's own unit.
+const MILLIONTHS: u64 = 1_000_000;
 
 fn number(n: u64) {
     io::write_all(STDOUT_FILENO, b" ");
     io::print_decimal(STDOUT_FILENO, n);
 }
 
-// A square's lower and upper root, in the unit.
-fn roots(square: Fraction)
-    requires { ⌜ (0 < square .num) × (0 < square .den) × (square .den ≤ 1000) × (square .num ≤ 11 * square .den) ⌝ }
+// A square's lower and upper root, in s-ths.
+fn roots(s: u64, square: Fraction)
+    requires { ⌜ (0 < s) × (s ≤ 10_000_000) × (0 < square .num) × (0 < square .den) × (square .den ≤ 1000) × (square .num ≤ 11 * square .den) ⌝ }
 {
-    number(lower_root(UNIT, square.num, square.den));
-    number(upper_root(UNIT, square.num, square.den));
+    number(lower_root(s, square.num, square.den));
+    number(upper_root(s, square.num, square.den));
 }
 
 // A capacity, rounded down and up to the unit.
@@ -49,8 +55,8 @@ fn ductility(r: u64)
 {
     io::write_all(STDOUT_FILENO, b"R");
     number(r);
-    roots(design_square(r));
-    roots(mce_square(r));
+    roots(UNIT, design_square(r));
+    roots(UNIT, mce_square(r));
     capacity(design_capacity(r));
     capacity(mce_capacity(r));
     io::write_all(STDOUT_FILENO, b"\n");
@@ -69,7 +75,7 @@ fn basin_ductility(r: u64)
 {
     io::write_all(STDOUT_FILENO, b"basin");
     number(r);
-    roots(basin_square(r));
+    roots(UNIT, basin_square(r));
     capacity(basin_capacity(r));
     io::write_all(STDOUT_FILENO, b"\n");
 }
@@ -80,6 +86,57 @@ fn basin_ductilities() {
         basin_ductility(r);
         r += 1;
     }
+}
+
+fn in_millionths(r: u64)
+    requires { ⌜ (100 ≤ r) × (r ≤ 600) ⌝ }
+{
+    io::write_all(STDOUT_FILENO, b"millionths");
+    number(r);
+    roots(MILLIONTHS, design_square(r));
+    roots(MILLIONTHS, mce_square(r));
+    roots(MILLIONTHS, basin_square(r));
+    io::write_all(STDOUT_FILENO, b"\n");
+}
+
+fn all_in_millionths() {
+    let mut r = Frame::R_LEAST;
+    while r <= Frame::R_MOST {
+        in_millionths(r);
+        r += 1;
+    }
+}
+
+// One line of a root on paper: a place, the digits found down to it, what is left beside them.
+fn line(square: Fraction, place: u64)
+    requires { ⌜ (0 < square .den) × (square .den ≤ 1000) × (square .num ≤ 11 * square .den) × Place place × (place ≤ 10_000_000) ⌝ }
+{
+    let digits = digits_down_to(UNIT, square.num, square.den, place);
+    io::write_all(STDOUT_FILENO, b"place");
+    number(place);
+    number(digits.found);
+    number(digits.left);
+    io::write_all(STDOUT_FILENO, b"\n");
+}
+
+fn lines(square: Fraction)
+    requires { ⌜ (0 < square .den) × (square .den ≤ 1000) × (square .num ≤ 11 * square .den) ⌝ }
+{
+    line(square, 10_000_000);
+    line(square, 1_000_000);
+    line(square, 100_000);
+    line(square, 10_000);
+    line(square, 1000);
+    line(square, 100);
+    line(square, 10);
+    line(square, 1);
+}
+
+fn on_paper(r: u64)
+    requires { ⌜ (100 ≤ r) × (r ≤ 600) ⌝ }
+{
+    lines(design_square(r));
+    lines(mce_square(r));
 }
 
 fn height(h: u64)
@@ -152,4 +209,6 @@ fn main() {
     long_periods(50);
     long_periods(55);
     basin_ductilities();
+    all_in_millionths();
+    on_paper(480);
 }

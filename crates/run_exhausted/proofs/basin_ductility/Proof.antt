@@ -8,7 +8,7 @@ use Rattle.run_exhausted.proofs.basin_ductility.Statement.{statement}
 use Rattle.run_exhausted.proofs.basin_ductility.Tie as tie
 
 abbrev Rooted : Fraction → Type 0
-Rooted q = (0 < q .num) × (0 < q .den) × (q .den ≤ 1000) × (q .num ≤ 11 * q .den)
+Rooted q = (0 < 10_000_000) × (10_000_000 ≤ 10_000_000) × (0 < q .num) × (0 < q .den) × (q .den ≤ 1000) × (q .num ≤ 11 * q .den)
 
 abbrev Small : Fraction → Type 0
 Small q = (0 < q .den) × (q .num ≤ 2000)
@@ -26,7 +26,7 @@ basin-square-requires : tie.Need-basin-square-requires
 basin-square-requires c κs = search needs
 
 roots-requires : tie.Need-roots-requires
-roots-requires c κs = subst Rooted (sym (c .basin-square .ensures)) (omega arith, omega arith, omega arith, omega arith)
+roots-requires c κs = subst Rooted (sym (c .basin-square .ensures)) (omega arith, omega arith, omega arith, omega arith, omega arith, omega arith)
 
 basin-capacity-requires : tie.Need-basin-capacity-requires
 basin-capacity-requires c κs = search needs

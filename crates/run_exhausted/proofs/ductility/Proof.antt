@@ -8,7 +8,7 @@ use Rattle.run_exhausted.proofs.ductility.Statement.{statement}
 use Rattle.run_exhausted.proofs.ductility.Tie as tie
 
 abbrev Rooted : Fraction → Type 0
-Rooted q = (0 < q .num) × (0 < q .den) × (q .den ≤ 1000) × (q .num ≤ 11 * q .den)
+Rooted q = (0 < 10_000_000) × (10_000_000 ≤ 10_000_000) × (0 < q .num) × (0 < q .den) × (q .den ≤ 1000) × (q .num ≤ 11 * q .den)
 
 abbrev Small : Fraction → Type 0
 Small q = (0 < q .den) × (q .num ≤ 2000)
@@ -26,13 +26,13 @@ design-square-requires : tie.Need-design-square-requires
 design-square-requires c κs = search needs
 
 roots-requires : tie.Need-roots-requires
-roots-requires c κs = subst Rooted (sym (c .design-square .ensures)) (omega arith, omega arith, omega arith, omega arith)
+roots-requires c κs = subst Rooted (sym (c .design-square .ensures)) (omega arith, omega arith, omega arith, omega arith, omega arith, omega arith)
 
 mce-square-requires : tie.Need-mce-square-requires
 mce-square-requires c κs = search needs
 
 roots-requires-2 : tie.Need-roots-requires-2
-roots-requires-2 c κs = subst Rooted (sym (c .mce-square .ensures)) (omega arith, omega arith, omega arith, omega arith)
+roots-requires-2 c κs = subst Rooted (sym (c .mce-square .ensures)) (omega arith, omega arith, omega arith, omega arith, omega arith, omega arith)
 
 design-capacity-requires : tie.Need-design-capacity-requires
 design-capacity-requires c κs = search needs
