@@ -3,7 +3,7 @@
 -- Assumes nothing.
 use mathlib.Core.Path.{_≡_, refl, sym, ap, subst}
 use Prim.Native.Nat.{ℕ, zero, suc, _+_, _-_, _*_, _/_, _^_, _≤_, _<_, _∣_}
-use native.Mathlib.Nat.{zero-add, mul-le-mul, mul-le-mul-left, mul-le-mul-right, lt-of-not-le, le-of-mul-le-mul-right, pow-zero, pow-suc, pow-le-pow-right, one-le-pow, mul-div-cancel, le-div-iff-mul-le, one-dvd, dvd-zero, dvd-add, dvd-mul-left, dvd-mul-left-of-dvd, dvd-refl, div-mul-cancel}
+use native.Mathlib.Nat.{zero-lt-suc, mul-pos, mul-le-mul, mul-le-mul-left, mul-le-mul-right, lt-of-not-le, le-of-mul-le-mul-right, pow-zero, pow-suc, pow-le-pow-right, one-le-pow, mul-div-cancel, le-div-iff-mul-le, one-dvd, dvd-zero, dvd-add, dvd-mul-left, dvd-mul-left-of-dvd, dvd-refl, div-mul-cancel}
 use native.Mathlib.Decide.{decLe}
 use native.Mathlib.Omega.{arith}
 use Rattle.whole.specs.declared.Fraction.{Fraction}
@@ -36,11 +36,32 @@ tenth last p l h lt = go (h .zeros) (h .place)
         below e (yes m) k = rw (l .place) (pow-le-pow-right (omega arith) m)
         below e (no m) k = absurd (omega (arith, k, pow-suc 10 e, pow-le-pow-right {n = 10} (omega arith) {i = suc e} {j = l .zeros} (omega (arith, lt-of-not-le m))))
 
--- ---- a digit takes c times what 1 takes, and more
+-- ---- what is taken
+pub taken-some : (d k p : ℕ) → 0 < d → 0 < p → 0 < taken d k p
+taken-some d k p hd hp = mul-pos hd (mul-pos (omega arith) hp)
+
+pub taken-rises : (d k x y : ℕ) → x ≤ y → taken d k x ≤ taken d k y
+taken-rises d k x y h = mul-le-mul-left d (mul-le-mul (omega (arith, h)) h)
+
+-- a digit takes c times what 1 takes, and more
 pub taken-least : (d k p c : ℕ) → 0 < c → c * taken d k p ≤ taken d k (c * p)
 taken-least d k p c h =
     let l : c * (2 * k + p) ≤ c * (2 * k + c * p) = mul-le-mul-left c (omega (arith, mul-le-mul-right p h)) in
     omega (arith, mul-le-mul-left d (mul-le-mul-right p l))
+
+-- so by division it is not above the trial, and it is at most 9 where 10 would take more than is left
+module _ (d k p left : ℕ) where
+  pub digit-trial : 0 < d → 0 < p → (c : ℕ) → taken d k (c * p) ≤ left → c ≤ left / taken d k p
+  digit-trial hd hp zero h = omega arith
+  digit-trial hd hp (suc c) h =
+      le-div-iff-mul-le (taken-some d k p hd hp) .1 (omega (arith, taken-least d k p (suc c) (zero-lt-suc c), h))
+
+  pub digit-most : left < taken d k (10 * p) → (c : ℕ) → taken d k (c * p) ≤ left → c ≤ 9
+  digit-most t c h = go (decLe c 9)
+    where
+      go : Dec (c ≤ 9) → c ≤ 9
+      go (yes y) = y
+      go (no n) = absurd (omega (arith, t, h, taken-rises d k (10 * p) (c * p) (mul-le-mul-right p (lt-of-not-le n))))
 
 -- ---- what is left, and the digits found
 module _ (s : ℕ) (ρ : Fraction) where
@@ -79,17 +100,15 @@ module _ (s : ℕ) (ρ : Fraction) where
                   let w : b ≤ a + c = omega (arith, lt-of-not-le n) in
                   absurd (omega (arith, mul-le-mul-right p w, ea, eb, lt))
 
-  -- behind digits found down to ten times the place, a digit is at most 9
-  pub digit-most : (p k r c : ℕ) → 0 < p → Found s ρ (10 * p) k → Left s ρ k r → taken (ρ .den) k (c * p) ≤ r → c ≤ 9
-  digit-most p k r c pp f l h = go (decLe c 9)
+  -- beside digits found down to a place, one more at that place takes more than is left
+  pub one-more : (p k r : ℕ) → 0 < p → Found s ρ p k → Left s ρ k r → r < taken (ρ .den) k p
+  one-more p k r pp f l = go (decLe (taken (ρ .den) k p) r)
     where
-      go : Dec (c ≤ 9) → c ≤ 9
-      go (yes y) = y
-      go (no n) =
-          let m : k + 10 * p ≤ k + c * p = omega (arith, mul-le-mul-right p (lt-of-not-le n)) in
-          let w : ρ .den * ((k + c * p) * (k + c * p)) ≤ s * s * ρ .num = omega (arith, left-next k r (c * p) l h) in
-          let v = f .largest (k + 10 * p) (dvd-add (10 * p) (f .holds .0) (dvd-refl (10 * p)), omega (arith, mul-le-mul-left (ρ .den) (mul-le-mul m m), w)) in
+      go : Dec (taken (ρ .den) k p ≤ r) → r < taken (ρ .den) k p
+      go (yes h) =
+          let v = f .largest (k + p) (dvd-add p (f .holds .0) (dvd-refl p), omega (arith, left-next k r p l h)) in
           absurd (omega (arith, v, pp))
+      go (no n) = lt-of-not-le n
 
   -- zeros behind a place are zeros behind the next
   pub zeros-next : (p k : ℕ) → 10 * p ∣ k → p ∣ k
@@ -123,37 +142,31 @@ module _ (s : ℕ) (ρ : Fraction) where
 pub record Line (s : ℕ) (ρ : Fraction) (last p left k : ℕ) : Type 0 where
   pub place : Place p
   pub ahead : last ≤ p
-  pub below : p ≤ 10_000_000
+  pub below : p ≤ 100_000_000
   pub found : Found s ρ p k
   pub rest : Left s ρ k left
 
 -- of a square up to 11, in a unit up to ten-millionths
 module _ (s : ℕ) (ρ : Fraction) (hs : s ≤ 10_000_000) (hd : 0 < ρ .den) (hn : ρ .num ≤ 11 * ρ .den) where
-  -- what fits is at most 4·10⁷, the first digit 3
+  -- what fits is at most 4·10⁷
   pub fits-small : (k : ℕ) → ρ .den * (k * k) ≤ s * s * ρ .num → k ≤ 40_000_000
   fits-small k h =
       le-of-square k 40_000_000
       (le-of-mul-le-mul-right {k = ρ .den} (omega (arith, h, radicand s (ρ .num) (ρ .den) hs hn)) hd)
 
-  pub first-most : (c : ℕ) → taken (ρ .den) 0 (c * 10_000_000) ≤ s * s * ρ .num → c ≤ 3
-  first-most c h = go (decLe c 3)
-    where
-      go : Dec (c ≤ 3) → c ≤ 3
-      go (yes y) = y
-      go (no n) =
-          let m : 4 ≤ c = lt-of-not-le n in
-          absurd (omega (arith, h, hd, radicand s (ρ .num) (ρ .den) hs hn, mul-le-mul-left (ρ .den) (mul-le-mul m m)))
-
-  pub first-line : (last c t : ℕ) → last ≤ 10_000_000 → Digit (ρ .den) 0 10_000_000 (s * s * ρ .num) c → t ≡ taken (ρ .den) 0 (c * 10_000_000)
-      → Line s ρ last 10_000_000 (s * s * ρ .num - t) (c * 10_000_000)
-  first-line last c t h g e =
+  -- before the first digit: no multiple of 10⁸ but 0 fits, and all is left
+  pub first-line : (last : ℕ) → last ≤ 10_000_000 → Line s ρ last 100_000_000 (s * s * ρ .num) 0
+  first-line last h =
       record {
-        place = record { zeros = 7; place = refl };
-        ahead = h;
+        place = record { zeros = 8; place = refl };
+        ahead = omega (arith, h);
         below = omega arith;
-        found = rw zero-add at (found-next s ρ 10_000_000 0 (s * s * ρ .num) c (omega arith) (dvd-zero 10_000_000) (omega arith) g);
-        rest = omega (arith, e, g .holds);
+        found = record { holds = (dvd-zero 100_000_000, omega arith); largest = λ j f. none j f (fits-small j (f .1)) };
+        rest = omega arith;
       }
+    where
+      none : (j : ℕ) → (100_000_000 ∣ j) × (ρ .den * (j * j) ≤ s * s * ρ .num) → j ≤ 40_000_000 → j ≤ 0
+      none j f small = omega (arith, div-mul-cancel 100_000_000 (f .0), small)
 
   module _ (last p left k : ℕ) (l : Place last) (line : Line s ρ last p left k) where
     pub line-small : k ≤ 40_000_000
@@ -166,7 +179,7 @@ module _ (s : ℕ) (ρ : Fraction) (hs : s ≤ 10_000_000) (hd : 0 < ρ .den) (h
       pub next-positive : 0 < p / 10
       next-positive = place-positive (next .0)
 
-      pub next-small : p / 10 ≤ 1_000_000
+      pub next-small : p / 10 ≤ 10_000_000
       next-small = omega (arith, next .1, line .below)
 
       pub next-less : p / 10 < p
@@ -175,11 +188,11 @@ module _ (s : ℕ) (ρ : Fraction) (hs : s ≤ 10_000_000) (hd : 0 < ρ .den) (h
       found-before : Found s ρ (10 * (p / 10)) k
       found-before = subst (λ (q : ℕ). Found s ρ q k) (next .1) (line .found)
 
-      pub next-most : (c : ℕ) → taken (ρ .den) k (c * (p / 10)) ≤ left → c ≤ 9
-      next-most c h = digit-most s ρ (p / 10) k left c next-positive found-before (line .rest) h
+      pub ten-more : left < taken (ρ .den) k (10 * (p / 10))
+      ten-more = one-more s ρ (10 * (p / 10)) k left (omega (arith, next-positive)) found-before (line .rest)
 
-      pub next-fits : (c : ℕ) → c ≤ 9 → c * (p / 10) ≤ 9_000_000
-      next-fits c h = omega (arith, mul-le-mul h next-small)
+      pub next-fits : (c : ℕ) → taken (ρ .den) k (c * (p / 10)) ≤ left → c * (p / 10) ≤ 90_000_000
+      next-fits c h = omega (arith, mul-le-mul (digit-most (ρ .den) k (p / 10) left ten-more c h) next-small)
 
       pub next-line : (c t : ℕ) → Digit (ρ .den) k (p / 10) left c → t ≡ taken (ρ .den) k (c * (p / 10))
           → Line s ρ last (p / 10) (left - t) (k + c * (p / 10))

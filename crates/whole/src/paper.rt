@@ -8,12 +8,10 @@ ghost use Prim.Native.Nat.{ℕ, _*_, _≤_, _<_};
 ghost use Rattle.whole.specs.Fraction.{over};
 ghost use Rattle.whole.specs.Digits.{Left, Found, taken, Digit, Place};
 
-// The first place of a root below 4 * 10^7.
+// The first place of a root, which is below 4 * 10^7.
 const FIRST: u64 = 10_000_000;
 
-const FIRST_MOST: u64 = 3;
-
-// The digits found, and what is left beside them.
+// The digits found, with zeros behind them, and what is left beside them.
 pub struct Digits {
     pub found: u64,
     pub left: u64,
@@ -21,30 +19,22 @@ pub struct Digits {
 
 // What x takes off beside the digits k.
 fn taken(d: u64, k: u64, x: u64) -> u64
-    requires { ⌜ (d ≤ 1000) × (k ≤ 40_000_000) × (x ≤ 30_000_000) ⌝ }
+    requires { ⌜ (d ≤ 1000) × (k ≤ 40_000_000) × (x ≤ 90_000_000) ⌝ }
     ensures { λ t. ⌜ t ≡ taken d k x ⌝ }
 {
     d * ((2 * k + x) * x)
 }
 
-// A trial digit by one division: c at the place p takes at least c times what 1 takes there, and a digit is at most 9.
-fn trial(d: u64, k: u64, p: u64, left: u64) -> u64
-    requires { ⌜ (0 < d) × (d ≤ 1000) × (k ≤ 40_000_000) × (0 < p) × (p ≤ 1_000_000) ⌝ }
-    ensures { λ t. ⌜ (t ≤ 9) × ((c : ℕ) → c ≤ 9 → taken d k (c * p) ≤ left → c ≤ t) ⌝ }
-{
-    let c = left / taken(d, k, p);
-    if 9 < c {
-        return 9;
-    }
-    c
-}
-
-// The digit, from a trial that is not below it: corrected downward, while it takes more than is left.
-fn corrected(d: u64, k: u64, p: u64, left: u64, trial: u64) -> u64
-    requires { ⌜ (d ≤ 1000) × (k ≤ 40_000_000) × («trial» * p ≤ 30_000_000) × ((c : ℕ) → taken d k (c * p) ≤ left → c ≤ «trial») ⌝ }
+// The digit at the place p: a trial by one division, since c takes at least c times what 1 takes there, and corrected downward while it takes
+// more than is left.
+fn digit(d: u64, k: u64, p: u64, left: u64) -> u64
+    requires { ⌜ (0 < d) × (d ≤ 1000) × (k ≤ 40_000_000) × (0 < p) × (p ≤ 10_000_000) × (left < taken d k (10 * p)) ⌝ }
     ensures { λ c. ⌜ Digit d k p left c ⌝ }
 {
-    let mut c = trial;
+    let mut c = left / taken(d, k, p);
+    if 9 < c {
+        c = 9;
+    }
     while left < taken(d, k, c * p) {
         c -= 1;
     }
@@ -56,13 +46,12 @@ pub fn digits_down_to(s: u64, num: u64, den: u64, last: u64) -> Digits
     requires { ⌜ (0 < s) × (s ≤ 10_000_000) × (0 < den) × (den ≤ 1000) × (num ≤ 11 * den) × Place last × (last ≤ 10_000_000) ⌝ }
     ensures { λ r. ⌜ Found s (over num den) last (r .found) × Left s (over num den) (r .found) (r .left) ⌝ }
 {
-    let mut p = FIRST;
+    let mut k = 0;
     let mut left = s * s * num;
-    let mut k = corrected(den, 0, p, left, FIRST_MOST) * p;
-    left -= taken(den, 0, k);
+    let mut p = 10 * FIRST;
     while last < p {
         p /= 10;
-        let x = corrected(den, k, p, left, trial(den, k, p, left)) * p;
+        let x = digit(den, k, p, left) * p;
         left -= taken(den, k, x);
         k += x;
     }

@@ -6,8 +6,8 @@ use native.Mathlib.Omega.{arith}
 use Rattle.whole.proofs.paper.taken.Statement.{statement}
 use Rattle.whole.proofs.paper.taken.Tie as tie
 
-product-fits : (k x : ℕ) → k ≤ 40_000_000 → x ≤ 30_000_000 → (2 * k + x) * x ≤ 3_300_000_000_000_000
-product-fits k x hk hx = omega (arith, mul-le-mul {n₁ = 2 * k + x} {m₁ = x} {n₂ = 110_000_000} {m₂ = 30_000_000} (omega arith) hx)
+product-fits : (k x : ℕ) → k ≤ 40_000_000 → x ≤ 90_000_000 → (2 * k + x) * x ≤ 15_300_000_000_000_000
+product-fits k x hk hx = omega (arith, mul-le-mul {n₁ = 2 * k + x} {m₁ = x} {n₂ = 170_000_000} {m₂ = 90_000_000} (omega arith) hx)
 
 mul-result : tie.Need-mul-result
 mul-result c = search needs
