@@ -9,10 +9,10 @@ use native.Mathlib.Omega.{arith}
 use Rattle.whole.specs.declared.Fraction.{Fraction}
 use Rattle.whole.specs.Extreme.{Largest}
 use Rattle.whole.specs.Fraction.{over}
-use Rattle.whole.specs.Root.{LowerRoot, UpperRoot}
+use Rattle.whole.specs.Root.{LowerRoot, UpperRoot, lowerRoot, upperRoot}
 use Rattle.whole.specs.Digits.{Left, Found, taken, Digit, Place}
 use Rattle.whole.proofs.Extreme.{largest-unique, largest-same, largest-past, smallest-next}
-use Rattle.whole.proofs.Root.{squares-rise, le-of-square, radicand}
+use Rattle.whole.proofs.Root.{squares-rise, le-of-square, radicand, lower-root-at, upper-root-at}
 
 -- ---- places
 pub place-positive : {p : ℕ} → Place p → 0 < p
@@ -20,6 +20,9 @@ place-positive h = rw (h .place) (one-le-pow (h .zeros) 10 (omega arith))
 
 pub place-one : Place 1
 place-one = record { zeros = 0; place = refl }
+
+pub place-one-small : 1 ≤ 10_000_000
+place-one-small = omega arith
 
 -- a place past another is ten times one that is not below it
 pub tenth : (last p : ℕ) → Place last → Place p → last < p → (Place (p / 10)) × (p ≡ 10 * (p / 10)) × (last ≤ p / 10)
@@ -153,6 +156,20 @@ module _ (s : ℕ) (ρ : Fraction) (hs : s ≤ 10_000_000) (hd : 0 < ρ .den) (h
   fits-small k h =
       le-of-square k 40_000_000
       (le-of-mul-le-mul-right {k = ρ .den} (omega (arith, h, radicand s (ρ .num) (ρ .den) hs hn)) hd)
+
+  -- ---- down to the place 1 the digits are the lower root; the upper root is the same where nothing is left, else one more
+  below-words : ρ .num * (s * s) < 2 ^ 64 * ρ .den
+  below-words = omega (arith, radicand s (ρ .num) (ρ .den) hs hn, hd)
+
+  pub lower-by-digits : (k : ℕ) → Found s ρ 1 k → k ≡ lowerRoot s ρ
+  lower-by-digits k f = lower-root-at s ρ below-words k (found-is-root s ρ k f)
+
+  pub upper-nothing-left : (k r : ℕ) → Found s ρ 1 k → Left s ρ k r → r ≡ 0 → k ≡ upperRoot s ρ
+  upper-nothing-left k r f l e =
+      upper-root-at s ρ below-words k (upper-same s ρ k hd (found-is-root s ρ k f) (subst (λ (z : ℕ). Left s ρ k z) e l))
+
+  pub upper-some-left : (k r : ℕ) → Found s ρ 1 k → Left s ρ k r → 0 < r → k + 1 ≡ upperRoot s ρ
+  upper-some-left k r f l h = upper-root-at s ρ below-words (k + 1) (upper-next s ρ k r (found-is-root s ρ k f) l h)
 
   -- before the first digit: no multiple of 10⁸ but 0 fits, and all is left
   pub first-line : (last : ℕ) → last ≤ 10_000_000 → Line s ρ last 100_000_000 (s * s * ρ .num) 0
