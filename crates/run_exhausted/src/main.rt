@@ -1,6 +1,6 @@
-// What is finite, exhausted: roots and capacities of every R, on a site and in the Taipei Basin, the period of every height and kind, both
-// coefficients of every product of a mapped value and a near-fault factor, the roots of every R in millionths too. (`run_logs` runs the
-// velocity of every N.) Last, the roots of R = 4.80 line by line, as they are found on paper.
+// What is finite, exhausted: roots and capacities of every R, on a site and in the Taipei Basin, in the unit and in millionths, the period of
+// every height and kind, both coefficients of every product of a mapped value and a near-fault factor. (`run_logs` runs the velocity of every
+// N.) Last, the roots of R = 4.80 place by place, as they are found on paper.
 use libc::STDOUT_FILENO;
 use limits::class::Class;
 use limits::frame::Frame;
@@ -24,7 +24,6 @@ use whole::quotients::up;
 use whole::roots::lower_root;
 use whole::roots::upper_root;
 ghost use Prim.Native.Nat.{_*_, _≤_, _<_};
-ghost use Rattle.whole.specs.Digits.{Place};
 
 // Document 01's own unit.
 const MILLIONTHS: u64 = 1_000_000;
@@ -42,101 +41,75 @@ fn roots(s: u64, square: Fraction)
     number(upper_root(s, square.num, square.den));
 }
 
-// A capacity, rounded down and up to the unit.
-fn capacity(c: Fraction)
-    requires { ⌜ (0 < c .den) × (c .num ≤ 2000) ⌝ }
+// A capacity, rounded down and up to s-ths.
+fn capacity(s: u64, c: Fraction)
+    requires { ⌜ (s ≤ 10_000_000) × (0 < c .den) × (c .num ≤ 2000) ⌝ }
 {
-    number(down(UNIT * c.num, c.den));
-    number(up(UNIT * c.num, c.den));
+    number(down(s * c.num, c.den));
+    number(up(s * c.num, c.den));
 }
 
-fn ductility(r: u64)
-    requires { ⌜ (100 ≤ r) × (r ≤ 600) ⌝ }
+fn ductility(s: u64, r: u64)
+    requires { ⌜ (0 < s) × (s ≤ 10_000_000) × (100 ≤ r) × (r ≤ 600) ⌝ }
 {
     io::write_all(STDOUT_FILENO, b"R");
     number(r);
-    roots(UNIT, design_square(r));
-    roots(UNIT, mce_square(r));
-    capacity(design_capacity(r));
-    capacity(mce_capacity(r));
+    roots(s, design_square(r));
+    roots(s, mce_square(r));
+    capacity(s, design_capacity(r));
+    capacity(s, mce_capacity(r));
     io::write_all(STDOUT_FILENO, b"\n");
 }
 
-fn ductilities() {
+fn ductilities(s: u64)
+    requires { ⌜ (0 < s) × (s ≤ 10_000_000) ⌝ }
+{
     let mut r = Frame::R_LEAST;
     while r <= Frame::R_MOST {
-        ductility(r);
+        ductility(s, r);
         r += 1;
     }
 }
 
-fn basin_ductility(r: u64)
-    requires { ⌜ (100 ≤ r) × (r ≤ 600) ⌝ }
+fn basin_ductility(s: u64, r: u64)
+    requires { ⌜ (0 < s) × (s ≤ 10_000_000) × (100 ≤ r) × (r ≤ 600) ⌝ }
 {
     io::write_all(STDOUT_FILENO, b"basin");
     number(r);
-    roots(UNIT, basin_square(r));
-    capacity(basin_capacity(r));
+    roots(s, basin_square(r));
+    capacity(s, basin_capacity(r));
     io::write_all(STDOUT_FILENO, b"\n");
 }
 
-fn basin_ductilities() {
+fn basin_ductilities(s: u64)
+    requires { ⌜ (0 < s) × (s ≤ 10_000_000) ⌝ }
+{
     let mut r = Frame::R_LEAST;
     while r <= Frame::R_MOST {
-        basin_ductility(r);
+        basin_ductility(s, r);
         r += 1;
     }
 }
 
-fn in_millionths(r: u64)
-    requires { ⌜ (100 ≤ r) × (r ≤ 600) ⌝ }
-{
-    io::write_all(STDOUT_FILENO, b"millionths");
-    number(r);
-    roots(MILLIONTHS, design_square(r));
-    roots(MILLIONTHS, mce_square(r));
-    roots(MILLIONTHS, basin_square(r));
-    io::write_all(STDOUT_FILENO, b"\n");
-}
-
-fn all_in_millionths() {
-    let mut r = Frame::R_LEAST;
-    while r <= Frame::R_MOST {
-        in_millionths(r);
-        r += 1;
-    }
-}
-
-// One line of a root on paper: a place, the digits found down to it, what is left beside them.
-fn line(square: Fraction, place: u64)
-    requires { ⌜ (0 < square .den) × (square .den ≤ 1000) × (square .num ≤ 11 * square .den) × Place place × (place ≤ 10_000_000) ⌝ }
-{
-    let digits = digits_down_to(UNIT, square.num, square.den, place);
-    io::write_all(STDOUT_FILENO, b"place");
-    number(place);
-    number(digits.found);
-    number(digits.left);
-    io::write_all(STDOUT_FILENO, b"\n");
-}
-
-fn lines(square: Fraction)
-    requires { ⌜ (0 < square .den) × (square .den ≤ 1000) × (square .num ≤ 11 * square .den) ⌝ }
-{
-    line(square, 10_000_000);
-    line(square, 1_000_000);
-    line(square, 100_000);
-    line(square, 10_000);
-    line(square, 1000);
-    line(square, 100);
-    line(square, 10);
-    line(square, 1);
-}
-
+// Place by place the digits found and what is left beside them, of design and of MCE.
 fn on_paper(r: u64)
     requires { ⌜ (100 ≤ r) × (r ≤ 600) ⌝ }
 {
-    lines(design_square(r));
-    lines(mce_square(r));
+    let design = design_square(r);
+    let mce = mce_square(r);
+    let mut place = 10_000_000;
+    while 0 < place {
+        let d = digits_down_to(UNIT, design.num, design.den, place);
+        let m = digits_down_to(UNIT, mce.num, mce.den, place);
+        io::write_all(STDOUT_FILENO, b"place");
+        number(place);
+        number(d.found);
+        number(d.left);
+        number(m.found);
+        number(m.left);
+        io::write_all(STDOUT_FILENO, b"\n");
+        place /= 10;
+    }
 }
 
 fn height(h: u64)
@@ -194,7 +167,7 @@ fn long_periods(mapped: u64)
 }
 
 fn main() {
-    ductilities();
+    ductilities(UNIT);
     heights();
     short_periods(50);
     short_periods(60);
@@ -208,7 +181,8 @@ fn main() {
     long_periods(45);
     long_periods(50);
     long_periods(55);
-    basin_ductilities();
-    all_in_millionths();
+    basin_ductilities(UNIT);
+    ductilities(MILLIONTHS);
+    basin_ductilities(MILLIONTHS);
     on_paper(480);
 }

@@ -5,10 +5,10 @@ use Rattle.run_exhausted.proofs.basin_ductilities.Statement.{statement}
 use Rattle.run_exhausted.proofs.basin_ductilities.Tie as tie
 
 abbrev Inv-loop : tie.InvT-loop
-Inv-loop r₀ r = (100 ≤ r) × (r ≤ 601)
+Inv-loop s r₀ r = (100 ≤ r) × (r ≤ 601)
 
 abbrev μ-loop : tie.MeasureT-loop
-μ-loop r₀ r = 601 - r
+μ-loop s r₀ r = 601 - r
 
 loop-holds : tie.Need-loop-holds Inv-loop μ-loop
 loop-holds c = search needs
