@@ -223,6 +223,26 @@ module _ (s : ℕ) (ρ : Fraction) (hs : s ≤ 10_000_000) (hd : 0 < ρ .den) (h
             rest = rw e (left-next s ρ k left (c * (p / 10)) (line .rest) (g .holds));
           }
 
--- ---- on paper: where the unit is ten times finer, two zeros are brought down
+-- ---- with the zeros left off, as on paper
+-- where the unit is ten times finer, two zeros are brought down
 pub brought-down : (s : ℕ) (ρ : Fraction) (k r : ℕ) → Left s ρ k r → Left (10 * s) ρ (10 * k) (100 * r)
 brought-down s ρ k r l = omega (arith, l)
+
+-- the lower root in a unit and what is left are, with zeros behind them, the digits down to the place p in a unit p times finer: two zeros behind
+-- what is left for each behind the digits
+module _ (s : ℕ) (ρ : Fraction) (p k r : ℕ) (hp : 0 < p) where
+  fits-finer : (j : ℕ) → j * j * ρ .den ≤ ρ .num * (s * s) → ρ .den * (j * p * (j * p)) ≤ s * p * (s * p) * ρ .num
+  fits-finer j h = omega (arith, mul-le-mul-right (p * p) h)
+
+  fits-coarser : (j : ℕ) → ρ .den * (j * p * (j * p)) ≤ s * p * (s * p) * ρ .num → j * j * ρ .den ≤ ρ .num * (s * s)
+  fits-coarser j h = le-of-mul-le-mul-right {k = p * p} (omega (arith, h)) (mul-pos hp hp)
+
+  pub zeros-behind : LowerRoot s ρ k → Left s ρ k r → Found (s * p) ρ p (k * p) × Left (s * p) ρ (k * p) (r * (p * p))
+  zeros-behind f l =
+      (record { holds = (dvd-mul-left p k, fits-finer k (f .holds)); largest = within }, omega (arith, ap (λ (z : ℕ). z * (p * p)) l))
+    where
+      within : (j : ℕ) → (p ∣ j) × (ρ .den * (j * j) ≤ s * p * (s * p) * ρ .num) → j ≤ k * p
+      within j h =
+          let e : j / p * p ≡ j = div-mul-cancel p (h .0) in
+          let b = fits-coarser (j / p) (subst (λ (z : ℕ). ρ .den * (z * z) ≤ s * p * (s * p) * ρ .num) (sym e) (h .1)) in
+          omega (arith, e, mul-le-mul-right p (f .largest (j / p) b))

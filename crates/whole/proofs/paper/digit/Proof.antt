@@ -67,7 +67,7 @@ mul-taken c = omega (arith, mul-le-mul (c .loop .inv .0) (c .before .before .bef
 taken-requires-2 : tie.Need-taken-requires-2 Inv-loop μ-loop
 taken-requires-2 c κs =
     let p = c .before .before .before .pre in
-    (p .1, p .2, omega (arith, mul-le-mul (c .loop .inv .0) (p .4)))
+    (p .1, omega (arith, p .2), omega (arith, mul-le-mul (c .loop .inv .0) (p .4)))
 
 sub-c : tie.Need-sub-c Inv-loop μ-loop
 sub-c c =

@@ -1,6 +1,5 @@
 -- `whole::paper::digits_down_to` meets its contract. The invariant: k is the digits of the root down to the place p, with zeros behind them, and
 -- what is left is s²·num − den·k². The measure is p. Assumes nothing.
-use borrow.Author.Needs.{needs}
 use mathlib.Core.Path.{_≡_, subst}
 use Prim.Native.Nat.{ℕ}
 use native.Mathlib.Nat.{mul-le-mul}
@@ -25,7 +24,7 @@ mul-left-2 : tie.Need-mul-left-2 Inv-loop μ-loop
 mul-left-2 c = omega (arith, radicand (c .args .s) (c .args .num) (c .args .den) (c .pre .1) (c .pre .4))
 
 mul-p : tie.Need-mul-p Inv-loop μ-loop
-mul-p c = search needs
+mul-p c = omega arith
 
 loop-holds : tie.Need-loop-holds Inv-loop μ-loop
 loop-holds c =
