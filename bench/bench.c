@@ -183,12 +183,17 @@ static int same(void)
 }
 
 /* ---- the kinds of call, each on its fixed input and on a pool of drawn ones */
+static void time_drawn(const char *name, size_t levels, double guess, JobInput draw(size_t))
+{
+    for (int i = 0; i < POOL; i++) jobs[i] = draw(levels);
+    timed(name, JOB, POOL, guess);
+}
+
 static void time_jobs(const char *name, size_t levels, double guess, JobInput fixed, JobInput draw(size_t))
 {
     jobs[0] = fixed;
     timed(name, JOB, 1, guess);
-    for (int i = 0; i < POOL; i++) jobs[i] = draw(levels);
-    timed(name, JOB, POOL, guess);
+    time_drawn(name, levels, guess, draw);
 }
 
 static void lay_sheet(int i, const JobInput *p)
@@ -233,6 +238,7 @@ int main(void)
     JobInput refused = fixed_job(50);
     refused.frame.calculated = 60001;
     time_jobs("job of 1 level", 1, 100, fixed_job(1), drawn_job);
+    time_drawn("job of 1 level, R alone", 1, 100, ductile_job);
     time_jobs("job of 10 levels", 10, 200, fixed_job(10), drawn_job);
     time_jobs("job of 25 levels", 25, 400, fixed_job(25), drawn_job);
     time_jobs("job of 50 levels", 50, 800, fixed_job(50), drawn_job);

@@ -33,6 +33,13 @@ JobInput drawn_job(size_t levels)
     return p;
 }
 
+JobInput ductile_job(size_t levels)
+{
+    JobInput p = fixed_job(levels);
+    p.frame.r = 100 + drawn(501);
+    return p;
+}
+
 JobInput spoilt_job(size_t levels)
 {
     JobInput p = drawn_job(levels);

@@ -23,6 +23,7 @@ u64 drawn(u64 count);                             /* below count */
 
 JobInput fixed_job(size_t levels);
 JobInput drawn_job(size_t levels);
+JobInput ductile_job(size_t levels);              /* the fixed job with another R, drawn */
 JobInput spoilt_job(size_t levels);               /* a drawn job with one number that is refused */
 LogInput fixed_log(void);
 LogInput drawn_log(void);

@@ -29,6 +29,6 @@ def lines(n, d, s):
 
 
 def roots(n, d, s):
-    """The lower root, which is all the digits, and the upper: "the lower one, or one more where the last remainder is not 0"."""
+    """The lower root, which is all the digits, and the upper: the lower one, or one more where something is left."""
     last = list(lines(n, d, s))[-1]
     return last.found, last.found + (last.left > 0)

@@ -1,4 +1,4 @@
-// What is finite, exhausted: roots and capacities of every R, on a site and in the Taipei Basin, in the unit and in millionths, the period of
+// What is finite, exhausted: roots and capacities of every R, on a site and in the Taipei Basin, in ten-millionths and in millionths, the period of
 // every height and kind, both coefficients of every product of a mapped value and a near-fault factor. (`run_logs` runs the velocity of every
 // N.) Last, the roots of R = 4.80 place by place, as they are found on paper.
 use libc::STDOUT_FILENO;
@@ -18,6 +18,7 @@ use site::capacity::mce_square;
 use site::coefficients::fa;
 use site::coefficients::fv;
 use whole::Fraction;
+use whole::paper::FIRST;
 use whole::paper::digits_down_to;
 use whole::quotients::down;
 use whole::quotients::up;
@@ -97,7 +98,7 @@ fn on_paper(r: u64)
 {
     let design = design_square(r);
     let mce = mce_square(r);
-    let mut place = 10_000_000;
+    let mut place = FIRST;
     while 0 < place {
         let d = digits_down_to(UNIT, design.num, design.den, place);
         let m = digits_down_to(UNIT, mce.num, mce.den, place);

@@ -3,7 +3,7 @@
 -- Assumes nothing.
 use mathlib.Core.Path.{_≡_, refl, sym, ap, subst}
 use Prim.Native.Nat.{ℕ, zero, suc, _+_, _-_, _*_, _/_, _^_, _≤_, _<_, _∣_}
-use native.Mathlib.Nat.{zero-lt-suc, mul-pos, mul-le-mul, mul-le-mul-left, mul-le-mul-right, lt-of-not-le, le-of-mul-le-mul-right, pow-zero, pow-suc, pow-le-pow-right, one-le-pow, mul-div-cancel, le-div-iff-mul-le, one-dvd, dvd-zero, dvd-add, dvd-mul-left, dvd-mul-left-of-dvd, dvd-refl, div-mul-cancel}
+use native.Mathlib.Nat.{zero-lt-suc, mul-pos, mul-le-mul, mul-le-mul-left, mul-le-mul-right, lt-of-not-le, le-antisymm, le-of-mul-le-mul-right, pow-zero, pow-suc, pow-le-pow-right, one-le-pow, mul-div-cancel, div-mul-le-self, le-div-iff-mul-le, one-dvd, dvd-zero, dvd-add, dvd-mul-left, dvd-mul-left-of-dvd, dvd-refl, div-mul-cancel}
 use native.Mathlib.Decide.{decLe}
 use native.Mathlib.Omega.{arith}
 use Rattle.whole.specs.declared.Fraction.{Fraction}
@@ -11,7 +11,7 @@ use Rattle.whole.specs.Extreme.{Largest}
 use Rattle.whole.specs.Fraction.{over}
 use Rattle.whole.specs.Root.{LowerRoot, UpperRoot, lowerRoot, upperRoot}
 use Rattle.whole.specs.Digits.{Left, Found, taken, Digit, Place}
-use Rattle.whole.proofs.Extreme.{largest-unique, largest-same, largest-past, smallest-next}
+use Rattle.whole.proofs.Extreme.{largest-same, largest-past, smallest-next}
 use Rattle.whole.proofs.Root.{squares-rise, le-of-square, radicand, lower-root-at, upper-root-at}
 
 -- ---- places
@@ -20,9 +20,6 @@ place-positive h = rw (h .place) (one-le-pow (h .zeros) 10 (omega arith))
 
 pub place-one : Place 1
 place-one = record { zeros = 0; place = refl }
-
-pub place-one-small : 1 ≤ 10_000_000
-place-one-small = omega arith
 
 -- a place past another is ten times one that is not below it
 pub tenth : (last p : ℕ) → Place last → Place p → last < p → (Place (p / 10)) × (p ≡ 10 * (p / 10)) × (last ≤ p / 10)
@@ -39,7 +36,14 @@ tenth last p l h lt = go (h .zeros) (h .place)
         below e (yes m) k = rw (l .place) (pow-le-pow-right (omega arith) m)
         below e (no m) k = absurd (omega (arith, k, pow-suc 10 e, pow-le-pow-right {n = 10} (omega arith) {i = suc e} {j = l .zeros} (omega (arith, lt-of-not-le m))))
 
+-- zeros behind a place are zeros behind the next
+pub zeros-next : (p k : ℕ) → 10 * p ∣ k → p ∣ k
+zeros-next p k z = subst (λ (j : ℕ). p ∣ j) (div-mul-cancel (10 * p) z) (dvd-mul-left-of-dvd p (dvd-mul-left p 10) (k / (10 * p)))
+
 -- ---- what is taken
+pub taken-is : (d k x : ℕ) → d * (k * k) + taken d k x ≡ d * ((k + x) * (k + x))
+taken-is d k x = omega arith
+
 pub taken-some : (d k p : ℕ) → 0 < d → 0 < p → 0 < taken d k p
 taken-some d k p hd hp = mul-pos hd (mul-pos (omega arith) hp)
 
@@ -75,8 +79,8 @@ module _ (s : ℕ) (ρ : Fraction) where
   fits-taken : (k r x : ℕ) → Left s ρ k r → ρ .den * ((k + x) * (k + x)) ≤ s * s * ρ .num → taken (ρ .den) k x ≤ r
   fits-taken k r x l h = omega arith
 
-  pub found-next : (p k r c : ℕ) → 0 < p → p ∣ k → Left s ρ k r → Digit (ρ .den) k p r c → Found s ρ p (k + c * p)
-  found-next p k r c pp z l g =
+  pub found-next : (p k r c : ℕ) → p ∣ k → Left s ρ k r → Digit (ρ .den) k p r c → Found s ρ p (k + c * p)
+  found-next p k r c z l g =
       record {
         holds = (dvd-add p z (dvd-mul-left p c), omega (arith, left-next k r (c * p) l (g .holds)));
         largest = λ j h. past j h (decLe j (k + c * p));
@@ -113,23 +117,23 @@ module _ (s : ℕ) (ρ : Fraction) where
           absurd (omega (arith, v, pp))
       go (no n) = lt-of-not-le n
 
-  -- zeros behind a place are zeros behind the next
-  pub zeros-next : (p k : ℕ) → 10 * p ∣ k → p ∣ k
-  zeros-next p k z = subst (λ (j : ℕ). p ∣ j) (div-mul-cancel (10 * p) z) (dvd-mul-left-of-dvd p (dvd-mul-left p 10) (k / (10 * p)))
-
   pub found-is-root : (k : ℕ) → Found s ρ 1 k → LowerRoot s ρ k
   found-is-root k = largest-same (λ j h. omega (arith, h .1)) (λ j h. (one-dvd j, omega (arith, h)))
 
-  -- no second number is the digits, or what is left
-  pub found-determined : (p : ℕ) {k k′ r r′ : ℕ} → Found s ρ p k × Left s ρ k r → Found s ρ p k′ × Left s ρ k′ r′ → (k ≡ k′) × (r ≡ r′)
-  found-determined p {k} {k′} {r} {r′} a b =
-      let e = largest-unique (a .0) (b .0) in
-      let l : r + ρ .den * (k′ * k′) ≡ s * s * ρ .num = subst (λ (j : ℕ). r + ρ .den * (j * j) ≡ s * s * ρ .num) e (a .1) in
-      (e, omega (arith, l, b .1))
+  -- they are the digits of the lower root, zeros in place of those behind p
+  pub found-of-root : (p k l : ℕ) → 0 < p → LowerRoot s ρ l → Found s ρ p k → k ≡ l / p * p
+  found-of-root p k l pp r f =
+      let u : k ≤ l = r .largest k (omega (arith, f .holds .1)) in
+      let v : l / p * p ≤ l = div-mul-le-self l p in
+      let w : l / p * p ≤ k =
+      f .largest (l / p * p) (dvd-mul-left p (l / p), omega (arith, r .holds, mul-le-mul-left (ρ .den) (mul-le-mul v v))) in
+      let e : k / p * p ≡ k = div-mul-cancel p (f .holds .0) in
+      let q : k / p ≤ l / p = le-div-iff-mul-le pp .1 (omega (arith, e, u)) in
+      le-antisymm (omega (arith, e, mul-le-mul-right p q)) w
 
   -- ---- the upper root, by what is left beside the lower one
-  pub upper-same : (k : ℕ) → 0 < ρ .den → LowerRoot s ρ k → Left s ρ k 0 → UpperRoot s ρ k
-  upper-same k p l e =
+  pub upper-same : (k : ℕ) → 0 < ρ .den → Left s ρ k 0 → UpperRoot s ρ k
+  upper-same k p e =
       record {
         holds = omega (arith, e);
         smallest = λ j h. le-of-square k j (le-of-mul-le-mul-right {k = ρ .den} (omega (arith, h, e)) p);
@@ -166,7 +170,7 @@ module _ (s : ℕ) (ρ : Fraction) (hs : s ≤ 10_000_000) (hd : 0 < ρ .den) (h
 
   pub upper-nothing-left : (k r : ℕ) → Found s ρ 1 k → Left s ρ k r → r ≡ 0 → k ≡ upperRoot s ρ
   upper-nothing-left k r f l e =
-      upper-root-at s ρ below-words k (upper-same s ρ k hd (found-is-root s ρ k f) (subst (λ (z : ℕ). Left s ρ k z) e l))
+      upper-root-at s ρ below-words k (upper-same s ρ k hd (subst (λ (z : ℕ). Left s ρ k z) e l))
 
   pub upper-some-left : (k r : ℕ) → Found s ρ 1 k → Left s ρ k r → 0 < r → k + 1 ≡ upperRoot s ρ
   upper-some-left k r f l h = upper-root-at s ρ below-words (k + 1) (upper-next s ρ k r (found-is-root s ρ k f) l h)
@@ -219,14 +223,25 @@ module _ (s : ℕ) (ρ : Fraction) (hs : s ≤ 10_000_000) (hd : 0 < ρ .den) (h
             ahead = next .2;
             below = omega (arith, next-small);
             found =
-                found-next s ρ (p / 10) k left c next-positive (zeros-next s ρ (p / 10) k (found-before .holds .0)) (line .rest) g;
+                found-next s ρ (p / 10) k left c (zeros-next (p / 10) k (found-before .holds .0)) (line .rest) g;
             rest = rw e (left-next s ρ k left (c * (p / 10)) (line .rest) (g .holds));
           }
 
 -- ---- with the zeros left off, as on paper
 -- where the unit is ten times finer, two zeros are brought down
-pub brought-down : (s : ℕ) (ρ : Fraction) (k r : ℕ) → Left s ρ k r → Left (10 * s) ρ (10 * k) (100 * r)
+brought-down : (s : ℕ) (ρ : Fraction) (k r : ℕ) → Left s ρ k r → Left (10 * s) ρ (10 * k) (100 * r)
 brought-down s ρ k r l = omega (arith, l)
+
+-- the digit is then the largest c with d·(20·k + c)·c not above that; it is written behind k, and what it takes is subtracted
+pub paper-step : (s : ℕ) (ρ : Fraction) (k r c : ℕ) → Left s ρ k r → Largest (λ (c : ℕ). ρ .den * ((20 * k + c) * c) ≤ 100 * r) c
+    → LowerRoot (10 * s) ρ (10 * k + c) × Left (10 * s) ρ (10 * k + c) (100 * r - ρ .den * ((20 * k + c) * c))
+paper-step s ρ k r c l g =
+    let b = brought-down s ρ k r l in
+    let d : Digit (ρ .den) (10 * k) 1 (100 * r) c =
+    largest-same (λ j h. omega (arith, h)) (λ j h. omega (arith, h)) g in
+    let f = found-next (10 * s) ρ 1 (10 * k) (100 * r) c (one-dvd (10 * k)) b d in
+    let e : 10 * k + c * 1 ≡ 10 * k + c = omega arith in
+    (found-is-root (10 * s) ρ (10 * k + c) (subst (λ (j : ℕ). Found (10 * s) ρ 1 j) e f), omega (arith, b, g .holds))
 
 -- the lower root in a unit and what is left are, with zeros behind them, the digits down to the place p in a unit p times finer: two zeros behind
 -- what is left for each behind the digits

@@ -1,15 +1,17 @@
 // The lower root of a fraction as it is found on paper: digit by digit from the first place on, what is left kept beside the digits.
 //
-// Of n / d in s-ths, with the digits k found so far and zeros behind them, what is left is s² n - d k². The next digit, at the place p, is the
-// largest c whose c p takes no more than is left: d (k + c p)² - d k². Where s is a power of ten, what is left ends in two zeros for each digit
-// still to come. On paper they are not written: two of them are brought down for each digit.
+// Of n / d in s-ths, with the digits k found so far and zeros behind them, what is left is s² n - d k². The next digit is the largest c that
+// takes no more than is left: at the place p it takes d (k + c p)² - d k². Where s is a power of ten, then from the place s on what is left
+// ends in two zeros for each digit still to come. On paper they are not written: two of them are brought down for each digit.
 ghost use mathlib.Core.Path.{_≡_};
 ghost use Prim.Native.Nat.{ℕ, _*_, _≤_, _<_};
 ghost use Rattle.whole.specs.Fraction.{over};
 ghost use Rattle.whole.specs.Digits.{Left, Found, taken, Digit, Place};
 
-// The first place of a root, which is below 4 * 10^7.
-const FIRST: u64 = 10_000_000;
+// The place of the first digit: no root reaches 4 * 10^7.
+pub const FIRST: u64 = 10_000_000;
+
+const DIGIT_MOST: u64 = 9;
 
 // The digits found, with zeros behind them, and what is left beside them.
 pub struct Digits {
@@ -32,8 +34,8 @@ fn digit(d: u64, k: u64, p: u64, left: u64) -> u64
     ensures { λ c. ⌜ Digit d k p left c ⌝ }
 {
     let mut c = left / taken(d, k, p);
-    if 9 < c {
-        c = 9;
+    if DIGIT_MOST < c {
+        c = DIGIT_MOST;
     }
     while left < taken(d, k, c * p) {
         c -= 1;
