@@ -88,7 +88,7 @@ def school_paper(n, d, count):
         rows.append(f'{paired(step.there, pairs):>{edge}}')
         minus = f'− {paired(step.taken, pairs)}'
         rows.append(f'{minus:>{edge}}'.ljust(28) + f'digit {step.digit}: {step.product} = {comma(step.taken)}')
-    rows.append(f'{paired(step.left, pairs):>{edge}}'.ljust(28) + f'found {pointed(10 * step.before + step.digit, count - 1)}, and so on')
+    rows.append(f'{paired(100 * step.left, count):>{edge + 3}}'.ljust(28) + f'found {pointed(10 * step.before + step.digit, count - 1)}, and so on')
     return code(rows)
 
 
@@ -125,12 +125,13 @@ def checked(n, d):
     high, low = divmod(line.found, HALF)
     parts = d * high**2, 2 * d * high * low, d * low**2
     assert parts[0] * HALF**2 + parts[1] * HALF + parts[2] == whole - line.left and line.left < d * (2 * line.found + 1)
-    return code([f'{d} · {comma(high)}²             = {comma(parts[0])}, with eight zeros behind it',
-                 f'{d} · 2 · {comma(high)} · {comma(low)} = {comma(parts[1])}, with four zeros behind it',
-                 f'{d} · {comma(low)}²             = {comma(parts[2])}',
+    products = f'{d} · {comma(high)}²', f'{d} · 2 · {comma(high)} · {comma(low)}', f'{d} · {comma(low)}²'
+    wide = max(map(len, products))
+    zeros = ', with eight zeros behind it', ', with four zeros behind it', ''
+    return code([*(f'{product:{wide}} = {comma(part)}{behind}' for product, part, behind in zip(products, parts, zeros)),
                  f'all three: {comma(whole - line.left)}',
                  f'{comma(whole)} − {comma(whole - line.left)} = {comma(line.left)}',
-                 f'{d} · (2 · {comma(line.found)} + 1) = {comma(d * (2 * line.found + 1))}'])
+                 f'{d} · (2 · {comma(line.found)} + 1) = {comma(d * (2 * line.found + 1))}, which is more: the root is right'])
 
 
 def nothing_left(square):
@@ -148,5 +149,5 @@ def names():
     return {'R': hundredths(R), 'design_n': str(DESIGN[0]), 'mce_n': str(MCE[0]), 'mce_paper': school_paper(*MCE, 4), 'mce_table': lines_table(*MCE),
             'design_table': lines_table(*DESIGN), 'mce_lower': mce_lower, 'mce_upper': mce_upper, 'design_lower': design_lower,
             'design_upper': design_upper, 'mce_left': comma(last(*MCE).left), 'design_left': comma(last(*DESIGN).left), 'mce_squared': squared(*MCE),
-            'mce_checked': checked(*MCE), 'code_table': code_table(), 'basin_lower': pointed(last(*BASIN).found), 'exact_R': hundredths(EXACT),
+            'mce_checked': checked(*MCE), 'code_table': code_table(), 'basin_lower': pointed(paper.roots(*BASIN, response.UNIT)[0]), 'basin_upper': pointed(paper.roots(*BASIN, response.UNIT)[1]), 'exact_R': hundredths(EXACT),
             'exact_n': str(exact_n), 'design_Rs': nothing_left(lambda R: (R - 25, 75)), 'basin_Rs': nothing_left(lambda R: (R, 100))}

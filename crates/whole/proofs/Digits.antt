@@ -21,7 +21,7 @@ place-positive h = rw (h .place) (one-le-pow (h .zeros) 10 (omega arith))
 pub place-one : Place 1
 place-one = record { zeros = 0; place = refl }
 
--- a place past another is ten times one that is not below it
+-- a place larger than `last` is ten times a place that is at least `last`
 pub tenth : (last p : ℕ) → Place last → Place p → last < p → (Place (p / 10)) × (p ≡ 10 * (p / 10)) × (last ≤ p / 10)
 tenth last p l h lt = go (h .zeros) (h .place)
   where
@@ -50,7 +50,7 @@ taken-some d k p hd hp = mul-pos hd (mul-pos (omega arith) hp)
 pub taken-rises : (d k x y : ℕ) → x ≤ y → taken d k x ≤ taken d k y
 taken-rises d k x y h = mul-le-mul-left d (mul-le-mul (omega (arith, h)) h)
 
--- a digit takes c times what 1 takes, and more
+-- a digit c takes at least c times what 1 takes
 pub taken-least : (d k p c : ℕ) → 0 < c → c * taken d k p ≤ taken d k (c * p)
 taken-least d k p c h =
     let l : c * (2 * k + p) ≤ c * (2 * k + c * p) = mul-le-mul-left c (omega (arith, mul-le-mul-right p h)) in
@@ -153,7 +153,7 @@ pub record Line (s : ℕ) (ρ : Fraction) (last p left k : ℕ) : Type 0 where
   pub found : Found s ρ p k
   pub rest : Left s ρ k left
 
--- of a square up to 11, in a unit up to ten-millionths
+-- for a square n/d up to 11, and s up to 10⁷
 module _ (s : ℕ) (ρ : Fraction) (hs : s ≤ 10_000_000) (hd : 0 < ρ .den) (hn : ρ .num ≤ 11 * ρ .den) where
   -- what fits is at most 4·10⁷
   pub fits-small : (k : ℕ) → ρ .den * (k * k) ≤ s * s * ρ .num → k ≤ 40_000_000
@@ -161,10 +161,11 @@ module _ (s : ℕ) (ρ : Fraction) (hs : s ≤ 10_000_000) (hd : 0 < ρ .den) (h
       le-of-square k 40_000_000
       (le-of-mul-le-mul-right {k = ρ .den} (omega (arith, h, radicand s (ρ .num) (ρ .den) hs hn)) hd)
 
-  -- ---- down to the place 1 the digits are the lower root; the upper root is the same where nothing is left, else one more
+  -- s²·n is below d·2^64
   below-words : ρ .num * (s * s) < 2 ^ 64 * ρ .den
   below-words = omega (arith, radicand s (ρ .num) (ρ .den) hs hn, hd)
 
+  -- down to the place 1 the digits are the lower root; the upper root is the same where nothing is left, else one more
   pub lower-by-digits : (k : ℕ) → Found s ρ 1 k → k ≡ lowerRoot s ρ
   lower-by-digits k f = lower-root-at s ρ below-words k (found-is-root s ρ k f)
 

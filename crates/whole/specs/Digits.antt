@@ -4,8 +4,8 @@
 --   Found s ρ p k      k is the digits down to the place p, with zeros behind them: the largest multiple of p with d·k² ≤ s²·n
 --   taken d k x        what x takes off beside k: d·(k + x)² − d·k²
 --   Digit d k p r c    c is the digit at the place p behind the digits k: the largest number whose c·p takes no more than r, which is at most 9
---                      where 10·p takes more
---   Place p            p is 1 with some zeros behind it
+--                      where 10·p takes more than r
+--   Place p            p is 1, 10, 100, ..
 -- Each next digit keeps `Left` and carries `Found` one place on; k is the lower root with zeros in place of its digits behind p, and down to the place 1
 -- it is the lower root: proofs/Digits.antt.
 use mathlib.Core.Path.{_≡_}

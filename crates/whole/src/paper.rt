@@ -1,8 +1,8 @@
 // The lower root of a fraction as it is found on paper: digit by digit from the first place on, what is left kept beside the digits.
 //
 // Of n / d in s-ths, with the digits k found so far and zeros behind them, what is left is s² n - d k². The next digit is the largest c that
-// takes no more than is left: at the place p it takes d (k + c p)² - d k². Where s is a power of ten, then from the place s on what is left
-// ends in two zeros for each digit still to come. On paper they are not written: two of them are brought down for each digit.
+// takes no more than is left: at the place p it takes d (k + c p)² - d k². Where s is a power of ten, what is left ends, from the place s
+// on, in two zeros for each digit still to come. On paper they are not written: two of them are brought down for each digit.
 ghost use mathlib.Core.Path.{_≡_};
 ghost use Prim.Native.Nat.{ℕ, _*_, _≤_, _<_};
 ghost use Rattle.whole.specs.Fraction.{over};
