@@ -190,7 +190,7 @@ module _ (s : ℕ) (ρ : Fraction) (hs : s ≤ 10_000_000) (hd : 0 < ρ .den) (h
       none : (j : ℕ) → (100_000_000 ∣ j) × (ρ .den * (j * j) ≤ s * s * ρ .num) → j ≤ 40_000_000 → j ≤ 0
       none j f small = omega (arith, div-mul-cancel 100_000_000 (f .0), small)
 
-  module _ (last p left k : ℕ) (l : Place last) (line : Line s ρ last p left k) where
+  module _ {last p left k : ℕ} (l : Place last) (line : Line s ρ last p left k) where
     pub line-small : k ≤ 40_000_000
     line-small = fits-small k (line .found .holds .1)
 

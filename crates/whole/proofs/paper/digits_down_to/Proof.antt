@@ -36,28 +36,34 @@ digit-requires : tie.Need-digit-requires Inv-loop μ-loop
 digit-requires c κs =
     let a = c .before .before .args in
     let q = c .before .before .pre in
-    let l = c .before .loop in
+    let i = c .before .loop .inv in
     let t = c .loop-test .taken in
-    let ρ = over (a .num) (a .den) in
-    (q .2, q .3, line-small (a .s) ρ (q .1) (q .2) (q .4) (a .last) (l .p) (l .left) (l .k) (q .5) (l .inv), next-positive (a .s) ρ (q .1) (q .2) (q .4) (a .last) (l .p) (l .left) (l .k) (q .5) (l .inv) t, next-small (a .s) ρ (q .1) (q .2) (q .4) (a .last) (l .p) (l .left) (l .k) (q .5) (l .inv) t, ten-more (a .s) ρ (q .1) (q .2) (q .4) (a .last) (l .p) (l .left) (l .k) (q .5) (l .inv) t)
+    let ρ = over (a .num) (a .den) in (
+      q .2,
+      q .3,
+      line-small (a .s) ρ (q .1) (q .2) (q .4) (q .5) i,
+      next-positive (a .s) ρ (q .1) (q .2) (q .4) (q .5) i t,
+      next-small (a .s) ρ (q .1) (q .2) (q .4) (q .5) i t,
+      ten-more (a .s) ρ (q .1) (q .2) (q .4) (q .5) i t,
+    )
 
 mul-x : tie.Need-mul-x Inv-loop μ-loop
 mul-x c =
     let a = c .before .before .before .args in
     let q = c .before .before .before .pre in
-    let l = c .before .before .loop in
+    let i = c .before .before .loop .inv in
     let t = c .before .loop-test .taken in
     let ρ = over (a .num) (a .den) in
-    omega (arith, next-fits (a .s) ρ (q .1) (q .2) (q .4) (a .last) (l .p) (l .left) (l .k) (q .5) (l .inv) t (c .digit .result) (c .digit .ensures .holds))
+    omega (arith, next-fits (a .s) ρ (q .1) (q .2) (q .4) (q .5) i t (c .digit .result) (c .digit .ensures .holds))
 
 taken-requires : tie.Need-taken-requires Inv-loop μ-loop
 taken-requires c κs =
     let a = c .before .before .before .args in
     let q = c .before .before .before .pre in
-    let l = c .before .before .loop in
+    let i = c .before .before .loop .inv in
     let t = c .before .loop-test .taken in
     let ρ = over (a .num) (a .den) in
-    (q .3, line-small (a .s) ρ (q .1) (q .2) (q .4) (a .last) (l .p) (l .left) (l .k) (q .5) (l .inv), next-fits (a .s) ρ (q .1) (q .2) (q .4) (a .last) (l .p) (l .left) (l .k) (q .5) (l .inv) t (c .digit .result) (c .digit .ensures .holds))
+    (q .3, line-small (a .s) ρ (q .1) (q .2) (q .4) (q .5) i, next-fits (a .s) ρ (q .1) (q .2) (q .4) (q .5) i t (c .digit .result) (c .digit .ensures .holds))
 
 sub-left : tie.Need-sub-left Inv-loop μ-loop
 sub-left c = omega (arith, c .taken .ensures, c .before .digit .ensures .holds)
@@ -66,28 +72,28 @@ add-k : tie.Need-add-k Inv-loop μ-loop
 add-k c =
     let a = c .before .before .before .before .args in
     let q = c .before .before .before .before .pre in
-    let l = c .before .before .before .loop in
+    let i = c .before .before .before .loop .inv in
     let t = c .before .before .loop-test .taken in
     let ρ = over (a .num) (a .den) in
-    omega (arith, line-small (a .s) ρ (q .1) (q .2) (q .4) (a .last) (l .p) (l .left) (l .k) (q .5) (l .inv), next-fits (a .s) ρ (q .1) (q .2) (q .4) (a .last) (l .p) (l .left) (l .k) (q .5) (l .inv) t (c .before .digit .result) (c .before .digit .ensures .holds))
+    omega (arith, line-small (a .s) ρ (q .1) (q .2) (q .4) (q .5) i, next-fits (a .s) ρ (q .1) (q .2) (q .4) (q .5) i t (c .before .digit .result) (c .before .digit .ensures .holds))
 
 loop-less : tie.Need-loop-less Inv-loop μ-loop
 loop-less c =
     let a = c .before .before .before .before .args in
     let q = c .before .before .before .before .pre in
-    let l = c .before .before .before .loop in
+    let i = c .before .before .before .loop .inv in
     let t = c .before .before .loop-test .taken in
     let ρ = over (a .num) (a .den) in
-    next-less (a .s) ρ (q .1) (q .2) (q .4) (a .last) (l .p) (l .left) (l .k) (q .5) (l .inv) t
+    next-less (a .s) ρ (q .1) (q .2) (q .4) (q .5) i t
 
 loop-again : tie.Need-loop-again Inv-loop μ-loop
 loop-again c =
     let a = c .before .before .before .before .args in
     let q = c .before .before .before .before .pre in
-    let l = c .before .before .before .loop in
+    let i = c .before .before .before .loop .inv in
     let t = c .before .before .loop-test .taken in
     let ρ = over (a .num) (a .den) in
-    next-line (a .s) ρ (q .1) (q .2) (q .4) (a .last) (l .p) (l .left) (l .k) (q .5) (l .inv) t (c .before .digit .result) (c .taken .result) (c .before .digit .ensures) (c .taken .ensures)
+    next-line (a .s) ρ (q .1) (q .2) (q .4) (q .5) i t (c .before .digit .result) (c .taken .result) (c .before .digit .ensures) (c .taken .ensures)
 
 returns : tie.Need-returns Inv-loop μ-loop
 returns c =
