@@ -19,7 +19,7 @@ STDOUT = pathlib.Path(__file__).resolve().parents[2] / 'crates' / 'run_exhausted
 
 
 class Step(NamedTuple):
-    """A line by hand: d, the digits before it, what there is, the trial as it is divided, the digit, what it takes off, what is left."""
+    """A line by hand: d, the digits before it, what there is, what 1 would take off, the digit, what it takes off, what is left."""
 
     d: int
     before: int
@@ -73,11 +73,10 @@ def lines_table(n, d):
 
 def paired(number, pairs):
     """A number as on school paper: so many pairs of digits behind the first ones, each in its column."""
-    text, parts = str(number), []
-    while pairs and text:
-        text, pairs = text[:-2], pairs - 1
-        parts.insert(0, str(number)[len(text):][:2] if not parts else str(number)[len(text):len(text) + 2])
-    return ' '.join(([text] if text else []) + parts)
+    first, parts = str(number), []
+    while first and len(parts) < pairs:
+        first, parts = first[:-2], [first[-2:], *parts]
+    return ' '.join([first, *parts]).lstrip()
 
 
 def school_paper(n, d, count):
