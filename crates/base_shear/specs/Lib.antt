@@ -1,3 +1,4 @@
 pub mod Shears
+pub mod Share
 pub mod Exact
 pub mod Ready

@@ -9,6 +9,7 @@ pub mod Unique
 pub mod Columns
 pub mod Sheared
 pub mod ShearedRefusing
+pub mod Towers
 pub mod Distributed
 pub mod DistributedRefusing
 pub mod Answered
@@ -24,6 +25,7 @@ pub mod NearFault
 pub mod Worked
 pub mod WorkedBasin
 pub mod WorkedNearFault
+pub mod WorkedTowers
 pub mod JobNumbers
 pub mod SharpMargin
 pub mod SharpHanded

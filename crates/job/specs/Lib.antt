@@ -2,3 +2,4 @@ pub mod ShearCall
 pub mod Distribution
 pub mod Job
 pub mod InTurn
+pub mod Towers

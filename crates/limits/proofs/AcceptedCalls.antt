@@ -1,7 +1,7 @@
 -- What the two calls accept is allowed; a building, and a base shear and a period, that are allowed pass their judgment. The levels of a job are a
 -- building that the shear call takes: its W and h are in range. So a job is judged as the two calls are in turn.
 -- Assumes nothing.
-use mathlib.Core.Path.{_≡_, ap}
+use mathlib.Core.Path.{_≡_, sym, ap, _∙_}
 use mathlib.Core.List.{List}
 use Prim.Native.Nat.{ℕ, _≤_}
 use native.Mathlib.Nat.{mul-le-mul-right}
@@ -20,7 +20,7 @@ use Rattle.limits.specs.Levels.{judgedLevels, topHeight}
 use Rattle.limits.specs.Outcome.{Outcome, accepted, Done}
 use Rattle.limits.proofs.Accepted.{given-parts, levels-allowed, top-allowed}
 use Rattle.limits.proofs.Built.{range-passes}
-use Rattle.limits.proofs.Passed.{then-passed, then-done, within-passed}
+use Rattle.limits.proofs.Passed.{one-value, then-passed, then-done, within-passed}
 
 building-allowed : (W h : ℕ) → judgedBuilding W h ≡ accepted tt → AllowedBuilding W h
 unfolding judgedBuilding
@@ -34,6 +34,13 @@ unfolding judgedShearCall
 shear-call-allowed s f W h g e =
     let parts = given-parts (judgedBuilding W h) s f g e in
     record { ground = parts .1; frame = parts .2; building = building-allowed W h (parts .0) }
+
+-- what is judged of ground and frame is judged of them alone: the same, whatever weights and heights are called with them
+pub one-given : (s : GroundValues) (f : FrameValues) (W h W′ h′ : ℕ) (g g′ : Given) → judgedShearCall s f W h ≡ accepted g
+    → judgedShearCall s f W′ h′ ≡ accepted g′ → g ≡ g′
+unfolding judgedShearCall
+one-given s f W h W′ h′ g g′ e e′ =
+    one-value (sym (then-passed (judgedBuilding W h) _ e .1) ∙ then-passed (judgedBuilding W′ h′) _ e′ .1)
 
 pub distribution-allowed : (v t : ℕ) (ws hs : List ℕ) (room : ℕ) → judgedDistribution v t ws hs room ≡ accepted tt
     → AllowedLevels ws hs × (length ws ≤ room) × AllowedHanded v t

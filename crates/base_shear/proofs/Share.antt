@@ -1,0 +1,50 @@
+-- V_D at one period in use is one share of W, rounded up once: of the three shares the largest, whatever W is.
+-- Assumes nothing.
+use mathlib.Core.Path.{_≡_, refl, ap₂, _∙_}
+use Prim.Native.Nat.{ℕ, _*_, max, _<_}
+use native.Mathlib.Nat.{mul-pos}
+use native.Mathlib.Omega.{arith}
+use Rattle.whole.specs.declared.Fraction.{Fraction}
+use Rattle.whole.specs.Fraction.{larger, upIn}
+use Rattle.whole.specs.Rounding.{up}
+use Rattle.whole.proofs.Order.{larger-positive}
+use Rattle.whole.proofs.Shares.{share-of-larger}
+use Rattle.limits.specs.declared.frame.Frame.{Frame}
+use Rattle.site.specs.declared.hazard.Hazard.{Hazard}
+use Rattle.site.specs.declared.hazard.Hazards.{Hazards}
+use Rattle.base_shear.specs.Share.{newtonsShare, shearShare, starShare, baseShare}
+use Rattle.base_shear.specs.Shears.{newtons, shear, star, base}
+
+newtons-share : (s n : ℕ) (f : Frame) (W x : ℕ) → newtons s n f W x ≡ upIn W (newtonsShare s n f x)
+unfolding newtons
+newtons-share s n f W x = ap₂ up (omega arith) refl
+
+module _ (s : ℕ) (k : Hazards) (f : Frame) (T : ℕ) (u : 0 < s) (a : 0 < f .alpha) (d : 0 < k .divisor) (e : 0 < k .stardivisor) where
+  share-positive : (n : ℕ) → 0 < n → 0 < n * s * f .alpha
+  share-positive n p = mul-pos (mul-pos p u) a
+
+  shear-share : (h : Hazard) (W : ℕ) → shear s k h f W T ≡ upIn W (shearShare s k h f T)
+  unfolding shear
+  shear-share h W = newtons-share s (k .divisor) f W _
+
+  star-share : (W : ℕ) → star s k f W T ≡ upIn W (starShare s k f T)
+  unfolding star
+  star-share W = newtons-share s (k .stardivisor) f W _
+
+  abbrev two : Fraction
+  two = larger (shearShare s k (k .design) f T) (shearShare s k (k .mce) f T)
+
+  two-positive : 0 < two .den
+  two-positive =
+      larger-positive (shearShare s k (k .design) f T) (shearShare s k (k .mce) f T) (share-positive (k .divisor) d) (share-positive (k .divisor) d)
+
+  pub base-share-positive : 0 < baseShare s k f T .den
+  base-share-positive = larger-positive two (starShare s k f T) two-positive (share-positive (k .stardivisor) e)
+
+  pub base-share : (W : ℕ) → base s k f W T ≡ upIn W (baseShare s k f T)
+  unfolding base
+  base-share W =
+      ap₂ max (ap₂ max (shear-share (k .design) W) (shear-share (k .mce) W)) (star-share W)
+      ∙ ap₂ max (share-of-larger (shearShare s k (k .design) f T) (shearShare s k (k .mce) f T) W
+      (share-positive (k .divisor) d) (share-positive (k .divisor) d)) refl
+      ∙ share-of-larger two (starShare s k f T) W two-positive (share-positive (k .stardivisor) e)

@@ -1,0 +1,34 @@
+-- Towers on one podium: shear calls of one ground s and one frame f that were answered with figures, and whose period in use is the same.
+--   Tower              one of them: a total weight in kN, a top height in dm, the figures that were answered
+--   Called s f t       t is what the shear call answers
+--   CalledAt s f T ts  so is each of ts, and T is the period in use of each
+--   weightOf ts        their total weights, added
+--   shearOf ts         their V_D, added
+use mathlib.Core.Path.{_≡_}
+use mathlib.Core.List.{List, [], _∷_}
+use Prim.Native.Nat.{ℕ, _+_}
+use Rattle.limits.specs.declared.frame.FrameValues.{FrameValues}
+use Rattle.limits.specs.declared.ground.GroundValues.{GroundValues}
+use Rattle.base_shear.specs.declared.Figures.{Figures}
+use Rattle.job.specs.declared.FiguresAnswer.the-variants.{Taken}
+use Rattle.job.specs.ShearCall.{Sheared}
+
+pub record Tower : Type 0 where
+  pub weight : ℕ
+  pub height : ℕ
+  pub figures : Figures
+
+abbrev pub Called : GroundValues → FrameValues → Tower → Type 0
+Called s f t = Sheared s f (t .weight) (t .height) (Taken (t .figures))
+
+abbrev pub CalledAt : GroundValues → FrameValues → ℕ → List Tower → Type 0
+CalledAt s f T [] = Unit {0}
+CalledAt s f T (t ∷ ts) = Called s f t × (t .figures .t ≡ T) × CalledAt s f T ts
+
+abbrev pub weightOf : List Tower → ℕ
+weightOf [] = 0
+weightOf (t ∷ ts) = t .weight + weightOf ts
+
+abbrev pub shearOf : List Tower → ℕ
+shearOf [] = 0
+shearOf (t ∷ ts) = t .figures .vd + shearOf ts
