@@ -1,4 +1,4 @@
-"""Writes the cases of the program `run_calls` and what the model says of them: shear calls and distributions (Wish 6).
+"""Writes the cases of the program `run_calls` and what the model says of them: shear calls and distributions (Wish 6), towers (Wish 8).
 
 usage: python3 -m tests.writes.call_cases        rewrites crates/run_calls/stdin and crates/run_calls/stdout
 
@@ -78,6 +78,9 @@ WORKED = Shear(SITE, (2, 1000, 480, 100, 150), 15_000, 300)
 OVER = Distribution(1_071_429, 1_000, [5000] * 3, [100, 200, 300], (3, 3, 3))
 UNEVEN = OVER._replace(weights=[900, 1, 20_000, 44], heights=[1, 2, 1_999, 2_000], buffers=(4, 5, 6))
 SMALL = OVER._replace(weights=[7, 5, 3], heights=[10, 23, 31], buffers=(5, 3, 4))
+# weights and heights of towers: no newton more, one newton, two newtons on the worked sheet's site; the ends of the weight
+TOWERS = (((5_000, 10_000), (300, 300)), ((7_500, 7_500), (250, 300)), ((4_996, 4_996, 5_008), (300, 300, 300)), ((1, 1), (300, 2_000)),
+          ((1, 999_999), (2_000, 300)), ((500_000, 500_000), (300, 300)))
 AT_THE_TOP = OVER._replace(weights=[20_000] * 50, heights=list(range(1_951, 2_001)), buffers=(50, 50, 50))
 
 
@@ -208,10 +211,19 @@ def drawn_cases():
     yield Distribution(call.base_shear, 1_234, call.weights, call.heights, (50, 51, 60))
 
 
+def tower_cases():
+    """Wish 8: towers, each followed by all their weight, on a site, with two pairs and in the Basin; heights that differ; another period."""
+    for ground in (SITE, NEAR, limits.Basin(1), limits.Basin(3)):
+        for weights, heights in TOWERS:
+            calls_of = [*zip(weights, heights), (sum(weights), heights[-1])]
+            yield from (WORKED._replace(ground=ground, weight=weight, height=height) for weight, height in calls_of)
+    yield from (WORKED._replace(weight=weight, height=150) for weight in (7_500, 7_500, 15_000))
+
+
 def all_cases():
     """Every case, in the order of the file."""
     return [*worked_cases(), *shear_limits(), *shear_pairs(), *every_shear_at_every_period(), *handed_in_limits(), *list_cases(),
-            *level_cases(), *distribution_pairs(), *drawn_cases()]
+            *level_cases(), *distribution_pairs(), *drawn_cases(), *tower_cases()]
 
 
 def stored(cases):
