@@ -195,6 +195,8 @@ uint64_t rukeshomaji_basin_figures(uint64_t zone, const RukeshomajiFrame *frame,
  * Refused    3 and 4 at place 0, then 5 to 12
  * Written    figures: all fields
  * Reference  document 000 (1), (4) to (9), (12) to (14), (16) to (20). By its 3.4 V_D scales a dynamic analysis; docs/manual/shear_and_storeys.md
+ * Towers     calls with the same site, frame and t: the vd of n weights add up to that of their sum, or to at most n - 1 N more;
+ *            docs/manual/towers.md
  */
 uint64_t rukeshomaji_shear_call(const RukeshomajiSite *site, const RukeshomajiFrame *frame, uint64_t weight, uint64_t height,
                                 RukeshomajiFigures *figures);

@@ -12,7 +12,7 @@ from xml.sax.saxutils import escape
 from tests.model import basin as basins, calls, exact, limits, response, site as sites, soil
 from tests.model.job import job
 from tests.writes import by_hand
-from tests.writes import finer, logs
+from tests.writes import finer, logs, towers as podium
 from tests.writes.calls import scaled
 
 ROOT = pathlib.Path(__file__).resolve().parents[2]
@@ -479,9 +479,32 @@ def soft_clay():
     return picture.svg()
 
 
+def towers():
+    """What rounding up adds to each tower and to the whole, for the three splits of the worked sheet's building."""
+    office = by_hand.read(SHEET.read_bytes())
+    picture = Picture(960, 470, 'What rounding up adds to the base shears of towers and of the whole building')
+    axes = Axes(picture, (330, 60, 800, 400), 3, len(podium.SPLITS))
+    axes.frame('added by rounding up (N)', '', [(tick, str(tick)) for tick in range(4)], [])
+    for row, (weights, heights) in enumerate(podium.SPLITS):
+        parts, whole = podium.split(office, weights, heights)
+        _, y = axes.point(0, len(podium.SPLITS) - row)
+        before = Fraction(0)
+        for number, part in enumerate(parts):
+            left, right = (axes.point(each, 0)[0] for each in (before, before + podium.added(part)))
+            picture.bar(left, y + 22, right - left, 30, BLUE, ('1', '0.65')[number % 2])
+            before += podium.added(part)
+        picture.words(318, y + 43, f'{" + ".join(map(by_hand.comma, weights))} kN', anchor='end')
+        picture.bar(axes.left, y + 62, axes.point(podium.added(whole), 0)[0] - axes.left, 30, RED)
+        picture.words(318, y + 83, f'{by_hand.comma(whole.W)} kN', anchor='end')
+        more = podium.more(parts, whole)
+        picture.words(816, y + 63, f'{more} N more' if more else 'none more', weight='bold')
+    picture.words(40, 36, 'Towers (blue) and the whole (orange): the difference is 0, 1 and 2 N', size=19, weight='bold')
+    return picture.svg()
+
+
 DRAWN = {'spectrum': spectrum, 'factor': factor, 'modified': modified, 'storeys': storeys, 'classes': classes, 'near_fault': near_fault,
          'basin': basin, 'roof_force': roof_force, 'two_calls': two_calls, 'periods': periods, 'steps': steps,
-         'soft_clay': soft_clay}
+         'soft_clay': soft_clay, 'towers': towers}
 
 
 def wrong():
