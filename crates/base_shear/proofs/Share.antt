@@ -9,9 +9,12 @@ use Rattle.whole.specs.Fraction.{larger, upIn}
 use Rattle.whole.specs.Rounding.{up}
 use Rattle.whole.proofs.Order.{larger-positive}
 use Rattle.whole.proofs.Shares.{share-of-larger}
+use Rattle.limits.specs.Allowed.{AllowedFrame}
 use Rattle.limits.specs.declared.frame.Frame.{Frame}
 use Rattle.site.specs.declared.hazard.Hazard.{Hazard}
 use Rattle.site.specs.declared.hazard.Hazards.{Hazards}
+use Rattle.response.specs.Unit.{unit}
+use Rattle.base_shear.specs.Ready.{Shearing, Reached}
 use Rattle.base_shear.specs.Share.{newtonsShare, shearShare, starShare, baseShare}
 use Rattle.base_shear.specs.Shears.{newtons, shear, star, base}
 
@@ -31,6 +34,7 @@ module _ (s : ℕ) (k : Hazards) (f : Frame) (T : ℕ) (u : 0 < s) (a : 0 < f .a
   unfolding star
   star-share W = newtons-share s (k .stardivisor) f W _
 
+  -- of V and V_M
   abbrev two : Fraction
   two = larger (shearShare s k (k .design) f T) (shearShare s k (k .mce) f T)
 
@@ -48,3 +52,17 @@ module _ (s : ℕ) (k : Hazards) (f : Frame) (T : ℕ) (u : 0 < s) (a : 0 < f .a
       ∙ ap₂ max (share-of-larger (shearShare s k (k .design) f T) (shearShare s k (k .mce) f T) W
       (share-positive (k .divisor) d) (share-positive (k .divisor) d)) refl
       ∙ share-of-larger two (starShare s k f T) W two-positive (share-positive (k .stardivisor) e)
+
+-- ---- in the unit in use, of hazards within reach and an allowed frame: what divides is above 0, and it is the same at every period
+module _ (k : Hazards) (f : Frame) (c : Reached k) (b : AllowedFrame f) (T : ℕ) where
+  abbrev ready : Shearing unit k 0
+  ready = c .shearing 0 (omega arith)
+
+  alpha-positive : 0 < f .alpha
+  alpha-positive = omega (arith, b .alpha)
+
+  pub reached-share-positive : 0 < baseShare unit k f T .den
+  reached-share-positive = base-share-positive unit k f T (omega arith) alpha-positive (ready .divisor .0) (ready .stardivisor .0)
+
+  pub reached-share : (W : ℕ) → base unit k f W T ≡ upIn W (baseShare unit k f T)
+  reached-share W = base-share unit k f T (omega arith) alpha-positive (ready .divisor .0) (ready .stardivisor .0) W

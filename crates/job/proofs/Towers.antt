@@ -19,10 +19,9 @@ use Rattle.limits.specs.Outcome.{accepted}
 use Rattle.limits.proofs.AcceptedCalls.{shear-call-allowed, one-given}
 use Rattle.response.specs.Unit.{unit}
 use Rattle.base_shear.specs.declared.Figures.{Figures}
-use Rattle.base_shear.specs.Ready.{Shearing}
 use Rattle.base_shear.specs.Share.{baseShare}
 use Rattle.base_shear.specs.Shears.{base, figuresAt}
-use Rattle.base_shear.proofs.Share.{base-share, base-share-positive}
+use Rattle.base_shear.proofs.Share.{reached-share, reached-share-positive}
 use Rattle.job.specs.declared.FiguresAnswer.the-variants.{Taken}
 use Rattle.job.specs.ShearCall.{givenHazards, buildingFigures, Sheared}
 use Rattle.job.specs.Towers.{Tower, Called, CalledAt, weightOf, shearOf}
@@ -30,7 +29,7 @@ use Rattle.job.proofs.GivenReached.{given-reached}
 use Rattle.job.proofs.Sheared.{taken-accepted}
 
 module _ (s : GroundValues) (f : FrameValues) where
-  -- ---- V_D as a share of W: the ground and the frame of any answered call are those of any other, as they are judged by themselves
+  -- ---- what is known of any other answered call once ground and frame were judged to be g in one of them
   module _ (W h : ℕ) (g : Given) (judged : judgedShearCall s f W h ≡ accepted g) where
     abbrev share : ℕ → Fraction
     share T = baseShare unit (givenHazards g) (g .frame) T
@@ -38,15 +37,8 @@ module _ (s : GroundValues) (f : FrameValues) where
     abbrev all : AllowedShearCall g W h
     all = shear-call-allowed s f W h g judged
 
-    abbrev ready : Shearing unit (givenHazards g) 0
-    ready = given-reached g W h all .shearing 0 (omega arith)
-
-    alpha-positive : 0 < g .frame .alpha
-    alpha-positive = omega (arith, all .frame .alpha)
-
     share-positive : (T : ℕ) → 0 < share T .den
-    share-positive T =
-        base-share-positive unit (givenHazards g) (g .frame) T (omega arith) alpha-positive (ready .divisor .0) (ready .stardivisor .0)
+    share-positive T = reached-share-positive (givenHazards g) (g .frame) (given-reached g W h all) (all .frame) T
 
     called-share : (t : Tower) → Called s f t → t .figures .vd ≡ upIn (t .weight) (share (t .figures .t))
     unfolding figuresAt
@@ -56,7 +48,7 @@ module _ (s : GroundValues) (f : FrameValues) where
         let n : t .figures ≡ buildingFigures g (t .weight) (t .height) =
         a .figures ∙ ap (λ (x : Given). buildingFigures x (t .weight) (t .height)) same in
         subst (λ (m : Figures). m .vd ≡ base unit (givenHazards g) (g .frame) (t .weight) (m .t)) (sym n) refl
-        ∙ base-share unit (givenHazards g) (g .frame) (t .figures .t) (omega arith) alpha-positive (ready .divisor .0) (ready .stardivisor .0) (t .weight)
+        ∙ reached-share (givenHazards g) (g .frame) (given-reached g W h all) (all .frame) (t .figures .t) (t .weight)
 
     shared : (T : ℕ) (ts : List Tower) → CalledAt s f T ts → Shared (share T) (weightOf ts) (shearOf ts) (length ts)
     shared T [] c = shared-none (share T)
@@ -65,16 +57,17 @@ module _ (s : GroundValues) (f : FrameValues) where
         subst (λ (x : ℕ). Shared (share T) (t .weight + weightOf ts) (x + shearOf ts) (suc (length ts))) (sym v)
         (shared-more (share T) (t .weight) (weightOf ts) (shearOf ts) (length ts) (share-positive T) (shared T ts (c .2)))
 
+    together : (ts : List Tower) (T : ℕ) → CalledAt s f T ts
+        → (upIn (weightOf ts) (share T) ≤ shearOf ts) × (shearOf ts ≤ upIn (weightOf ts) (share T) + (length ts - 1))
+    together ts T each = shared-together (share T) (weightOf ts) (shearOf ts) (length ts) (share-positive T) (shared T ts each)
+
   -- ---- any number of towers
   pub towers : (ts : List Tower) (h : ℕ) (n : Figures) → Sheared s f (weightOf ts) h (Taken n) → CalledAt s f (n .t) ts
       → (n .vd ≤ shearOf ts) × (shearOf ts ≤ n .vd + (length ts - 1))
   towers ts h n c each =
-      let W = weightOf ts in
-      let a = taken-accepted s f W h n c in
-      let g = a .given in
-      let v = called-share W h g (a .judged) (record { weight = W; height = h; figures = n }) c in
-      let both = shared-together (share W h g (a .judged) (n .t)) W (shearOf ts) (length ts) (share-positive W h g (a .judged) (n .t))
-      (shared W h g (a .judged) (n .t) ts each) in
+      let a = taken-accepted s f (weightOf ts) h n c in
+      let v = called-share (weightOf ts) h (a .given) (a .judged) (record { weight = weightOf ts; height = h; figures = n }) c in
+      let both = together (weightOf ts) h (a .given) (a .judged) ts (n .t) each in
       (omega (arith, v, both .0), omega (arith, v, both .1))
 
   -- ---- two towers

@@ -8,7 +8,6 @@ use native.Mathlib.Nat.{max-eq-left, max-eq-right, mul-le-mul-left, mul-le-mul-r
 use native.Mathlib.Omega.{arith}
 use Rattle.whole.specs.declared.Fraction.{Fraction}
 use Rattle.whole.specs.Fraction.{AtMost, larger, upIn}
-use Rattle.whole.specs.Rounding.{up}
 use Rattle.whole.proofs.Choice.{by-leb}
 use Rattle.whole.proofs.Rounding.{up-law, up-most}
 
