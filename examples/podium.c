@@ -14,7 +14,7 @@ typedef struct {
     uint64_t weight, height;
 } Tower;
 
-/* The towers of a building. */
+/* The towers of a building, 1 to MOST. */
 typedef struct {
     int count;
     Tower towers[MOST];
@@ -30,29 +30,31 @@ static uint64_t called(const char *name, Tower tower, RukeshomajiFigures *f)
 {
     uint64_t refused = rukeshomaji_shear_call(&site, &frame, tower.weight, tower.height, f);
     if (refused)
-        fprintf(stderr, "refused %" PRIu64 " at %" PRIu64 "\n", refused, f->place);
+        fprintf(stderr, "%s of %" PRIu64 " kN, %" PRIu64 " dm: refused %" PRIu64 " at %" PRIu64 "\n", name, tower.weight, tower.height, refused, f->place);
     else
         printf("%s\t%" PRIu64 "\t%" PRIu64 "\t%" PRIu64 "\t%" PRIu64 "\n", name, tower.weight, tower.height, f->vd, f->t);
     return refused;
 }
 
-/* Each tower, and the whole with the height of the last. The sum of V_D is compared only where all have the same T. */
+/* Each tower, and the whole with the height of its highest tower. The sum of V_D is compared only where all have the same T. */
 static int compared(const Split *split)
 {
-    Tower whole = {0, split->towers[split->count - 1].height};
+    Tower whole = {0, 0};
     RukeshomajiFigures parts[MOST], f;
     uint64_t sum = 0;
     for (int x = 0; x < split->count; x++) {
         if (called("tower", split->towers[x], &parts[x])) return 1;
         whole.weight += split->towers[x].weight;
+        if (whole.height < split->towers[x].height) whole.height = split->towers[x].height;
         sum += parts[x].vd;
     }
     if (called("whole", whole, &f)) return 1;
     for (int x = 0; x < split->count; x++)
         if (parts[x].t != f.t) {
-            fprintf(stderr, "the periods differ: nothing is said of the sum\n");
+            fprintf(stderr, "T differs: do not compare the sum\n");
             return 1;
         }
+    /* With one site, one frame and one T the sum is never below V_D of the whole, so this does not wrap. */
     printf("more\t%" PRIu64 "\n", sum - f.vd);
     return 0;
 }

@@ -18,12 +18,12 @@ def called(name, weight, height):
 
 
 def main():
-    """Each building in towers and as a whole with the height of the last, and how many newtons more the towers come to."""
+    """Each building in towers and as a whole, with the height of its highest tower, and how many newtons more the towers come to."""
     for towers in SPLITS:
         parts = [called('tower', *tower) for tower in towers]
-        whole = called('whole', sum(weight for weight, _ in towers), towers[-1][1])
+        whole = called('whole', sum(weight for weight, _ in towers), max(height for _, height in towers))
         if any(part.t != whole.t for part in parts):
-            raise SystemExit('the periods differ: nothing is said of the sum')
+            raise SystemExit('T differs: do not compare the sum')
         print('more', sum(part.vd for part in parts) - whole.vd, sep='\t')
 
 

@@ -195,8 +195,8 @@ uint64_t rukeshomaji_basin_figures(uint64_t zone, const RukeshomajiFrame *frame,
  * Refused    3 and 4 at place 0, then 5 to 12
  * Written    figures: all fields
  * Reference  document 000 (1), (4) to (9), (12) to (14), (16) to (20). By its 3.4 V_D scales a dynamic analysis; docs/manual/shear_and_storeys.md
- * Towers     calls with the same site, frame and t: the vd of n weights add up to that of their sum, or to at most n - 1 N more;
- *            docs/manual/towers.md
+ * Towers     if n calls, and the call with the sum of their weights, have the same site and frame and get the same t, then their vd add up to
+ *            the vd of that call, or to at most (n - 1) N more; docs/manual/towers.md
  */
 uint64_t rukeshomaji_shear_call(const RukeshomajiSite *site, const RukeshomajiFrame *frame, uint64_t weight, uint64_t height,
                                 RukeshomajiFigures *figures);
@@ -210,6 +210,7 @@ uint64_t rukeshomaji_shear_call(const RukeshomajiSite *site, const RukeshomajiFr
  * Refused    3 and 4 at place 0, then 18, 8 to 12
  * Written    figures: all fields
  * Reference  document 000, 2.1 after (4) for the period, (6) to (8), (10), (11), (15) to (20), Table 4
+ * Towers     as of rukeshomaji_shear_call, with the same zone
  */
 uint64_t rukeshomaji_basin_shear_call(uint64_t zone, const RukeshomajiFrame *frame, uint64_t weight, uint64_t height,
                                       RukeshomajiFigures *figures);

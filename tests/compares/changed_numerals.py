@@ -1,9 +1,10 @@
 """Numerals of the model, each changed by one: are they seen by what the gate holds the definitions and the code to?
 
-The numerals of the chain are tried on the jobs of crates/vectors, those of the soil log on the logs of crates/run_logs, those of the
-ranges and refusals on the changed jobs of crates/run_refusals, the jobs of crates/vectors and the shear calls and distributions of
-crates/run_calls: the files that stand there, which the unchanged model must meet first. What they do not see is tried on the
-figures of tests/compares/check_model.py. A numeral of an assertion is left alone, and so are the names of LEFT, each with its reason.
+The numerals of the chain are tried on the jobs of crates/vectors, those of the soil log on the logs of crates/run_logs, those of
+the ranges and refusals on the changed jobs of crates/run_refusals, the jobs of crates/vectors and the shear calls and
+distributions of crates/run_calls: the files that stand there, which the unchanged model must meet first; those of towers on what
+check_model.py says of them. What they do not see is tried on the figures of tests/compares/check_model.py. A numeral of an
+assertion is left alone, and so are the names of LEFT, each with its reason.
 
 usage: python3 -m tests.compares.changed_numerals
 """
@@ -19,8 +20,8 @@ import signal
 import sys
 
 from tests.compares import check_model
-from tests.compares.checks import basin as basin_figures, errors, figures
-from tests.model import basin, calls, exact, limits, response, shears, site, soil, storeys
+from tests.compares.checks import basin as basin_figures, errors, figures, towers as tower_figures
+from tests.model import basin, calls, exact, limits, response, shears, site, soil, storeys, towers
 from tests.model.job import job
 from tests.writes import call_cases, log_cases, refusal_cases, vectors
 
@@ -107,6 +108,11 @@ def log_or_velocity(*case):
     return log_cases.outcome(*case) if len(case) == 3 else str(log_cases.velocity(*case))
 
 
+def towers_hold(whole, parts):
+    """Whether V_D of towers and of the whole are what Wish 8 says."""
+    return towers.holds(whole, parts)
+
+
 def late(*_):
     """The changed model took too long."""
     raise TimeoutError
@@ -137,6 +143,7 @@ def suites():
     cases = call_cases.all_cases()
     known = [*answers(CRATES / 'run_refusals' / 'stdout'), *(vector(*row) for row in rows), *call_cases.stored(cases)]
     yield (limits, calls), judged, [*jobs, *rows, *((case,) for case in cases)], known
+    yield (towers,), towers_hold, list(tower_figures.HOLDS), list(tower_figures.HOLDS.values())
 
 
 def by_figures():

@@ -39,16 +39,18 @@ def got_towers(library, *inputs):
     return got, added([figures for figures, _ in got])
 
 
-def newtons(count):
-    """A number of newtons in words."""
-    return {0: 'no newton', 1: '1 newton'}.get(count, f'{count} newtons')
+def more_words(count, more):
+    """How many newtons more so many towers come to: none, as many as there can be, or between."""
+    ends = {0: 'no newton', count - 1: 'as many newtons as can be'}
+    return 'no newton' if count == 1 else ends.get(more, 'a number of newtons between')
 
 
 def compare_towers(tally, library, stratum, inputs):
     """The calls of some towers, counted as one comparison, and by how much they come to more."""
     expected = expected_towers(*inputs)
     tally.compare(stratum, inputs, got_towers(library, *inputs), expected)
-    tally.counts[f'of {len(inputs.towers)} towers, {newtons(expected[1][0])} more'] += 1
+    count = len(inputs.towers)
+    tally.counts[f'of {count} towers, {more_words(count, expected[1][0])} more'] += 1
     if len({height for _, height in inputs.towers} | {inputs.height}) > 1:
         tally.counts['of the towers, heights that differ'] += 1
 

@@ -491,14 +491,16 @@ def towers():
         before = Fraction(0)
         for number, part in enumerate(parts):
             left, right = (axes.point(each, 0)[0] for each in (before, before + podium.added(part)))
-            picture.bar(left, y + 22, right - left, 30, BLUE, ('1', '0.65')[number % 2])
+            picture.bar(left, y + 22, right - left, 30, (BLUE, '#66aad6')[number % 2])
             before += podium.added(part)
+        for added, down in ((before, 43), (podium.added(whole), 83)):
+            picture.words(axes.point(added, 0)[0] + 8, y + down, decimal(added, 2), size=15)
         picture.words(318, y + 43, f'{" + ".join(map(by_hand.comma, weights))} kN', anchor='end')
         picture.bar(axes.left, y + 62, axes.point(podium.added(whole), 0)[0] - axes.left, 30, RED)
         picture.words(318, y + 83, f'{by_hand.comma(whole.W)} kN', anchor='end')
         more = podium.more(parts, whole)
-        picture.words(816, y + 63, f'{more} N more' if more else 'none more', weight='bold')
-    picture.words(40, 36, 'Towers (blue) and the whole (orange): the difference is 0, 1 and 2 N', size=19, weight='bold')
+        picture.words(816, y + 63, f'{more} N more', weight='bold')
+    picture.words(40, 36, 'Added to V_D of the towers (blue, tower by tower) and of the whole (orange)', size=19, weight='bold')
     return picture.svg()
 
 

@@ -7,11 +7,13 @@ from fractions import Fraction
 from math import floor
 
 from tests.model import calls, limits, response, towers
-from tests.writes.by_hand import STAR, code, comma, decimal, ranged, read, table
+from tests.writes.by_hand import STAR, code, comma, decimal, hundredths, ranged, read, table
 
-# weights in kN and heights in dm of the towers; the whole has the last height
+# weights in kN and heights in dm of the towers; the whole has the largest height
 SPLITS = (((5_000, 10_000), (300, 300)), ((7_500, 7_500), (250, 300)), ((4_996, 4_996, 5_008), (300, 300, 300)))
-HALF, LOW, ZONE = 7_500, 150, 3
+HALF, ZONE = 7_500, 3
+LOW = 150               # dm, where the worked sheet's frame has another T
+RISING, RISING_HEIGHTS = (limits.Basin(1), limits.Frame(4, 0, 100, 100, 150)), (100, 150)      # where V_D grows with T
 
 
 def called(office, weight, height):
@@ -21,7 +23,7 @@ def called(office, weight, height):
 
 def split(office, weights, heights):
     """The shear calls of some towers, and of all their weight; T is the same."""
-    results = [called(office, weight, height) for weight, height in [*zip(weights, heights), (sum(weights), heights[-1])]]
+    results = [called(office, weight, height) for weight, height in [*zip(weights, heights), (sum(weights), max(heights))]]
     assert len({each.T for each in results}) == 1 and len({towers.share(each) for each in results}) == 1
     return results[:-1], results[-1]
 
@@ -54,13 +56,13 @@ def plus(numbers):
 
 
 def splits_table(office, splits):
-    """Every split: weights, V_D of each tower, their sum, V_D of the whole, newtons more."""
+    """Every split: weights, heights, V_D of each tower, their sum, V_D of the whole, newtons more."""
     rows = []
     for weights, heights in splits:
         parts, whole = split(office, weights, heights)
         shears = [each.V_D for each in parts]
-        rows.append((plus(weights), plus(shears), comma(sum(shears)), comma(whole.V_D), comma(more(parts, whole))))
-    return table(('towers, kN', 'V_D of each, N', 'sum, N', 'V_D of the whole, N', 'more, N'), rows)
+        rows.append((plus(weights), ', '.join(map(metres, heights)), plus(shears), comma(sum(shears)), comma(whole.V_D), comma(more(parts, whole))))
+    return table(('towers, kN', 'height, m', 'V_D of each, N', 'sum, N', 'V_D of the whole, N', 'sum − whole, N'), rows)
 
 
 def rounding_table(office):
@@ -74,17 +76,16 @@ def rounding_table(office):
 
 
 def period_table(office):
-    """Towers at another period than the whole, in both directions."""
-    high, low = (called(office, HALF, height) for height in (office.heights[-1], LOW))
+    """Two towers of different T, and the whole with the larger height: a sum that is above, and one that is below."""
     rows = []
-    for tower, height in ((low, office.heights[-1]), (high, LOW)):
-        whole, both = called(office, 2 * HALF, height), 2 * tower.V_D
-        assert tower.T != whole.T and not towers.holds(whole.V_D, [tower.V_D] * 2)
-        side = 'above' if both > whole.V_D else 'below'
-        rows.append((f'{metres(tower.h)} m, {comma(tower.T)} ms', f'{plus([tower.V_D] * 2)} = {comma(both)}',
-                     f'{metres(height)} m, {comma(whole.T)} ms', comma(whole.V_D), f'{comma(abs(both - whole.V_D))} {side}'))
-    assert rows[0][-1].endswith('above') and rows[1][-1].endswith('below')
-    return table(('two towers', 'V_D, N', 'the whole', 'V_D, N', 'the sum is, N'), rows)
+    for (ground, frame), heights, side in (((office.ground, office.frame), (LOW, office.heights[-1]), 'above'), (RISING, RISING_HEIGHTS, 'below')):
+        parts, whole = ([calls.shear_call(ground, frame, HALF, height) for height in heights], calls.shear_call(ground, frame, 2 * HALF, max(heights)))
+        shears = [each.V_D for each in parts]
+        assert parts[0].T < parts[1].T == whole.T and not towers.holds(whole.V_D, shears)
+        assert side == ('above' if sum(shears) > whole.V_D else 'below')
+        rows.append((', '.join(f'{comma(HALF)} kN at {metres(each.h)} m: {comma(each.T)} ms' for each in parts), f'{plus(shears)} = {comma(sum(shears))}',
+                     f'{comma(whole.W)} kN at {metres(whole.h)} m: {comma(whole.T)} ms', comma(whole.V_D), f'{comma(abs(sum(shears) - whole.V_D))} {side}'))
+    return table(('towers and T', 'V_D, N', 'the whole and T', 'V_D, N', 'the sum is, N'), rows)
 
 
 def limit_of(office, height):
@@ -113,6 +114,8 @@ def names(data):
     assert high == office.heights[-1] and min(limit_of(office, lower), limit_of(office, high)) >= frame.calculated_period
     assert SPLITS[1][0] == (HALF, HALF) and 2 * added(half) - added(base) == 1
     assert [more(*split(office, *each)) for each in SPLITS] == [0, 1, 2] and all(sum(weights) == office.W for weights, _ in SPLITS)
+    cut = [called(office._replace(frame=frame._replace(calculated_period=each)), office.W, office.heights[-1]) for each in (1_300, 1_500, limit_of(office, high))]
+    assert len({(each.V_D, each.T) for each in cut}) == 1 and cut[0].T == limit_of(office, high)
     basin = office._replace(ground=limits.Basin(ZONE))
     return {'W': comma(base.W), 'h_m': metres(base.h), 'T': comma(base.T), 'total_weight': ranged(limits.TOTAL_WEIGHT),
             'share_steps': f'I · p / ({comma(STAR)} · alpha-y) = {frame.I} · {comma(base.p)} / ({comma(STAR)} · {frame.alphay}) = {share} = {decimal(share, 6)}',
@@ -120,5 +123,6 @@ def names(data):
             'half_sum': decimal(2 * added(half)), 'whole_added': decimal(added(base)), 'splits_table': splits_table(office, SPLITS),
             'zone': str(ZONE), 'zone_share': str(towers.share(called(basin, base.W, base.h))), 'zone_table': splits_table(basin, SPLITS),
             'lower_m': metres(lower), 'lower_limit': comma(limit_of(office, lower)), 'limit': comma(limit_of(office, high)),
-            'low_m': metres(LOW), 'low_T': comma(called(office, HALF, LOW).T), 'period_table': period_table(office),
+            'low_zone': str(RISING[0].zone), 'low_kind': str(RISING[1].kind), 'low_R': hundredths(RISING[1].R), 'low_I': hundredths(RISING[1].I),
+            'low_alphay': hundredths(RISING[1].alphay), 'period_table': period_table(office), 'most_weight': comma(limits.TOTAL_WEIGHT[-1]),
             'printed': code(podium_lines(office))}
