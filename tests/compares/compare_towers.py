@@ -19,18 +19,20 @@ def answers(call, ground, frame, parts, height):
 
 
 def added(figures):
-    """How many newtons more the towers come to, whether that is what Wish 8 says, and whether T is one; None where something was written
-    beside a reply."""
+    """How many newtons more the towers come to, whether that is what Wish 8 says, whether T is one, and whether all calls were taken; None where
+    something was written beside a reply."""
     if None in figures:
         return None
     *parts, whole = (each[V_D] for each in figures)
-    return towers.newtons_more(whole, parts), towers.holds(whole, parts), len({each[T] for each in figures}) == 1
+    one_period, taken = len({each[T] for each in figures}) == 1, all(each[0] == 0 for each in figures)
+    return towers.newtons_more(whole, parts), towers.holds(whole, parts), one_period, taken
 
 
 def expected_towers(*inputs):
-    """The model's answers, and that what is only read is as it was; the newtons that they come to more, and that this holds at one T."""
+    """The model's answers, and that what is only read is as it was; the newtons that they come to more, that this holds, that T is one and that all
+    calls were taken."""
     figures = [figures_of(each) for each in answers(calls.shear_call, *inputs)]
-    return [(each, True) for each in figures], (added(figures)[0], True, True)
+    return [(each, True) for each in figures], (added(figures)[0], True, True, True)
 
 
 def got_towers(library, *inputs):
@@ -41,8 +43,7 @@ def got_towers(library, *inputs):
 
 def more_words(count, more):
     """How many newtons more so many towers come to: none, as many as there can be, or between."""
-    ends = {0: 'no newton', count - 1: 'as many newtons as can be'}
-    return 'no newton' if count == 1 else ends.get(more, 'a number of newtons between')
+    return {count - 1: 'as many newtons more as there can be', 0: 'no newton more'}.get(more, 'some newtons more')
 
 
 def compare_towers(tally, library, stratum, inputs):
@@ -50,7 +51,7 @@ def compare_towers(tally, library, stratum, inputs):
     expected = expected_towers(*inputs)
     tally.compare(stratum, inputs, got_towers(library, *inputs), expected)
     count = len(inputs.towers)
-    tally.counts[f'of {count} towers, {more_words(count, expected[1][0])} more'] += 1
+    tally.counts[f'of {count} towers, {more_words(count, expected[1][0])}'] += 1
     if len({height for _, height in inputs.towers} | {inputs.height}) > 1:
         tally.counts['of the towers, heights that differ'] += 1
 
@@ -71,7 +72,7 @@ def run_towers(library, tally, seed, count, kind):
 
 def of_stratum(name):
     """How many pairs are drawn for a stratum."""
-    return RARE if name.endswith(drawn.OTHERWISE) else A_STRATUM
+    return RARE if name.endswith(drawn.ALIKE) else A_STRATUM
 
 
 def tower_tasks(seed, count):

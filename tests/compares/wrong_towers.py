@@ -1,11 +1,14 @@
-"""Wrong ideas of towers on one podium (Wish 8), as changes of the model, and the towers that are to show them."""
+"""Wrong ideas of towers on one podium (Wish 8), as changes of the model, and the towers that are to show them.
+
+The first three change V_D. The others change what is said of the sum: they are shown by towers of the core whose V_D do not meet it.
+"""
 
 from fractions import Fraction
 from math import ceil, floor
 
 from tests.compares.compare_towers import added, answers
 from tests.compares.parts import figures_of
-from tests.draws.towers import GROUNDS, OTHERWISE, many_strata, pair_strata
+from tests.draws.towers import ALIKE, GROUNDS, many_strata, pair_strata
 from tests.model import calls, response, shears, site, towers
 
 
@@ -42,6 +45,6 @@ ERRORS = {
 
 def drawn(rng, count):
     """Towers of every stratum in turn, but for the one that is long looked for."""
-    strata = [one for kind in GROUNDS for name, one in (*pair_strata(kind), *many_strata(kind)) if not name.endswith(OTHERWISE)]
+    strata = [one for kind in GROUNDS for name, one in (*pair_strata(kind), *many_strata(kind)) if not name.endswith(ALIKE)]
     for number in range(count):
         yield strata[number % len(strata)](rng)

@@ -16,7 +16,7 @@ NAMES = {kind: name.replace('shear call', 'towers') for kind, name in SHEAR_NAME
 MOST = limits.TOTAL_WEIGHT[-1]
 MANY = (1, 3, 4, 10, 50)        # towers, beside two
 TRIED = 200                     # weights that are looked at for one that suits
-OTHERWISE = 'one governed otherwise'
+ALIKE = 'two shears round alike'
 LIGHT = 4                       # kN, where two shears often round to the same newton
 
 
@@ -104,22 +104,22 @@ def as_heavy_as_can_be(rng, share):
 
 
 def of_whole_newtons(rng, share, most):
-    """A weight whose V_D needs no rounding; any where there is none up to the most."""
+    """A weight whose V_D needs no rounding; None where there is none up to the most."""
     steps = most // share.denominator
-    return share.denominator * rng.randint(1, steps) if steps else up_to(rng, most)
+    return share.denominator * rng.randint(1, steps) if steps else None
 
 
-def one_whole(rng, share):
-    """The first comes to whole newtons, and its neighbours too."""
-    one = of_whole_newtons(rng, share, MOST - 2) + rng.choice((0, 0, 1))
-    return [one, up_to(rng, MOST - one)]
+def one_whole(rng, share, beyond=0):
+    """The first comes to whole newtons, or is so many kN beyond such a weight."""
+    whole = of_whole_newtons(rng, share, MOST - 1 - beyond)
+    return whole and [whole + beyond, up_to(rng, MOST - whole - beyond)]
 
 
 def whole_together(rng, share):
     """Both together come to whole newtons, each alone mostly not."""
-    both = max(2, of_whole_newtons(rng, share, MOST))
-    one = rng.randint(1, both - 1)
-    return [one, both - one]
+    both = of_whole_newtons(rng, share, MOST)
+    one = rng.randint(1, both - 1) if both and both > 1 else None
+    return one and [one, both - one]
 
 
 def looked_for(rng, share, most, rank):
@@ -143,16 +143,20 @@ WEIGHTS = {
     'equal weights': equal, '1 kN and any': with_one_kn, '1,000,000 kN together': as_heavy_as_can_be,
     '1 kN twice': functools.partial(given, weights=(1, 1)), '1 and 999,999 kN': functools.partial(given, weights=(1, MOST - 1)),
     '500,000 kN twice': functools.partial(given, weights=(MOST // 2, MOST // 2)),
-    'one of whole newtons': one_whole, 'whole newtons together': whole_together,
+    'one of whole newtons': one_whole, 'one 1 kN beyond whole newtons': functools.partial(one_whole, beyond=1),
+    'whole newtons together': whole_together,
     **{f'both {name}': functools.partial(ranked, rank=rank) for name, rank in RANKS.items()},
 }
 
 
 def draw_two(rng, draw_ground, weights=any_two):
-    """Two towers, their weights drawn as is given."""
-    ground, frame = draw_ground(rng), draw_frame(rng)
-    *heights, height = heights_at_one_period(rng, frame, 3)
-    return Towers(ground, frame, list(zip(weights(rng, share_at(ground, frame, height)), heights)), height)
+    """Two towers, their weights drawn as is given, on a ground and a frame with which there are such weights."""
+    drawn = None
+    while drawn is None:
+        ground, frame = draw_ground(rng), draw_frame(rng)
+        *heights, height = heights_at_one_period(rng, frame, 3)
+        drawn = weights(rng, share_at(ground, frame, height))
+    return Towers(ground, frame, list(zip(drawn, heights)), height)
 
 
 def governed(result):
@@ -160,8 +164,9 @@ def governed(result):
     return tuple(shear == result.V_D for shear in (result.V, result.V_M, result.V_star))
 
 
-def draw_governed_otherwise(rng, draw_ground):
-    """Two light towers of which one has its V_D by other shears than all the weight has."""
+def draw_rounded_alike(rng, draw_ground):
+    """Two light towers of which one has V_D by other shears than all the weight has: two shears round to the same newton in the one, not in the
+    other."""
     while True:
         ground, frame = draw_ground(rng), draw_frame(rng)
         *heights, height = heights_at_one_period(rng, frame, 3)
@@ -187,7 +192,7 @@ def pair_strata(kind):
     name, draw_ground = NAMES[kind], GROUNDS[kind]
     for said, weights in WEIGHTS.items():
         yield f'{name}, two: {said}', functools.partial(draw_two, draw_ground=draw_ground, weights=weights)
-    yield f'{name}, two: {OTHERWISE}', functools.partial(draw_governed_otherwise, draw_ground=draw_ground)
+    yield f'{name}, two: {ALIKE}', functools.partial(draw_rounded_alike, draw_ground=draw_ground)
 
 
 def many_strata(kind):

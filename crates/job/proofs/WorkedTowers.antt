@@ -1,5 +1,5 @@
--- The building of document 01's worked sheet, 15,000 kN and 30 m, parted into towers: both ends of what towers add up to are reached, and neither end
--- holds at another period in use. The definition, computed.
+-- The building of document 01's worked sheet, 15,000 kN and 30 m, split into towers: both ends of what towers add up to are reached. With towers of
+-- different periods in use neither end holds. The definition, computed.
 -- Assumes nothing.
 use mathlib.Core.Path.{_≡_, refl}
 use mathlib.Core.List.{List, [], _∷_}
@@ -12,12 +12,13 @@ use Rattle.whole.specs.Search.{largest, smallest, bitsFrom}
 use Rattle.whole.specs.Signed.{floor, ceiling}
 use Rattle.limits.specs.declared.frame.FrameValues.{FrameValues}
 use Rattle.limits.specs.declared.ground.GroundValues.{GroundValues}
-use Rattle.limits.specs.declared.ground.GroundValues.the-variants.{Site}
+use Rattle.limits.specs.declared.ground.GroundValues.the-variants.{Site, Basin}
 use Rattle.limits.specs.Building.{judgedBuilding}
 use Rattle.limits.specs.Frame.{judgedKind, judgedPeriod, judgedFrame}
 use Rattle.limits.specs.Judging.{judgedShearCall}
 use Rattle.limits.specs.Ranges.{inRange, among, within, listed}
 use Rattle.limits.specs.Site.{judgedClass, judgedMapped, judgedNearFault, judgedSite}
+use Rattle.limits.specs.Zone.{judgedZone}
 use Rattle.response.specs.Factor.{factor, lowerFactor, upperFactor}
 use Rattle.response.specs.Period.{approximate, inUse}
 use Rattle.response.specs.Ratio.{bent, ratio, modified, blended}
@@ -64,22 +65,19 @@ overThird = tower 5_008 300 303_720 273_255 357_715 1000
 abbrev lowHalf : Tower
 lowHalf = tower 7_500 150 609_722 548_561 718_116 746
 
-abbrev lowWhole : Tower
-lowWhole = tower 15_000 150 1_219_443 1_097_122 1_436_232 746
-
 abbrev IsCalled : Tower → Type 0
 IsCalled t = Called ground frame t
 
 abbrev Computed : Type 0
 Computed =
     IsCalled whole × IsCalled third × IsCalled twoThirds × IsCalled half × IsCalled lowerHalf × IsCalled underThird × IsCalled overThird
-    × IsCalled lowHalf × IsCalled lowWhole
+    × IsCalled lowHalf
 
 computed : Computed
 unfolding shearCallOf judgedShearCall judgedBuilding judgedSite judgedMapped judgedNearFault judgedClass judgedFrame judgedKind judgedPeriod
     among listed within inRange between up down largest smallest bitsFrom lowerRoot upperRoot floor ceiling approximate inUse spectrum
     exactSpectrum factor lowerFactor upperFactor ratio modified blended bent newtons shear star base figuresAt
-computed = (refl, refl, refl, refl, refl, refl, refl, refl, refl)
+computed = (refl, refl, refl, refl, refl, refl, refl, refl)
 
 -- ---- both ends: towers ts at the period of the whole, with its weight together, and k newtons more
 abbrev Parted : List Tower → ℕ → Type 0
@@ -98,19 +96,44 @@ one-newton-more = (computed .0, (computed .3, refl, (computed .4, refl, tt)), re
 pub two-newtons-more : Parted (underThird ∷ underThird ∷ overThird ∷ []) 2
 two-newtons-more = (computed .0, (computed .5, refl, (computed .5, refl, (computed .6, refl, tt))), refl, refl)
 
--- ---- with nothing said of T neither end holds: two towers of 15 m have 1,436,232 N where the whole of 30 m has 1,071,429 N, and the whole of 15 m has
--- 1,436,232 N where two towers of 30 m have 1,071,430 N
+-- ---- with nothing said of T neither end holds. A tower of 15 m and one of 30 m have 718,116 + 535,715 = 1,253,831 N where the whole of 30 m has
+-- 1,071,429 N. In zone 1 of the Taipei Basin, R = 1.00 and no calculated period, a tower of 10 m and one of 15 m have 1,891,358 + 2,000,000 =
+-- 3,891,358 N where the whole of 15 m has 4,000,000 N
 abbrev AtAnyPeriod : (ℕ → ℕ → ℕ → Type 0) → Type 0
 AtAnyPeriod P =
-    (W₁ W₂ h₁ h₂ h : ℕ) (n₁ n₂ n : Figures) → Sheared ground frame W₁ h₁ (Taken n₁) → Sheared ground frame W₂ h₂ (Taken n₂)
-    → Sheared ground frame (W₁ + W₂) h (Taken n) → P (n₁ .vd) (n₂ .vd) (n .vd)
+    (s : GroundValues) (f : FrameValues) (W₁ W₂ h₁ h₂ h : ℕ) (n₁ n₂ n : Figures)
+    → Sheared s f W₁ h₁ (Taken n₁) → Sheared s f W₂ h₂ (Taken n₂) → Sheared s f (W₁ + W₂) h (Taken n)
+    → P (n₁ .vd) (n₂ .vd) (n .vd)
 
 pub sum-at-any-period-false : AtAnyPeriod (λ (v₁ v₂ v : ℕ). v₁ + v₂ ≤ v + 1) → ⊥
 sum-at-any-period-false p =
-    let h = p 7_500 7_500 150 150 300 (lowHalf .figures) (lowHalf .figures) (whole .figures) (computed .7) (computed .7) (computed .0) in
+    let h =
+    p ground frame 7_500 7_500 150 300 300 (lowHalf .figures) (half .figures) (whole .figures) (computed .7) (computed .3) (computed .0) in
     omega (arith, h)
+
+abbrev stiff : FrameValues
+stiff = record { kind = 4; calculated = 0; r = 100; i = 100; alpha = 150 }
+
+abbrev Stiff : ℕ → ℕ → Figures → Type 0
+Stiff W h n = Sheared (Basin 1) stiff W h (Taken n)
+
+abbrev shortest : Figures
+shortest = record { v = 1_547_090; vm = 1_891_358; star = 618_836; vd = 1_891_358; t = 281 }
+
+abbrev short : Figures
+short = record { v = 1_628_572; vm = 2_000_000; star = 651_429; vd = 2_000_000; t = 381 }
+
+abbrev both : Figures
+both = record { v = 3_257_143; vm = 4_000_000; star = 1_302_858; vd = 4_000_000; t = 381 }
+
+stiff-computed : Stiff 7_500 100 shortest × Stiff 7_500 150 short × Stiff 15_000 150 both
+unfolding shearCallOf judgedShearCall judgedBuilding judgedZone judgedFrame judgedKind judgedPeriod among listed within inRange up down largest
+    smallest bitsFrom lowerRoot upperRoot floor ceiling approximate inUse spectrum exactSpectrum factor lowerFactor upperFactor ratio modified
+    blended bent newtons shear star base figuresAt
+stiff-computed = (refl, refl, refl)
 
 pub whole-at-any-period-false : AtAnyPeriod (λ (v₁ v₂ v : ℕ). v ≤ v₁ + v₂) → ⊥
 whole-at-any-period-false p =
-    let h = p 7_500 7_500 300 300 150 (half .figures) (half .figures) (lowWhole .figures) (computed .3) (computed .3) (computed .8) in
+    let c = stiff-computed in
+    let h = p (Basin 1) stiff 7_500 7_500 100 150 150 shortest short both (c .0) (c .1) (c .2) in
     omega (arith, h)

@@ -67,14 +67,14 @@ def drawn_checks():
     rng = random.Random(SEED)
     for kind in drawn.GROUNDS:
         for name, one in (*drawn.pair_strata(kind), *drawn.many_strata(kind)):
-            for _ in range(EACH if not name.endswith(drawn.OTHERWISE) else 1):
+            for _ in range(EACH if not name.endswith(drawn.ALIKE) else 1):
                 inputs = one(rng)
                 def of_them(inputs=inputs):
                     """What is said of these towers."""
                     results = answers(calls.shear_call, *inputs)
-                    more, holds, one_period = added([figures_of(each) for each in results])
-                    return 0 <= more < len(inputs.towers), holds, one_period, rounded_once(results)
-                yield f'{name} {inputs}', of_them, (True, True, True, True)
+                    more, *said = added([figures_of(each) for each in results])
+                    return 0 <= more < len(inputs.towers), said, rounded_once(results)
+                yield f'{name} {inputs}', of_them, (True, [True, True, True], True)
 
 
 def checks():
