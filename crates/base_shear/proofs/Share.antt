@@ -1,11 +1,12 @@
--- V_D at one period in use is one share of W, rounded up once: of the three shares the largest, whatever W is.
+-- V_D at one period in use is one share of W, rounded up once: the largest of three, and the same for every W. Over any unit, hazards and frame whose
+-- divisors are above 0.
 -- Assumes nothing.
 use mathlib.Core.Path.{_≡_, refl, ap₂, _∙_}
 use Prim.Native.Nat.{ℕ, _*_, max, _<_}
 use native.Mathlib.Nat.{mul-pos}
 use native.Mathlib.Omega.{arith}
 use Rattle.whole.specs.declared.Fraction.{Fraction}
-use Rattle.whole.specs.Fraction.{larger, upIn}
+use Rattle.whole.specs.Fraction.{larger}
 use Rattle.whole.specs.Rounding.{up}
 use Rattle.whole.proofs.Order.{larger-positive}
 use Rattle.whole.proofs.Shares.{share-of-larger}
@@ -15,10 +16,10 @@ use Rattle.site.specs.declared.hazard.Hazard.{Hazard}
 use Rattle.site.specs.declared.hazard.Hazards.{Hazards}
 use Rattle.response.specs.Unit.{unit}
 use Rattle.base_shear.specs.Ready.{Shearing, Reached}
-use Rattle.base_shear.specs.Share.{newtonsShare, shearShare, starShare, baseShare}
+use Rattle.base_shear.specs.Share.{newtonsShare, shearShare, starShare, baseShare, shareOf}
 use Rattle.base_shear.specs.Shears.{newtons, shear, star, base}
 
-newtons-share : (s n : ℕ) (f : Frame) (W x : ℕ) → newtons s n f W x ≡ upIn W (newtonsShare s n f x)
+newtons-share : (s n : ℕ) (f : Frame) (W x : ℕ) → newtons s n f W x ≡ shareOf (newtonsShare s n f x) W
 unfolding newtons
 newtons-share s n f W x = ap₂ up (omega arith) refl
 
@@ -26,11 +27,11 @@ module _ (s : ℕ) (k : Hazards) (f : Frame) (T : ℕ) (u : 0 < s) (a : 0 < f .a
   share-positive : (n : ℕ) → 0 < n → 0 < n * s * f .alpha
   share-positive n p = mul-pos (mul-pos p u) a
 
-  shear-share : (h : Hazard) (W : ℕ) → shear s k h f W T ≡ upIn W (shearShare s k h f T)
+  shear-share : (h : Hazard) (W : ℕ) → shear s k h f W T ≡ shareOf (shearShare s k h f T) W
   unfolding shear
   shear-share h W = newtons-share s (k .divisor) f W _
 
-  star-share : (W : ℕ) → star s k f W T ≡ upIn W (starShare s k f T)
+  star-share : (W : ℕ) → star s k f W T ≡ shareOf (starShare s k f T) W
   unfolding star
   star-share W = newtons-share s (k .stardivisor) f W _
 
@@ -45,7 +46,7 @@ module _ (s : ℕ) (k : Hazards) (f : Frame) (T : ℕ) (u : 0 < s) (a : 0 < f .a
   pub base-share-positive : 0 < baseShare s k f T .den
   base-share-positive = larger-positive two (starShare s k f T) two-positive (share-positive (k .stardivisor) e)
 
-  pub base-share : (W : ℕ) → base s k f W T ≡ upIn W (baseShare s k f T)
+  pub base-share : (W : ℕ) → base s k f W T ≡ shareOf (baseShare s k f T) W
   unfolding base
   base-share W =
       ap₂ max (ap₂ max (shear-share (k .design) W) (shear-share (k .mce) W)) (star-share W)
@@ -64,5 +65,5 @@ module _ (k : Hazards) (f : Frame) (c : Reached k) (b : AllowedFrame f) (T : ℕ
   pub reached-share-positive : 0 < baseShare unit k f T .den
   reached-share-positive = base-share-positive unit k f T (omega arith) alpha-positive (ready .divisor .0) (ready .stardivisor .0)
 
-  pub reached-share : (W : ℕ) → base unit k f W T ≡ upIn W (baseShare unit k f T)
+  pub reached-share : (W : ℕ) → base unit k f W T ≡ shareOf (baseShare unit k f T) W
   reached-share W = base-share unit k f T (omega arith) alpha-positive (ready .divisor .0) (ready .stardivisor .0) W

@@ -1,15 +1,15 @@
 -- Towers on one podium. With the same ground and frame and the same period in use, V_D of the towers' total weights together is at most the sum of their
--- V_D, and that sum is at most n − 1 newtons more for n towers: one newton more for two. For at one T V_D is one share of W, rounded up
--- once (`base-share`), and each tower's rounding adds less than a newton. The premises are that the calls were answered with figures, and T.
+-- V_D, and that sum is at most one newton more for each tower after the first. For at one T V_D is one share of W, rounded up once (`reached-share`),
+-- and two shares rounded up are at most one newton more than their sum's (`share-of-sum`). The premises are that the calls were answered with
+-- figures, and T.
 -- Assumes nothing.
 use mathlib.Core.Path.{_≡_, refl, sym, ap, subst, _∙_}
 use mathlib.Core.List.{List, [], _∷_}
-use Prim.Native.Nat.{ℕ, suc, _+_, _-_, _≤_, _<_}
+use Prim.Native.Nat.{ℕ, _+_, _≤_}
 use native.Mathlib.Omega.{arith}
 use lib.ListN.{length}
 use Rattle.whole.specs.declared.Fraction.{Fraction}
-use Rattle.whole.specs.Fraction.{upIn}
-use Rattle.whole.proofs.Shares.{Shared, shared-none, shared-more, shared-together}
+use Rattle.whole.proofs.Shares.{share-of-sum}
 use Rattle.limits.specs.declared.frame.FrameValues.{FrameValues}
 use Rattle.limits.specs.declared.ground.GroundValues.{GroundValues}
 use Rattle.limits.specs.declared.judging.Given.{Given}
@@ -19,12 +19,12 @@ use Rattle.limits.specs.Outcome.{accepted}
 use Rattle.limits.proofs.AcceptedCalls.{shear-call-allowed, one-given}
 use Rattle.response.specs.Unit.{unit}
 use Rattle.base_shear.specs.declared.Figures.{Figures}
-use Rattle.base_shear.specs.Share.{baseShare}
+use Rattle.base_shear.specs.Share.{baseShare, shareOf}
 use Rattle.base_shear.specs.Shears.{base, figuresAt}
 use Rattle.base_shear.proofs.Share.{reached-share, reached-share-positive}
 use Rattle.job.specs.declared.FiguresAnswer.the-variants.{Taken}
 use Rattle.job.specs.ShearCall.{givenHazards, buildingFigures, Sheared}
-use Rattle.job.specs.Towers.{Tower, Called, CalledAt, weightOf, shearOf}
+use Rattle.job.specs.Towers.{Tower, Called, CalledAt, weightOf, baseOf}
 use Rattle.job.proofs.GivenReached.{given-reached}
 use Rattle.job.proofs.Sheared.{taken-accepted}
 
@@ -37,10 +37,7 @@ module _ (s : GroundValues) (f : FrameValues) where
     abbrev all : AllowedShearCall g W h
     all = shear-call-allowed s f W h g judged
 
-    share-positive : (T : ℕ) → 0 < share T .den
-    share-positive T = reached-share-positive (givenHazards g) (g .frame) (given-reached g W h all) (all .frame) T
-
-    called-share : (t : Tower) → Called s f t → t .figures .vd ≡ upIn (t .weight) (share (t .figures .t))
+    called-share : (t : Tower) → Called s f t → t .figures .vd ≡ shareOf (share (t .figures .t)) (t .weight)
     unfolding figuresAt
     called-share t c =
         let a = taken-accepted s f (t .weight) (t .height) (t .figures) c in
@@ -50,24 +47,30 @@ module _ (s : GroundValues) (f : FrameValues) where
         subst (λ (m : Figures). m .vd ≡ base unit (givenHazards g) (g .frame) (t .weight) (m .t)) (sym n) refl
         ∙ reached-share (givenHazards g) (g .frame) (given-reached g W h all) (all .frame) (t .figures .t) (t .weight)
 
-    shared : (T : ℕ) (ts : List Tower) → CalledAt s f T ts → Shared (share T) (weightOf ts) (shearOf ts) (length ts)
-    shared T [] c = shared-none (share T)
-    shared T (t ∷ ts) c =
-        let v : t .figures .vd ≡ upIn (t .weight) (share T) = called-share t (c .0) ∙ ap (λ (x : ℕ). upIn (t .weight) (share x)) (c .1) in
-        subst (λ (x : ℕ). Shared (share T) (t .weight + weightOf ts) (x + shearOf ts) (suc (length ts))) (sym v)
-        (shared-more (share T) (t .weight) (weightOf ts) (shearOf ts) (length ts) (share-positive T) (shared T ts (c .2)))
+    called-share-at : (T : ℕ) (t : Tower) → Called s f t → t .figures .t ≡ T → t .figures .vd ≡ shareOf (share T) (t .weight)
+    called-share-at T t c e = called-share t c ∙ ap (λ (x : ℕ). shareOf (share x) (t .weight)) e
 
-    together : (ts : List Tower) (T : ℕ) → CalledAt s f T ts
-        → (upIn (weightOf ts) (share T) ≤ shearOf ts) × (shearOf ts ≤ upIn (weightOf ts) (share T) + (length ts - 1))
-    together ts T each = shared-together (share T) (weightOf ts) (shearOf ts) (length ts) (share-positive T) (shared T ts each)
+    share-of-all : (T : ℕ) (t : Tower) (ts : List Tower) → CalledAt s f T (t ∷ ts)
+        → (shareOf (share T) (weightOf (t ∷ ts)) ≤ baseOf (t ∷ ts)) × (baseOf (t ∷ ts) ≤ shareOf (share T) (weightOf (t ∷ ts)) + length ts)
+    share-of-all T t [] c =
+        let v = called-share-at T t (c .0) (c .1) in
+        let w : shareOf (share T) (t .weight + 0) ≡ shareOf (share T) (t .weight) = ap (λ (x : ℕ). shareOf (share T) x) (omega arith) in
+        (omega (arith, v, w), omega (arith, v, w))
+    share-of-all T t (u ∷ us) c =
+        let v = called-share-at T t (c .0) (c .1) in
+        let rest = share-of-all T u us (c .2) in
+        let positive = reached-share-positive (givenHazards g) (g .frame) (given-reached g W h all) (all .frame) T in
+        let both = share-of-sum (share T) (t .weight) (weightOf (u ∷ us)) positive in
+        (omega (arith, v, rest .0, both .0), omega (arith, v, rest .1, both .1))
 
   -- ---- any number of towers
-  pub towers : (ts : List Tower) (h : ℕ) (n : Figures) → Sheared s f (weightOf ts) h (Taken n) → CalledAt s f (n .t) ts
-      → (n .vd ≤ shearOf ts) × (shearOf ts ≤ n .vd + (length ts - 1))
-  towers ts h n c each =
-      let a = taken-accepted s f (weightOf ts) h n c in
-      let v = called-share (weightOf ts) h (a .given) (a .judged) (record { weight = weightOf ts; height = h; figures = n }) c in
-      let both = together (weightOf ts) h (a .given) (a .judged) ts (n .t) each in
+  pub towers : (t : Tower) (ts : List Tower) (h : ℕ) (n : Figures) → Sheared s f (weightOf (t ∷ ts)) h (Taken n) → CalledAt s f (n .t) (t ∷ ts)
+      → (n .vd ≤ baseOf (t ∷ ts)) × (baseOf (t ∷ ts) ≤ n .vd + length ts)
+  towers t ts h n c each =
+      let W = weightOf (t ∷ ts) in
+      let a = taken-accepted s f W h n c in
+      let v = called-share W h (a .given) (a .judged) (record { weight = W; height = h; figures = n }) c in
+      let both = share-of-all W h (a .given) (a .judged) (n .t) t ts each in
       (omega (arith, v, both .0), omega (arith, v, both .1))
 
   -- ---- two towers
@@ -76,8 +79,8 @@ module _ (s : GroundValues) (f : FrameValues) where
       → n₁ .t ≡ n .t → n₂ .t ≡ n .t
       → (n .vd ≤ n₁ .vd + n₂ .vd) × (n₁ .vd + n₂ .vd ≤ n .vd + 1)
   two-towers W₁ W₂ h₁ h₂ h n₁ n₂ n c₁ c₂ c e₁ e₂ =
-      let ts : List Tower =
-      record { weight = W₁; height = h₁; figures = n₁ } ∷ record { weight = W₂; height = h₂; figures = n₂ } ∷ [] in
-      let sum : W₁ + W₂ ≡ weightOf ts = omega arith in
-      let both = towers ts h n (subst (λ (x : ℕ). Sheared s f x h (Taken n)) sum c) (c₁, e₁, (c₂, e₂, tt)) in
+      let one : Tower = record { weight = W₁; height = h₁; figures = n₁ } in
+      let other : Tower = record { weight = W₂; height = h₂; figures = n₂ } in
+      let sum : W₁ + W₂ ≡ weightOf (one ∷ other ∷ []) = omega arith in
+      let both = towers one (other ∷ []) h n (subst (λ (x : ℕ). Sheared s f x h (Taken n)) sum c) (c₁, e₁, (c₂, e₂, tt)) in
       (omega (arith, both .0), omega (arith, both .1))

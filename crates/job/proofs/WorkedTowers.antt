@@ -1,5 +1,5 @@
--- The building of document 01's worked sheet, 15,000 kN and 30 m, split into towers: both ends of what towers add up to are reached. With towers of
--- different periods in use neither end holds. The definition, computed.
+-- The building of document 01's worked sheet, 15,000 kN and 30 m, split into towers, on its site and in zone 3 of the Taipei Basin: both ends of what
+-- towers add up to are reached. Where the T of a tower is not that of the whole, neither end need hold. The definition, computed.
 -- Assumes nothing.
 use mathlib.Core.Path.{_≡_, refl}
 use mathlib.Core.List.{List, [], _∷_}
@@ -27,113 +27,129 @@ use Rattle.base_shear.specs.declared.Figures.{Figures}
 use Rattle.base_shear.specs.Shears.{newtons, shear, star, base, figuresAt}
 use Rattle.job.specs.declared.FiguresAnswer.the-variants.{Taken}
 use Rattle.job.specs.ShearCall.{shearCallOf, Sheared}
-use Rattle.job.specs.Towers.{Tower, Called, CalledAt, weightOf, shearOf}
+use Rattle.job.specs.Towers.{Tower, Called, CalledAt, weightOf, baseOf}
 
-abbrev ground : GroundValues
-ground = Site (record { ssd = 80; s1d = 45; ssm = 100; s1m = 55; nad = 100; nvd = 100; nam = 100; nvm = 100; class = 1 })
+abbrev site : GroundValues
+site = Site (record { ssd = 80; s1d = 45; ssm = 100; s1m = 55; nad = 100; nvd = 100; nam = 100; nvm = 100; class = 1 })
 
 abbrev frame : FrameValues
 frame = record { kind = 2; calculated = 1000; r = 480; i = 100; alpha = 150 }
 
--- a tower of this ground and frame, whose V* is the largest
-abbrev tower : ℕ → ℕ → ℕ → ℕ → ℕ → ℕ → Tower
-tower W h v vm star t = record { weight = W; height = h; figures = record { v = v; vm = vm; star = star; vd = star; t = t } }
+-- weight and height, and of the figures V, V_M, V*, V_D and T
+abbrev tower : ℕ → ℕ → ℕ → ℕ → ℕ → ℕ → ℕ → Tower
+tower W h v vm star vd t = record { weight = W; height = h; figures = record { v = v; vm = vm; star = star; vd = vd; t = t } }
 
--- ---- T is 1 s at 30 m, and at 25 m too
+-- ---- on the site. T is 1 s at 30 m, and at 25 m too; at 15 m it is 746 ms
 abbrev whole : Tower
-whole = tower 15_000 300 909_704 818_453 1_071_429 1000
+whole = tower 15_000 300 909_704 818_453 1_071_429 1_071_429 1000
 
 abbrev third : Tower
-third = tower 5_000 300 303_235 272_818 357_143 1000
+third = tower 5_000 300 303_235 272_818 357_143 357_143 1000
 
 abbrev twoThirds : Tower
-twoThirds = tower 10_000 300 606_470 545_636 714_286 1000
+twoThirds = tower 10_000 300 606_470 545_636 714_286 714_286 1000
 
 abbrev half : Tower
-half = tower 7_500 300 454_852 409_227 535_715 1000
+half = tower 7_500 300 454_852 409_227 535_715 535_715 1000
 
-abbrev lowerHalf : Tower
-lowerHalf = tower 7_500 250 454_852 409_227 535_715 1000
+abbrev halfOf25 : Tower
+halfOf25 = tower 7_500 250 454_852 409_227 535_715 535_715 1000
+
+abbrev halfOf15 : Tower
+halfOf15 = tower 7_500 150 609_722 548_561 718_116 718_116 746
 
 abbrev underThird : Tower
-underThird = tower 4_996 300 302_992 272_600 356_858 1000
+underThird = tower 4_996 300 302_992 272_600 356_858 356_858 1000
 
 abbrev overThird : Tower
-overThird = tower 5_008 300 303_720 273_255 357_715 1000
+overThird = tower 5_008 300 303_720 273_255 357_715 357_715 1000
 
--- ---- T is 746 ms at 15 m
-abbrev lowHalf : Tower
-lowHalf = tower 7_500 150 609_722 548_561 718_116 746
+abbrev OnSite : Tower → Type 0
+OnSite t = Called site frame t
 
-abbrev IsCalled : Tower → Type 0
-IsCalled t = Called ground frame t
-
-abbrev Computed : Type 0
-Computed =
-    IsCalled whole × IsCalled third × IsCalled twoThirds × IsCalled half × IsCalled lowerHalf × IsCalled underThird × IsCalled overThird
-    × IsCalled lowHalf
-
-computed : Computed
+on-site : OnSite whole × OnSite third × OnSite twoThirds × OnSite half × OnSite halfOf25 × OnSite halfOf15 × OnSite underThird × OnSite overThird
 unfolding shearCallOf judgedShearCall judgedBuilding judgedSite judgedMapped judgedNearFault judgedClass judgedFrame judgedKind judgedPeriod
     among listed within inRange between up down largest smallest bitsFrom lowerRoot upperRoot floor ceiling approximate inUse spectrum
     exactSpectrum factor lowerFactor upperFactor ratio modified blended bent newtons shear star base figuresAt
-computed = (refl, refl, refl, refl, refl, refl, refl, refl)
+on-site = (refl, refl, refl, refl, refl, refl, refl, refl)
 
--- ---- both ends: towers ts at the period of the whole, with its weight together, and k newtons more
-abbrev Parted : List Tower → ℕ → Type 0
-Parted ts k =
-    Called ground frame whole × CalledAt ground frame (whole .figures .t) ts × (weightOf ts ≡ whole .weight) × (shearOf ts ≡ whole .figures .vd + k)
+-- ---- in zone 3; and in zone 1 with a frame that has no calculated period, where T is 281 ms at 10 m and 381 ms at 15 m
+abbrev zoneWhole : Tower
+zoneWhole = tower 15_000 300 1_522_143 1_248_292 1_714_286 1_714_286 1000
 
--- 5,000 and 10,000 kN: 357,143 + 714,286 = 1,071,429
-pub no-newton-more : Parted (third ∷ twoThirds ∷ []) 0
-no-newton-more = (computed .0, (computed .1, refl, (computed .2, refl, tt)), refl, refl)
+abbrev zoneThird : Tower
+zoneThird = tower 5_000 300 507_381 416_098 571_429 571_429 1000
 
--- 7,500 kN twice, the one tower lower by 5 m: 535,715 + 535,715 = 1,071,430
-pub one-newton-more : Parted (half ∷ lowerHalf ∷ []) 1
-one-newton-more = (computed .0, (computed .3, refl, (computed .4, refl, tt)), refl, refl)
+abbrev zoneTwoThirds : Tower
+zoneTwoThirds = tower 10_000 300 1_014_762 832_195 1_142_858 1_142_858 1000
 
--- three towers, two newtons: 356,858 + 356,858 + 357,715 = 1,071,431
-pub two-newtons-more : Parted (underThird ∷ underThird ∷ overThird ∷ []) 2
-two-newtons-more = (computed .0, (computed .5, refl, (computed .5, refl, (computed .6, refl, tt))), refl, refl)
+abbrev zoneHalf : Tower
+zoneHalf = tower 7_500 300 761_072 624_146 857_143 857_143 1000
 
--- ---- with nothing said of T neither end holds. A tower of 15 m and one of 30 m have 718,116 + 535,715 = 1,253,831 N where the whole of 30 m has
--- 1,071,429 N. In zone 1 of the Taipei Basin, R = 1.00 and no calculated period, a tower of 10 m and one of 15 m have 1,891,358 + 2,000,000 =
--- 3,891,358 N where the whole of 15 m has 4,000,000 N
+abbrev stiff : FrameValues
+stiff = record { kind = 4; calculated = 0; r = 100; i = 100; alpha = 150 }
+
+abbrev stiffWhole : Tower
+stiffWhole = tower 15_000 150 3_257_143 4_000_000 1_302_858 4_000_000 381
+
+abbrev stiffHalf : Tower
+stiffHalf = tower 7_500 150 1_628_572 2_000_000 651_429 2_000_000 381
+
+abbrev stiffHalfOf10 : Tower
+stiffHalfOf10 = tower 7_500 100 1_547_090 1_891_358 618_836 1_891_358 281
+
+abbrev InZone3 : Tower → Type 0
+InZone3 t = Called (Basin 3) frame t
+
+abbrev InZone1 : Tower → Type 0
+InZone1 t = Called (Basin 1) stiff t
+
+in-zone : (InZone3 zoneWhole × InZone3 zoneThird × InZone3 zoneTwoThirds × InZone3 zoneHalf) × (InZone1 stiffWhole × InZone1 stiffHalf × InZone1 stiffHalfOf10)
+unfolding shearCallOf judgedShearCall judgedBuilding judgedZone judgedFrame judgedKind judgedPeriod among listed within inRange up down largest
+    smallest bitsFrom lowerRoot upperRoot floor ceiling approximate inUse spectrum exactSpectrum factor lowerFactor upperFactor ratio modified
+    blended bent newtons shear star base figuresAt
+in-zone = ((refl, refl, refl, refl), (refl, refl, refl))
+
+-- ---- both ends: w and towers ts, called at the T of w, with the weight of w together and k newtons more
+abbrev Split : GroundValues → Tower → List Tower → ℕ → Type 0
+Split s w ts k = Called s frame w × CalledAt s frame (w .figures .t) ts × (weightOf ts ≡ w .weight) × (baseOf ts ≡ w .figures .vd + k)
+
+-- 5,000 and 10,000 kN: 357,143 + 714,286 = 1,071,429 N
+pub no-newton-more : Split site whole (third ∷ twoThirds ∷ []) 0
+no-newton-more = (on-site .0, (on-site .1, refl, (on-site .2, refl, tt)), refl, refl)
+
+-- 7,500 kN twice, the one tower lower by 5 m: 535,715 + 535,715 = 1,071,430 N
+pub one-newton-more : Split site whole (half ∷ halfOf25 ∷ []) 1
+one-newton-more = (on-site .0, (on-site .3, refl, (on-site .4, refl, tt)), refl, refl)
+
+-- three towers: 356,858 + 356,858 + 357,715 = 1,071,431 N
+pub two-newtons-more : Split site whole (underThird ∷ underThird ∷ overThird ∷ []) 2
+two-newtons-more = (on-site .0, (on-site .6, refl, (on-site .6, refl, (on-site .7, refl, tt))), refl, refl)
+
+-- 7,500 kN twice: 857,143 + 857,143 = 1,714,286 N
+pub no-newton-more-in-basin : Split (Basin 3) zoneWhole (zoneHalf ∷ zoneHalf ∷ []) 0
+no-newton-more-in-basin = let c = in-zone .0 in (c .0, (c .3, refl, (c .3, refl, tt)), refl, refl)
+
+-- 5,000 and 10,000 kN: 571,429 + 1,142,858 = 1,714,287 N
+pub one-newton-more-in-basin : Split (Basin 3) zoneWhole (zoneThird ∷ zoneTwoThirds ∷ []) 1
+one-newton-more-in-basin = let c = in-zone .0 in (c .0, (c .1, refl, (c .2, refl, tt)), refl, refl)
+
+-- ---- with nothing said of T neither end holds
 abbrev AtAnyPeriod : (ℕ → ℕ → ℕ → Type 0) → Type 0
 AtAnyPeriod P =
     (s : GroundValues) (f : FrameValues) (W₁ W₂ h₁ h₂ h : ℕ) (n₁ n₂ n : Figures)
     → Sheared s f W₁ h₁ (Taken n₁) → Sheared s f W₂ h₂ (Taken n₂) → Sheared s f (W₁ + W₂) h (Taken n)
     → P (n₁ .vd) (n₂ .vd) (n .vd)
 
+-- 15 m and 30 m: 718,116 + 535,715 = 1,253,831 N, and the whole has 1,071,429 N at 30 m
 pub sum-at-any-period-false : AtAnyPeriod (λ (v₁ v₂ v : ℕ). v₁ + v₂ ≤ v + 1) → ⊥
 sum-at-any-period-false p =
-    let h =
-    p ground frame 7_500 7_500 150 300 300 (lowHalf .figures) (half .figures) (whole .figures) (computed .7) (computed .3) (computed .0) in
+    let h = p site frame 7_500 7_500 150 300 300 (halfOf15 .figures) (half .figures) (whole .figures) (on-site .5) (on-site .3) (on-site .0) in
     omega (arith, h)
 
-abbrev stiff : FrameValues
-stiff = record { kind = 4; calculated = 0; r = 100; i = 100; alpha = 150 }
-
-abbrev Stiff : ℕ → ℕ → Figures → Type 0
-Stiff W h n = Sheared (Basin 1) stiff W h (Taken n)
-
-abbrev shortest : Figures
-shortest = record { v = 1_547_090; vm = 1_891_358; star = 618_836; vd = 1_891_358; t = 281 }
-
-abbrev short : Figures
-short = record { v = 1_628_572; vm = 2_000_000; star = 651_429; vd = 2_000_000; t = 381 }
-
-abbrev both : Figures
-both = record { v = 3_257_143; vm = 4_000_000; star = 1_302_858; vd = 4_000_000; t = 381 }
-
-stiff-computed : Stiff 7_500 100 shortest × Stiff 7_500 150 short × Stiff 15_000 150 both
-unfolding shearCallOf judgedShearCall judgedBuilding judgedZone judgedFrame judgedKind judgedPeriod among listed within inRange up down largest
-    smallest bitsFrom lowerRoot upperRoot floor ceiling approximate inUse spectrum exactSpectrum factor lowerFactor upperFactor ratio modified
-    blended bent newtons shear star base figuresAt
-stiff-computed = (refl, refl, refl)
-
+-- 10 m and 15 m: 1,891,358 + 2,000,000 = 3,891,358 N, and the whole has 4,000,000 N at 15 m
 pub whole-at-any-period-false : AtAnyPeriod (λ (v₁ v₂ v : ℕ). v ≤ v₁ + v₂) → ⊥
 whole-at-any-period-false p =
-    let c = stiff-computed in
-    let h = p (Basin 1) stiff 7_500 7_500 100 150 150 shortest short both (c .0) (c .1) (c .2) in
+    let c = in-zone .1 in
+    let h = p (Basin 1) stiff 7_500 7_500 100 150 150 (stiffHalfOf10 .figures) (stiffHalf .figures) (stiffWhole .figures) (c .2) (c .1) (c .0) in
     omega (arith, h)

@@ -1,9 +1,9 @@
 -- Towers on one podium: shear calls of one ground s and one frame f that were answered with figures, and whose period in use is the same.
 --   Tower              one of them: a total weight in kN, a top height in dm, the figures that were answered
---   Called s f t       t is what the shear call answers
---   CalledAt s f T ts  so is each of ts, and T is the period in use of each
+--   Called s f t       its figures are what the shear call answers to its weight and height
+--   CalledAt s f T ts  so it is of each of ts, and T is the period in use of each
 --   weightOf ts        their total weights, added
---   shearOf ts         their V_D, added
+--   baseOf ts          their V_D, added
 use mathlib.Core.Path.{_≡_}
 use mathlib.Core.List.{List, [], _∷_}
 use Prim.Native.Nat.{ℕ, _+_}
@@ -29,6 +29,6 @@ abbrev pub weightOf : List Tower → ℕ
 weightOf [] = 0
 weightOf (t ∷ ts) = t .weight + weightOf ts
 
-abbrev pub shearOf : List Tower → ℕ
-shearOf [] = 0
-shearOf (t ∷ ts) = t .figures .vd + shearOf ts
+abbrev pub baseOf : List Tower → ℕ
+baseOf [] = 0
+baseOf (t ∷ ts) = t .figures .vd + baseOf ts

@@ -2,14 +2,14 @@
 -- lower root and lower factor to at least that; so the newtons come to no more.
 -- Assumes nothing.
 use Prim.Native.Nat.{ℕ, _*_, _^_, _≤_, _<_}
-use native.Mathlib.Nat.{lt-of-le-of-lt, lt-of-lt-of-le, mul-le-mul, mul-le-mul-left, mul-le-mul-right, mul-pos, le-of-mul-le-mul-right}
+use native.Mathlib.Nat.{lt-of-le-of-lt, lt-of-lt-of-le, mul-le-mul, mul-le-mul-left, mul-le-mul-right, mul-pos}
 use native.Mathlib.Omega.{arith}
 use Rattle.whole.specs.declared.Fraction.{Fraction}
 use Rattle.whole.specs.Fraction.{over, AtMost, upIn, downIn}
 use Rattle.whole.specs.Root.{lowerRoot, upperRoot}
-use Rattle.whole.specs.Rounding.{up, down}
+use Rattle.whole.specs.Rounding.{up}
 use Rattle.whole.proofs.Root.{lower-root-is, upper-root-is, unit-most}
-use Rattle.whole.proofs.Rounding.{up-law, up-most, down-law, down-is}
+use Rattle.whole.proofs.Rounding.{up-at-most-times, down-is, down-at-least-times}
 use Rattle.limits.specs.declared.frame.Frame.{Frame}
 use Rattle.site.specs.declared.lines.Lines.{Lines}
 use Rattle.response.specs.Factor.{lowerFactor, upperFactor}
@@ -22,18 +22,6 @@ use Rattle.response.proofs.Exact.{mean-rises}
 use Rattle.response.proofs.Mean.{mean, weights}
 use Rattle.response.proofs.Most.{spectrum-positive, mean-least}
 use Rattle.base_shear.specs.Shears.{newtons}
-
--- ---- n′/d′, rounded, beside e times n/d, rounded
-module _ (e n d n′ d′ : ℕ) (p : 0 < d) (p′ : 0 < d′) where
-  up-at-most-times : n′ * d ≤ e * (n * d′) → up n′ d′ ≤ e * up n d
-  up-at-most-times h =
-      up-most n′ d′ (e * up n d) p′
-      (le-of-mul-le-mul-right {k = d} (omega (arith, h, mul-le-mul-right (e * d′) (up-law n d p .0))) p)
-
-  down-at-least-times : e * (n * d′) ≤ n′ * d → e * down n d ≤ down n′ d′
-  down-at-least-times h =
-      down-is n′ d′ p′ .largest (e * down n d)
-      (le-of-mul-le-mul-right {k = d} (omega (arith, h, mul-le-mul-right (e * d′) (down-law n d p .0))) p)
 
 -- ---- a fraction x in s-ths beside a fraction x′ in (e·s)-ths
 module _ (e s : ℕ) (x x′ : Fraction) (p : 0 < x .den) (p′ : 0 < x′ .den) where
