@@ -78,19 +78,27 @@ def rounding_table(office):
 def period_table(office):
     """Two towers of different T, and the whole with the larger height: a sum that is above, and one that is below."""
     rows = []
-    for (ground, frame), heights, side in (((office.ground, office.frame), (LOW, office.heights[-1]), 'above'), (RISING, RISING_HEIGHTS, 'below')):
-        parts, whole = ([calls.shear_call(ground, frame, HALF, height) for height in heights], calls.shear_call(ground, frame, 2 * HALF, max(heights)))
+    for given, heights, side in (((office.ground, office.frame), (LOW, office.heights[-1]), 'above'), (RISING, RISING_HEIGHTS, 'below')):
+        parts, whole = [calls.shear_call(*given, HALF, height) for height in heights], calls.shear_call(*given, 2 * HALF, max(heights))
         shears = [each.V_D for each in parts]
         assert parts[0].T < parts[1].T == whole.T and not towers.holds(whole.V_D, shears)
         assert side == ('above' if sum(shears) > whole.V_D else 'below')
-        rows.append((', '.join(f'{comma(HALF)} kN at {metres(each.h)} m: {comma(each.T)} ms' for each in parts), f'{plus(shears)} = {comma(sum(shears))}',
-                     f'{comma(whole.W)} kN at {metres(whole.h)} m: {comma(whole.T)} ms', comma(whole.V_D), f'{comma(abs(sum(shears) - whole.V_D))} {side}'))
+        *towers_said, whole_said = (f'{comma(each.W)} kN at {metres(each.h)} m: {comma(each.T)} ms' for each in (*parts, whole))
+        rows.append((', '.join(towers_said), f'{plus(shears)} = {comma(sum(shears))}', whole_said, comma(whole.V_D),
+                     f'{comma(abs(sum(shears) - whole.V_D))} {side}'))
     return table(('towers and T', 'V_D, N', 'the whole and T', 'V_D, N', 'the sum is, N'), rows)
 
 
 def limit_of(office, height):
     """14*t/10 of a height, in ms."""
     return floor(Fraction(14 * response.approximate_period(office.frame.kind, height), 10))
+
+
+def assert_T_entered(office):
+    """Where calculated periods are cut to one T, T entered as the calculated period leaves T and V_D as they are."""
+    W, h, T = office.W, office.heights[-1], limit_of(office, office.heights[-1])
+    cut = [calls.shear_call(office.ground, office.frame._replace(calculated_period=period), W, h) for period in (T, T + 1, 2 * T)]
+    assert {each.T for each in cut} == {T} and len({each.V_D for each in cut}) == 1
 
 
 def podium_lines(office):
@@ -114,11 +122,11 @@ def names(data):
     assert high == office.heights[-1] and min(limit_of(office, lower), limit_of(office, high)) >= frame.calculated_period
     assert SPLITS[1][0] == (HALF, HALF) and 2 * added(half) - added(base) == 1
     assert [more(*split(office, *each)) for each in SPLITS] == [0, 1, 2] and all(sum(weights) == office.W for weights, _ in SPLITS)
-    cut = [called(office._replace(frame=frame._replace(calculated_period=each)), office.W, office.heights[-1]) for each in (1_300, 1_500, limit_of(office, high))]
-    assert len({(each.V_D, each.T) for each in cut}) == 1 and cut[0].T == limit_of(office, high)
+    assert_T_entered(office)
     basin = office._replace(ground=limits.Basin(ZONE))
     return {'W': comma(base.W), 'h_m': metres(base.h), 'T': comma(base.T), 'total_weight': ranged(limits.TOTAL_WEIGHT),
-            'share_steps': f'I · p / ({comma(STAR)} · alpha-y) = {frame.I} · {comma(base.p)} / ({comma(STAR)} · {frame.alphay}) = {share} = {decimal(share, 6)}',
+            'share_steps': f'I · p / ({comma(STAR)} · alpha-y) = {frame.I} · {comma(base.p)} / ({comma(STAR)} · {frame.alphay}) = {share} = '
+                           f'{decimal(share, 6)}',
             'rounding_table': rounding_table(office), 'half': comma(HALF), 'half_added': f'{decimal(added(half))} + {decimal(added(half))}',
             'half_sum': decimal(2 * added(half)), 'whole_added': decimal(added(base)), 'splits_table': splits_table(office, SPLITS),
             'zone': str(ZONE), 'zone_share': str(towers.share(called(basin, base.W, base.h))), 'zone_table': splits_table(basin, SPLITS),
