@@ -1,6 +1,6 @@
 """Strata of towers on one podium (Wish 8), every number within its range, all at one period in use: name -> what draws them.
 
-Heights differ where T is the calculated period for all of them; else all are the same. Weights are drawn by what V_D comes to before it is
+Heights may differ where T is the calculated period for all of them; else all are the same. Weights are drawn by what V_D comes to before it is
 rounded, the share of W, as well as by their size.
 """
 
@@ -123,7 +123,7 @@ def whole_together(rng, share):
 
 
 def looked_for(rng, share, most, rank):
-    """Of many weights that do not come to whole newtons the one whose part behind the point ranks lowest."""
+    """Of many weights that do not come to whole newtons the one whose part behind the point ranks lowest; any where all come to whole newtons."""
     weights = [up_to(rng, most) for _ in range(TRIED)]
     return min((weight for weight in weights if part(share, weight)), key=lambda weight: rank(part(share, weight)), default=weights[0])
 
@@ -133,12 +133,11 @@ RANKS = {'just above whole newtons': lambda part: part, 'just below whole newton
 
 
 def ranked(rng, share, rank):
-    """Two weights that rank lowest, of a million kN each a half at the most."""
+    """Two weights that rank lowest, each of at most 500,000 kN."""
     return [looked_for(rng, share, MOST // 2, rank) for _ in range(2)]
 
 
 WEIGHTS = {
-    'any weights': any_two,
     **{f'weights {name}': functools.partial(sized, size=size) for name, size in (('of any size', of_any_size), ('uniform', uniform))},
     'equal weights': equal, '1 kN and any': with_one_kn, '1,000,000 kN together': as_heavy_as_can_be,
     '1 kN twice': functools.partial(given, weights=(1, 1)), '1 and 999,999 kN': functools.partial(given, weights=(1, MOST - 1)),

@@ -14,6 +14,7 @@ from typing import NamedTuple
 
 from tests.draws import call_faults, calls as drawn, faults
 from tests.model import calls, limits
+from tests.writes.towers import SPLITS
 
 HERE = pathlib.Path(__file__).resolve().parents[2] / 'crates' / 'run_calls'
 LISTED, MOST_BYTES = 60, 65_000
@@ -78,10 +79,10 @@ WORKED = Shear(SITE, (2, 1000, 480, 100, 150), 15_000, 300)
 OVER = Distribution(1_071_429, 1_000, [5000] * 3, [100, 200, 300], (3, 3, 3))
 UNEVEN = OVER._replace(weights=[900, 1, 20_000, 44], heights=[1, 2, 1_999, 2_000], buffers=(4, 5, 6))
 SMALL = OVER._replace(weights=[7, 5, 3], heights=[10, 23, 31], buffers=(5, 3, 4))
-# weights and heights of towers: no newton more, one newton, two newtons on the worked sheet's site; the ends of the weight
-TOWERS = (((5_000, 10_000), (300, 300)), ((7_500, 7_500), (250, 300)), ((4_996, 4_996, 5_008), (300, 300, 300)), ((1, 1), (300, 2_000)),
-          ((1, 999_999), (2_000, 300)), ((500_000, 500_000), (300, 300)))
 AT_THE_TOP = OVER._replace(weights=[20_000] * 50, heights=list(range(1_951, 2_001)), buffers=(50, 50, 50))
+
+# weights and heights of towers: those of the manual, with none, one and two newtons more on the worked sheet's site; the ends of the weight
+TOWERS = (*SPLITS, ((1, 1), (300, 2_000)), ((1, 999_999), (2_000, 300)), ((500_000, 500_000), (300, 300)))
 
 
 def tower(count):
@@ -212,7 +213,7 @@ def drawn_cases():
 
 
 def tower_cases():
-    """Wish 8: towers, each followed by all their weight, on a site, with two pairs and in the Basin; heights that differ; another period."""
+    """Wish 8: the towers of a building, then all their weight, on a site, with two pairs and in the Basin; heights that differ; another T."""
     for ground in (SITE, NEAR, limits.Basin(1), limits.Basin(3)):
         for weights, heights in TOWERS:
             calls_of = [*zip(weights, heights), (sum(weights), heights[-1])]

@@ -131,6 +131,6 @@ def names(data):
             'half_sum': decimal(2 * added(half)), 'whole_added': decimal(added(base)), 'splits_table': splits_table(office, SPLITS),
             'zone': str(ZONE), 'zone_share': str(towers.share(called(basin, base.W, base.h))), 'zone_table': splits_table(basin, SPLITS),
             'lower_m': metres(lower), 'lower_limit': comma(limit_of(office, lower)), 'limit': comma(limit_of(office, high)),
-            'low_zone': str(RISING[0].zone), 'low_kind': str(RISING[1].kind), 'low_R': hundredths(RISING[1].R), 'low_I': hundredths(RISING[1].I),
-            'low_alphay': hundredths(RISING[1].alphay), 'period_table': period_table(office), 'most_weight': comma(limits.TOTAL_WEIGHT[-1]),
+            'rising_zone': str(RISING[0].zone), 'rising_kind': str(RISING[1].kind), 'rising_R': hundredths(RISING[1].R), 'rising_I': hundredths(RISING[1].I),
+            'rising_alphay': hundredths(RISING[1].alphay), 'period_table': period_table(office), 'most_weight': comma(limits.TOTAL_WEIGHT[-1]),
             'printed': code(podium_lines(office))}
