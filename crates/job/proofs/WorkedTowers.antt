@@ -43,48 +43,42 @@ tower W h v vm star vd t = record { weight = W; height = h; figures = record { v
 abbrev whole : Tower
 whole = tower 15_000 300 909_704 818_453 1_071_429 1_071_429 1000
 
-abbrev third : Tower
-third = tower 5_000 300 303_235 272_818 357_143 357_143 1000
-
-abbrev twoThirds : Tower
-twoThirds = tower 10_000 300 606_470 545_636 714_286 714_286 1000
-
 abbrev half : Tower
 half = tower 7_500 300 454_852 409_227 535_715 535_715 1000
-
-abbrev halfOf25 : Tower
-halfOf25 = tower 7_500 250 454_852 409_227 535_715 535_715 1000
 
 abbrev halfOf15 : Tower
 halfOf15 = tower 7_500 150 609_722 548_561 718_116 718_116 746
 
+-- 5,000 and 10,000 kN; 7,500 kN twice, the one tower lower by 5 m; 4,996 kN twice and 5,008 kN
+abbrev thirds : List Tower
+thirds = tower 5_000 300 303_235 272_818 357_143 357_143 1000 ∷ tower 10_000 300 606_470 545_636 714_286 714_286 1000 ∷ []
+
+abbrev halves : List Tower
+halves = half ∷ tower 7_500 250 454_852 409_227 535_715 535_715 1000 ∷ []
+
 abbrev underThird : Tower
 underThird = tower 4_996 300 302_992 272_600 356_858 356_858 1000
 
-abbrev overThird : Tower
-overThird = tower 5_008 300 303_720 273_255 357_715 357_715 1000
+abbrev three : List Tower
+three = underThird ∷ underThird ∷ tower 5_008 300 303_720 273_255 357_715 357_715 1000 ∷ []
 
-abbrev OnSite : Tower → Type 0
-OnSite t = Called site frame t
-
-on-site : OnSite whole × OnSite third × OnSite twoThirds × OnSite half × OnSite halfOf25 × OnSite halfOf15 × OnSite underThird × OnSite overThird
+on-site : Called site frame whole × Called site frame halfOf15
+    × CalledAt site frame 1000 thirds × CalledAt site frame 1000 halves × CalledAt site frame 1000 three
 unfolding shearCallOf judgedShearCall judgedBuilding judgedSite judgedMapped judgedNearFault judgedClass judgedFrame judgedKind judgedPeriod
     among listed within inRange between up down largest smallest bitsFrom lowerRoot upperRoot floor ceiling approximate inUse spectrum
     exactSpectrum factor lowerFactor upperFactor ratio modified blended bent newtons shear star base figuresAt
-on-site = (refl, refl, refl, refl, refl, refl, refl, refl)
+on-site =
+    (refl, refl, (refl, refl, (refl, refl, tt)), (refl, refl, (refl, refl, tt)), (refl, refl, (refl, refl, (refl, refl, tt))))
 
 -- ---- in zone 3; and in zone 1 with a frame that has no calculated period, where T is 281 ms at 10 m and 381 ms at 15 m
 abbrev zoneWhole : Tower
 zoneWhole = tower 15_000 300 1_522_143 1_248_292 1_714_286 1_714_286 1000
 
-abbrev zoneThird : Tower
-zoneThird = tower 5_000 300 507_381 416_098 571_429 571_429 1000
-
-abbrev zoneTwoThirds : Tower
-zoneTwoThirds = tower 10_000 300 1_014_762 832_195 1_142_858 1_142_858 1000
-
 abbrev zoneHalf : Tower
 zoneHalf = tower 7_500 300 761_072 624_146 857_143 857_143 1000
+
+abbrev zoneThirds : List Tower
+zoneThirds = tower 5_000 300 507_381 416_098 571_429 571_429 1000 ∷ tower 10_000 300 1_014_762 832_195 1_142_858 1_142_858 1000 ∷ []
 
 abbrev stiff : FrameValues
 stiff = record { kind = 4; calculated = 0; r = 100; i = 100; alpha = 150 }
@@ -98,41 +92,36 @@ stiffHalf = tower 7_500 150 1_628_572 2_000_000 651_429 2_000_000 381
 abbrev stiffHalfOf10 : Tower
 stiffHalfOf10 = tower 7_500 100 1_547_090 1_891_358 618_836 1_891_358 281
 
-abbrev InZone3 : Tower → Type 0
-InZone3 t = Called (Basin 3) frame t
-
-abbrev InZone1 : Tower → Type 0
-InZone1 t = Called (Basin 1) stiff t
-
-in-zone : (InZone3 zoneWhole × InZone3 zoneThird × InZone3 zoneTwoThirds × InZone3 zoneHalf) × (InZone1 stiffWhole × InZone1 stiffHalf × InZone1 stiffHalfOf10)
+in-basin : Called (Basin 3) frame zoneWhole × Called (Basin 3) frame zoneHalf × CalledAt (Basin 3) frame 1000 zoneThirds
+    × Called (Basin 1) stiff stiffWhole × Called (Basin 1) stiff stiffHalf × Called (Basin 1) stiff stiffHalfOf10
 unfolding shearCallOf judgedShearCall judgedBuilding judgedZone judgedFrame judgedKind judgedPeriod among listed within inRange up down largest
     smallest bitsFrom lowerRoot upperRoot floor ceiling approximate inUse spectrum exactSpectrum factor lowerFactor upperFactor ratio modified
     blended bent newtons shear star base figuresAt
-in-zone = ((refl, refl, refl, refl), (refl, refl, refl))
+in-basin = (refl, refl, (refl, refl, (refl, refl, tt)), refl, refl, refl)
 
 -- ---- both ends: w and towers ts, called at the T of w, with the weight of w together and k newtons more
 abbrev Split : GroundValues → Tower → List Tower → ℕ → Type 0
 Split s w ts k = Called s frame w × CalledAt s frame (w .figures .t) ts × (weightOf ts ≡ w .weight) × (baseOf ts ≡ w .figures .vd + k)
 
--- 5,000 and 10,000 kN: 357,143 + 714,286 = 1,071,429 N
-pub no-newton-more : Split site whole (third ∷ twoThirds ∷ []) 0
-no-newton-more = (on-site .0, (on-site .1, refl, (on-site .2, refl, tt)), refl, refl)
+-- 357,143 + 714,286 = 1,071,429 N
+pub no-newton-more : Split site whole thirds 0
+no-newton-more = (on-site .0, on-site .2, refl, refl)
 
--- 7,500 kN twice, the one tower lower by 5 m: 535,715 + 535,715 = 1,071,430 N
-pub one-newton-more : Split site whole (half ∷ halfOf25 ∷ []) 1
-one-newton-more = (on-site .0, (on-site .3, refl, (on-site .4, refl, tt)), refl, refl)
+-- 535,715 + 535,715 = 1,071,430 N
+pub one-newton-more : Split site whole halves 1
+one-newton-more = (on-site .0, on-site .3, refl, refl)
 
--- three towers: 356,858 + 356,858 + 357,715 = 1,071,431 N
-pub two-newtons-more : Split site whole (underThird ∷ underThird ∷ overThird ∷ []) 2
-two-newtons-more = (on-site .0, (on-site .6, refl, (on-site .6, refl, (on-site .7, refl, tt))), refl, refl)
+-- 356,858 + 356,858 + 357,715 = 1,071,431 N
+pub two-newtons-more : Split site whole three 2
+two-newtons-more = (on-site .0, on-site .4, refl, refl)
 
--- 7,500 kN twice: 857,143 + 857,143 = 1,714,286 N
+-- 857,143 + 857,143 = 1,714,286 N
 pub no-newton-more-in-basin : Split (Basin 3) zoneWhole (zoneHalf ∷ zoneHalf ∷ []) 0
-no-newton-more-in-basin = let c = in-zone .0 in (c .0, (c .3, refl, (c .3, refl, tt)), refl, refl)
+no-newton-more-in-basin = (in-basin .0, (in-basin .1, refl, (in-basin .1, refl, tt)), refl, refl)
 
--- 5,000 and 10,000 kN: 571,429 + 1,142,858 = 1,714,287 N
-pub one-newton-more-in-basin : Split (Basin 3) zoneWhole (zoneThird ∷ zoneTwoThirds ∷ []) 1
-one-newton-more-in-basin = let c = in-zone .0 in (c .0, (c .1, refl, (c .2, refl, tt)), refl, refl)
+-- 571,429 + 1,142,858 = 1,714,287 N
+pub one-newton-more-in-basin : Split (Basin 3) zoneWhole zoneThirds 1
+one-newton-more-in-basin = (in-basin .0, in-basin .2, refl, refl)
 
 -- ---- with nothing said of T neither end holds
 abbrev AtAnyPeriod : (ℕ → ℕ → ℕ → Type 0) → Type 0
@@ -144,12 +133,12 @@ AtAnyPeriod P =
 -- 15 m and 30 m: 718,116 + 535,715 = 1,253,831 N, and the whole has 1,071,429 N at 30 m
 pub sum-at-any-period-false : AtAnyPeriod (λ (v₁ v₂ v : ℕ). v₁ + v₂ ≤ v + 1) → ⊥
 sum-at-any-period-false p =
-    let h = p site frame 7_500 7_500 150 300 300 (halfOf15 .figures) (half .figures) (whole .figures) (on-site .5) (on-site .3) (on-site .0) in
+    let h = p site frame 7_500 7_500 150 300 300 (halfOf15 .figures) (half .figures) (whole .figures) (on-site .1) (on-site .3 .0) (on-site .0) in
     omega (arith, h)
 
 -- 10 m and 15 m: 1,891,358 + 2,000,000 = 3,891,358 N, and the whole has 4,000,000 N at 15 m
 pub whole-at-any-period-false : AtAnyPeriod (λ (v₁ v₂ v : ℕ). v ≤ v₁ + v₂) → ⊥
 whole-at-any-period-false p =
-    let c = in-zone .1 in
-    let h = p (Basin 1) stiff 7_500 7_500 100 150 150 (stiffHalfOf10 .figures) (stiffHalf .figures) (stiffWhole .figures) (c .2) (c .1) (c .0) in
+    let c = in-basin in
+    let h = p (Basin 1) stiff 7_500 7_500 100 150 150 (stiffHalfOf10 .figures) (stiffHalf .figures) (stiffWhole .figures) (c .5) (c .4) (c .3) in
     omega (arith, h)
