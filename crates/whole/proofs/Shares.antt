@@ -1,4 +1,4 @@
--- Shares of whole numbers: c·n rounded up, which is `upIn n c`. The larger of two shares of a number is the share of the larger fraction. The share of
+-- Shares of whole numbers: c·n rounded up, which is `upIn n c`. A larger fraction has no smaller share, rounded up or down. The larger of two shares of a number is the share of the larger fraction. The share of
 -- a sum is at most the sum of the shares, and that is at most one more.
 -- Assumes nothing.
 use mathlib.Core.Path.{_≡_}
@@ -6,13 +6,18 @@ use Prim.Native.Nat.{ℕ, _+_, _*_, max, _≤_, _<_}
 use native.Mathlib.Nat.{max-eq-left, max-eq-right, mul-le-mul-left, lt-of-mul-lt-mul-left}
 use native.Mathlib.Omega.{arith}
 use Rattle.whole.specs.declared.Fraction.{Fraction}
-use Rattle.whole.specs.Fraction.{AtMost, larger, upIn}
+use Rattle.whole.specs.Fraction.{AtMost, larger, upIn, downIn}
 use Rattle.whole.proofs.Choice.{by-leb}
-use Rattle.whole.proofs.Rounding.{up-law, up-most, up-at-most-times}
+use Rattle.whole.proofs.Rounding.{up-law, up-most, up-at-most-times, down-at-least-times}
 
-share-rises : (c e : Fraction) (n : ℕ) → 0 < c .den → 0 < e .den → AtMost c e → upIn n c ≤ upIn n e
+pub share-rises : (c e : Fraction) (n : ℕ) → 0 < c .den → 0 < e .den → AtMost c e → upIn n c ≤ upIn n e
 share-rises c e n pc pe h =
     let once = up-at-most-times 1 (n * e .num) (e .den) (n * c .num) (c .den) pe pc (omega (arith, mul-le-mul-left n h)) in
+    omega (arith, once)
+
+pub share-down-rises : (c e : Fraction) (n : ℕ) → 0 < c .den → 0 < e .den → AtMost c e → downIn n c ≤ downIn n e
+share-down-rises c e n pc pe h =
+    let once = down-at-least-times 1 (n * c .num) (c .den) (n * e .num) (e .den) pc pe (omega (arith, mul-le-mul-left n h)) in
     omega (arith, once)
 
 pub share-of-larger : (c e : Fraction) (n : ℕ) → 0 < c .den → 0 < e .den → max (upIn n c) (upIn n e) ≡ upIn n (larger c e)
