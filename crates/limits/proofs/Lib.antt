@@ -6,6 +6,7 @@ pub mod Unique
 pub mod Accepted
 pub mod Built
 pub mod AcceptedCalls
+pub mod GivenIs
 pub mod Reading
 pub mod GivenApplies
 pub mod Precedence
