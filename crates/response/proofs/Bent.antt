@@ -75,6 +75,18 @@ module _ (l : Lines) (m : Meeting l) where
   pub bent-within : (x y : ℕ) → bent l x y ≤ 1000 * x
   bent-within x y = rw (bent-is x y) (omega arith)
 
+  -- by the first line alone, up to where it ends
+  pub bent-first : (x y : ℕ) → 1000 * x ≤ l .first * y → bent l x y ≡ 1000 * x
+  unfolding bent
+  bent-first x y h =
+      by-leb (λ (z : ℕ). z ≡ 1000 * x) (1000 * x) (l .first * y) _ _ (λ _. refl) (λ k. absurd (omega arith))
+
+  -- and from there on it is no lower than at the end of that line
+  pub bent-past-first : (x y : ℕ) → l .first * y ≤ 1000 * x → l .first * y ≤ bent l x y
+  bent-past-first x y h =
+      let met : (l .slope * l .first + 1000 * l .add) * y ≡ 1000 * l .first * y = ap (λ (z : ℕ). z * y) (m .meet-first) in
+      rw (bent-is x y) (omega (arith, met, mul-le-mul-left (l .slope) h))
+
   pub bent-some : (x y : ℕ) → 0 < x → 0 < bent l x y
   bent-some x y p = rw (bent-is x y) (omega (arith, p, mul-pos (m .rising) p))
 

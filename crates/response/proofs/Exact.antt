@@ -27,6 +27,14 @@ mean-rises w r r′ c h =
     shared : (n n′ t p p′ d : ℕ) → n * p′ ≤ n′ * p → n * (t * (p′ * d)) ≤ n′ * (t * (p * d))
     shared n n′ t p p′ d k = omega (arith, mul-le-mul-right (t * d) k)
 
+-- and so does a larger capacity
+pub mean-rises-with-capacity : (w : Weights) (r c c′ : Fraction) → AtMost c c′ → AtMost (mean w r c) (mean w r c′)
+mean-rises-with-capacity w r c c′ h =
+    shared _ _ (total w) (r .den) (c .den) (c′ .den) (omega (arith, mul-le-mul-right (w .cap * r .den) h))
+  where
+    shared : (n n′ t p d d′ : ℕ) → n * d′ ≤ n′ * d → n * (t * (p * d′)) ≤ n′ * (t * (p * d))
+    shared n n′ t p d d′ k = omega (arith, mul-le-mul-right (t * p) k)
+
 module _ (A B T : ℕ) (c : Fraction) (pa : 0 < A) (pb : 0 < B) (pc : 0 < c .den) where
   mean-positive : (r : Fraction) → 0 < r .den → 0 < mean (weights A B T) r c .den
   mean-positive r pr = mul-pos (weights-positive A B T pb) (mul-pos pr pc)

@@ -9,5 +9,7 @@ pub mod Reached
 pub mod Most
 pub mod Bent
 pub mod Exact
+pub mod Ductility
+pub mod LargerGround
 pub mod Least
 pub mod ZoneSpectra
