@@ -3,6 +3,7 @@ pub mod HazardsReached
 pub mod SiteReached
 pub mod BasinReached
 pub mod GroundReached
+pub mod GroundMoves
 pub mod GivenReached
 pub mod Stages
 pub mod Unique
@@ -10,12 +11,14 @@ pub mod Columns
 pub mod Sheared
 pub mod ShearedRefusing
 pub mod Towers
+pub mod Moves
 pub mod Distributed
 pub mod DistributedRefusing
 pub mod Answered
 pub mod FigureBounds
 pub mod Refusing
 pub mod InTurn
+pub mod JobMoves
 pub mod Independent
 pub mod Calls
 pub mod Storeys
@@ -26,6 +29,7 @@ pub mod Worked
 pub mod WorkedBasin
 pub mod WorkedNearFault
 pub mod WorkedTowers
+pub mod WorkedMoves
 pub mod JobNumbers
 pub mod SharpMargin
 pub mod SharpHanded

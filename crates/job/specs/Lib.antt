@@ -3,3 +3,4 @@ pub mod Distribution
 pub mod Job
 pub mod InTurn
 pub mod Towers
+pub mod Moves

@@ -1,0 +1,176 @@
+-- Which way the figures of the shear call move, on one ground, a site or a zone of the Taipei Basin, at one period in use. The premises are that both calls
+-- were answered with figures, that T is the same, and the change. Kind, calculated period and height may differ: T is all that they do.
+-- Assumes nothing.
+use mathlib.Core.Path.{_≡_, sym, ap, subst, subst₂, _∙_}
+use Prim.Native.Nat.{ℕ, _≤_, _<_}
+use native.Mathlib.Nat.{le-trans}
+use native.Mathlib.Omega.{arith}
+use Rattle.limits.specs.declared.frame.Frame.{Frame}
+use Rattle.limits.specs.declared.frame.FrameValues.{FrameValues}
+use Rattle.limits.specs.declared.ground.Ground.{Ground}
+use Rattle.limits.specs.declared.ground.GroundValues.{GroundValues}
+use Rattle.limits.specs.declared.judging.Given.{Given}
+use Rattle.limits.specs.Allowed.{AllowedShearCall}
+use Rattle.limits.proofs.AcceptedCalls.{shear-call-allowed}
+use Rattle.limits.proofs.GivenIs.{GivenIs, given-is}
+use Rattle.limits.proofs.Passed.{one-value}
+use Rattle.site.specs.Ground.{groundHazards}
+use Rattle.site.specs.declared.hazard.Hazards.{Hazards}
+use Rattle.response.specs.Period.{periodMost}
+use Rattle.response.specs.Unit.{unit}
+use Rattle.base_shear.specs.declared.Figures.{Figures}
+use Rattle.base_shear.specs.Moves.{NoLighter}
+use Rattle.base_shear.specs.Ready.{Reached}
+use Rattle.base_shear.specs.Shears.{shear, star, base, figuresAt}
+use Rattle.base_shear.proofs.Behind.{Behind}
+use Rattle.base_shear.proofs.Moves.{shear-never-lower, star-never-lower, base-never-lower, shear-never-higher, star-never-falls}
+use Rattle.base_shear.proofs.NeverRises.{base-never-rises}
+use Rattle.job.specs.declared.FiguresAnswer.the-variants.{Taken}
+use Rattle.job.specs.Moves.{NoneLower, AsRGrows}
+use Rattle.job.specs.ShearCall.{givenHazards, buildingFigures, Sheared}
+use Rattle.job.proofs.GivenReached.{given-reached, given-between}
+use Rattle.job.proofs.GroundMoves.{ground-more-ductile, ground-behind}
+use Rattle.job.proofs.Sheared.{taken-accepted}
+
+-- ---- an answered call: what was given, and its figures at its own T
+record Answered (s : GroundValues) (f : FrameValues) (W : ℕ) (n : Figures) : Type 0 where
+  given : Given
+  is : GivenIs s f given
+  height : ℕ
+  allowed : AllowedShearCall given W height
+  figures : n ≡ figuresAt unit (givenHazards given) (given .frame) W (n .t)
+  period : n .t ≤ periodMost
+
+answered : (s : GroundValues) (f : FrameValues) (W h : ℕ) (n : Figures) → Sheared s f W h (Taken n) → Answered s f W n
+unfolding figuresAt
+answered s f W h n c =
+    let a = taken-accepted s f W h n c in
+    let g = a .given in
+    let all = shear-call-allowed s f W h g (a .judged) in
+    let t : n .t ≡ buildingFigures g W h .t = ap (λ (m : Figures). m .t) (a .figures) in
+    record {
+      given = g;
+      is = given-is s f W h g (a .judged);
+      height = h;
+      allowed = all;
+      figures = a .figures ∙ ap (λ (T : ℕ). figuresAt unit (givenHazards g) (g .frame) W T) (sym t);
+      period = subst (λ (T : ℕ). T ≤ periodMost) (sym t) (given-between g W h all .3);
+    }
+
+-- ---- the figures, of hazards and frames within reach
+figures-never-lower : (k : Hazards) (T : ℕ) → Reached k → (f f′ : Frame) (W W′ : ℕ) → 0 < f′ .alpha → NoLighter f W f′ W′
+    → NoneLower (figuresAt unit k f W T) (figuresAt unit k f′ W′ T)
+unfolding figuresAt
+figures-never-lower k T c f f′ W W′ pa l =
+    let g = c .shearing 0 (omega arith) in
+    let pd = g .divisor .0 in
+    let pe = g .stardivisor .0 in
+    record {
+      v = shear-never-lower unit k T (omega arith) pd pe f f′ W W′ pa l (k .design);
+      vm = shear-never-lower unit k T (omega arith) pd pe f f′ W W′ pa l (k .mce);
+      star = star-never-lower unit k T (omega arith) pd pe f f′ W W′ pa l;
+      vd = base-never-lower unit k T (omega arith) pd pe f f′ W W′ pa l;
+    }
+
+module _ (x : Ground) (R R′ T : ℕ) (h : R ≤ R′) (c : Reached (groundHazards x R)) (c′ : Reached (groundHazards x R′))
+    (b : Behind unit (groundHazards x R) T) (t : T ≤ periodMost) where
+  abbrev k : Hazards
+  k = groundHazards x R
+
+  abbrev k′ : Hazards
+  k′ = groundHazards x R′
+
+  -- with one frame for both
+  one-frame : (f : Frame) (W : ℕ) → 0 < f .alpha → AsRGrows (figuresAt unit k f W T) (figuresAt unit k′ f W T)
+  unfolding figuresAt
+  one-frame f W pa =
+      let d = ground-more-ductile x R R′ h in
+      let g = c .shearing T t in
+      let g′ = c′ .shearing T t in
+      let m = c .meeting in
+      record {
+        v = shear-never-higher unit k k′ T d g g′ m f pa W (k .design) (k′ .design) (g .design) (g′ .design) (d .design);
+        vm = shear-never-higher unit k k′ T d g g′ m f pa W (k .mce) (k′ .mce) (g .mce) (g′ .mce) (d .mce);
+        star = star-never-falls unit k k′ T d g g′ m f pa W;
+        vd = base-never-rises unit k k′ T d g g′ m f pa W b;
+      }
+
+  -- of two frames with the same I and alpha-y
+  figures-as-r-grows : (f f′ : Frame) (W W′ : ℕ) → 0 < f .alpha → 0 < f′ .alpha → NoLighter f W f′ W′ → NoLighter f′ W′ f W
+      → AsRGrows (figuresAt unit k f W T) (figuresAt unit k′ f′ W′ T)
+  figures-as-r-grows f f′ W W′ pa pa′ up down =
+      let one = one-frame f W pa in
+      let more = figures-never-lower k′ T c′ f f′ W W′ pa′ up in
+      let less = figures-never-lower k′ T c′ f′ f W′ W pa down in
+      record {
+        v = le-trans (less .v) (one .v);
+        vm = le-trans (less .vm) (one .vm);
+        star = le-trans (one .star) (more .star);
+        vd = le-trans (less .vd) (one .vd);
+      }
+
+-- ---- the answers of the shear call
+module _ (s : GroundValues) (f f′ : FrameValues) (W h W′ h′ : ℕ) (n n′ : Figures) (p : Sheared s f W h (Taken n)) (q : Sheared s f′ W′ h′ (Taken n′))
+    (same : n .t ≡ n′ .t) where
+  abbrev a : Answered s f W n
+  a = answered s f W h n p
+
+  abbrev a′ : Answered s f′ W′ n′
+  a′ = answered s f′ W′ h′ n′ q
+
+  abbrev frame : Frame
+  frame = a .given .frame
+
+  abbrev frame′ : Frame
+  frame′ = a′ .given .frame
+
+  alpha-some : 0 < frame .alpha
+  alpha-some = omega (arith, a .allowed .frame .alpha)
+
+  alpha-some′ : 0 < frame′ .alpha
+  alpha-some′ = omega (arith, a′ .allowed .frame .alpha)
+
+  reached : Reached (givenHazards (a .given))
+  reached = given-reached (a .given) W (a .height) (a .allowed)
+
+  reached′ : Reached (givenHazards (a′ .given))
+  reached′ = given-reached (a′ .given) W′ (a′ .height) (a′ .allowed)
+
+  one-ground : a .given .ground ≡ a′ .given .ground
+  one-ground = one-value (sym (a .is .ground) ∙ a′ .is .ground)
+
+  no-lighter : f .i ≤ f′ .i → f′ .alpha ≤ f .alpha → W ≤ W′ → NoLighter frame W frame′ W′
+  no-lighter i alpha w =
+      record { i = omega (arith, i, a .is .i, a′ .is .i); alpha = omega (arith, alpha, a .is .alpha, a′ .is .alpha); weight = w }
+
+  no-heavier : f′ .i ≤ f .i → f .alpha ≤ f′ .alpha → W′ ≤ W → NoLighter frame′ W′ frame W
+  no-heavier i alpha w =
+      record { i = omega (arith, i, a .is .i, a′ .is .i); alpha = omega (arith, alpha, a .is .alpha, a′ .is .alpha); weight = w }
+
+  -- a larger I, a smaller alpha-y, a larger W: none of the figures is lower
+  pub never-lower : f .r ≡ f′ .r → f .i ≤ f′ .i → f′ .alpha ≤ f .alpha → W ≤ W′ → NoneLower n n′
+  never-lower r i alpha w =
+      let one-r : frame .r ≡ frame′ .r = a .is .r ∙ r ∙ sym (a′ .is .r) in
+      let k = givenHazards (a .given) in
+      let hazards : givenHazards (a′ .given) ≡ k = λ j. groundHazards (sym one-ground j) (sym one-r j) in
+      let second : n′ ≡ figuresAt unit k frame′ W′ (n .t) = a′ .figures ∙ λ j. figuresAt unit (hazards j) frame′ W′ (sym same j) in
+      subst₂ NoneLower (sym (a .figures)) (sym second)
+      (figures-never-lower k (n .t) reached frame frame′ W W′ alpha-some′ (no-lighter i alpha w))
+
+  -- a larger R: V, V_M and V_D are no higher, V* is no lower
+  pub as-r-grows : f .r ≤ f′ .r → f .i ≡ f′ .i → f .alpha ≡ f′ .alpha → W ≡ W′ → AsRGrows n n′
+  as-r-grows r i alpha w =
+      let x = a .given .ground in
+      let R = frame .r in
+      let R′ = frame′ .r in
+      let more : R ≤ R′ = omega (arith, r, a .is .r, a′ .is .r) in
+      let hazards : givenHazards (a′ .given) ≡ groundHazards x R′ = λ j. groundHazards (sym one-ground j) R′ in
+      let second : n′ ≡ figuresAt unit (groundHazards x R′) frame′ W′ (n .t) =
+      a′ .figures ∙ λ j. figuresAt unit (hazards j) frame′ W′ (sym same j) in
+      let range = a .allowed .frame .r in
+      subst₂ AsRGrows (sym (a .figures)) (sym second)
+      (figures-as-r-grows x R R′ (n .t) more reached (subst Reached hazards reached′)
+      (ground-behind x R (a .allowed .ground) (range .0) (range .1) (n .t) (a .period)) (a .period)
+      frame frame′ W W′ alpha-some alpha-some′
+      (no-lighter (omega (arith, i)) (omega (arith, alpha)) (omega (arith, w)))
+      (no-heavier (omega (arith, i)) (omega (arith, alpha)) (omega (arith, w))))
