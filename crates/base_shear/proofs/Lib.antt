@@ -2,5 +2,5 @@ pub mod Literal
 pub mod Bounds
 pub mod Share
 pub mod Moves
-pub mod Behind
+pub mod Ahead
 pub mod NeverRises

@@ -1,4 +1,4 @@
--- Which way the shears move, at one T. A larger I, a larger W and a smaller alpha-y lower none of V, V_M, V* and V_D; a larger R never raises V or V_M and
+-- Which way the shears move, at one T. A larger I, a larger W and a smaller alpha-y lower none of V, V_M, V* and V_D; a larger R never raises V or V_M, and
 -- never lowers V*. Over any unit, lines that meet, and hazards within reach.
 -- Assumes nothing.
 use mathlib.Core.Path.{_≡_, sym, subst₂}
@@ -19,6 +19,10 @@ use Rattle.response.proofs.Most.{lower-factor-least, modified-rises}
 use Rattle.base_shear.specs.Moves.{NoLighter, MoreDuctile, MoreDuctileAll}
 use Rattle.base_shear.specs.Ready.{Ready, Shearing}
 use Rattle.base_shear.specs.Shears.{newtons, ratioAt, modifiedAt, blendedAt, shear, star, base}
+
+-- what stays as it is
+pub no-lighter-itself : (f : Frame) (W : ℕ) → NoLighter f W f W
+no-lighter-itself f W = record { i = le-refl (f .i); alpha = le-refl (f .alpha); weight = le-refl W }
 
 -- ---- newtons
 module _ (s n : ℕ) (ps : 0 < s) (pn : 0 < n) (f f′ : Frame) (W W′ : ℕ) (pa : 0 < f′ .alpha) (l : NoLighter f W f′ W′) where
@@ -71,20 +75,17 @@ module _ (s : ℕ) (h h′ : Hazard) (T : ℕ) (u : FineUnit s) (y : Ready s h T
 -- ---- R: the shears
 module _ (s : ℕ) (k k′ : Hazards) (T : ℕ) (d : MoreDuctileAll k k′) (g : Shearing s k T) (g′ : Shearing s k′ T) (m : Meeting (k .lines))
     (f : Frame) (pa : 0 < f .alpha) (W : ℕ) where
-  abbrev same : NoLighter f W f W
-  same = record { i = le-refl (f .i); alpha = le-refl (f .alpha); weight = le-refl W }
-
   -- V and V_M
   pub shear-never-higher : (h h′ : Hazard) → Ready s h T → Ready s h′ T → MoreDuctile h h′ → shear s k′ h′ f W T ≤ shear s k h f W T
   unfolding shear
   shear-never-higher h h′ y y′ e =
       rw (sym (d .divisor), sym (d .lines))
-      (newtons-rise s (k .divisor) (g .unit .positive) (g .divisor .0) f f W W pa same _ _
+      (newtons-rise s (k .divisor) (g .unit .positive) (g .divisor .0) f f W W pa (no-lighter-itself f W) _ _
       (modified-at-falls s h h′ T (g .unit) y y′ e (k .lines) m))
 
   pub star-never-falls : star s k f W T ≤ star s k′ f W T
   unfolding star
   star-never-falls =
       rw (sym (d .stardivisor), sym (d .lines))
-      (newtons-rise s (k .stardivisor) (g .unit .positive) (g .stardivisor .0) f f W W pa same _ _
+      (newtons-rise s (k .stardivisor) (g .unit .positive) (g .stardivisor .0) f f W W pa (no-lighter-itself f W) _ _
       (blended-at-rises s (k .star) (k′ .star) T (g .unit) (g .star) (g′ .star) (d .star) (k .lines) m))

@@ -1,5 +1,5 @@
--- A larger R never raises V_D, at one T. V* rises with R only where F is below Sa/0.3, and then no further than to I·Sa·W/(4.2·alpha-y). Sa is at most 0.9 g:
--- there F is below 3, and V is at least that. Over any unit, lines that meet, divisors, and hazards within reach that are `Behind`.
+-- A larger R never raises V_D, at one T. V* rises with R only where F is below Sa/0.3, and then to I·Sa·W/(4.2·alpha-y) at most. Sa is at most 0.9 g, so F is
+-- below 3 there, and V is at least that. Over any unit, lines that meet, divisors, and hazards within reach where V is `Ahead`.
 -- Assumes nothing.
 use mathlib.Core.Path.{sym, subst₂}
 use Prim.Native.Nat.{ℕ, _*_, _≤_, _<_}
@@ -17,11 +17,11 @@ use Rattle.response.specs.Spectrum.{spectrum}
 use Rattle.response.proofs.Bent.{bent-first, bent-past-first}
 use Rattle.response.proofs.Ductility.{blended-full}
 use Rattle.response.proofs.Most.{blended-within}
-use Rattle.base_shear.specs.Moves.{NoLighter, MoreDuctileAll}
+use Rattle.base_shear.specs.Moves.{MoreDuctileAll}
 use Rattle.base_shear.specs.Ready.{Shearing}
 use Rattle.base_shear.specs.Shears.{newtons, ratioAt, shear, star, base}
-use Rattle.base_shear.proofs.Behind.{Behind, spectrumAt, upperAt}
-use Rattle.base_shear.proofs.Moves.{newtons-rise, shear-never-higher}
+use Rattle.base_shear.proofs.Ahead.{Ahead, spectrumAt, upperAt}
+use Rattle.base_shear.proofs.Moves.{no-lighter-itself, newtons-rise, shear-never-higher}
 
 -- ---- newtons of x over d tenths and of m over n tenths
 newtons-across : (s n d : ℕ) (f : Frame) (W x m : ℕ) → 0 < s → 0 < n → 0 < d → 0 < f .alpha → n * x ≤ d * m
@@ -35,9 +35,6 @@ newtons-across s n d f W x m ps pn pd pa h =
 -- ---- V* at one R, and V at another
 module _ (s : ℕ) (k k′ : Hazards) (T : ℕ) (d : MoreDuctileAll k k′) (g : Shearing s k T) (g′ : Shearing s k′ T) (meet : Meeting (k .lines))
     (f : Frame) (pa : 0 < f .alpha) (W : ℕ) where
-  abbrev same : NoLighter f W f W
-  same = record { i = le-refl (f .i); alpha = le-refl (f .alpha); weight = le-refl W }
-
   abbrev sa : ℕ
   sa = spectrumAt s (k .star) T
 
@@ -50,21 +47,21 @@ module _ (s : ℕ) (k k′ : Hazards) (T : ℕ) (d : MoreDuctileAll k k′) (g :
   star-to-end =
       let h = k′ .star in
       rw (sym (d .stardivisor), sym (d .lines))
-      (newtons-rise s (k .stardivisor) (g .unit .positive) (g .stardivisor .0) f f W W pa same _ _
+      (newtons-rise s (k .stardivisor) (g .unit .positive) (g .stardivisor .0) f f W W pa (no-lighter-itself f W) _ _
       (subst₂ (λ (a b : ℕ). blended (k .lines) (spectrum s a b T) (upperFactor s a b T (h .capacity) (h .square)) ≤ sa) (d .star .a) (d .star .b)
       (blended-within (k .lines) meet sa (upperFactor s (k .star .a) (k .star .b) T (h .capacity) (h .square)))))
 
-  module _ (b : Behind s k T) where
-    -- where the factor is as large as V*'s divisor has V's, V* is at its end
-    at-end : k .stardivisor * s ≤ k .divisor * upperAt s (k .star) T → end ≤ star s k f W T
-    unfolding star
-    at-end h =
-        let F = upperAt s (k .star) T in
-        let full : 1000 * sa ≤ k .lines .first * F =
-        le-of-mul-le-mul-left {k = k .divisor} (omega (arith, b .spectrum, mul-le-mul-left (k .lines .first) h)) (g .divisor .0) in
-        rw (blended-full (k .lines) meet sa F full) (le-refl end)
+  -- where F is at least Sa/0.3 it is there
+  pub star-at-end : 1000 * sa ≤ k .lines .first * upperAt s (k .star) T → end ≤ star s k f W T
+  unfolding star
+  star-at-end h = rw (blended-full (k .lines) meet sa (upperAt s (k .star) T) h) (le-refl end)
 
-    -- where it is not, V is as large as that
+  -- and so a larger R leaves it as it is
+  pub star-stays : 1000 * sa ≤ k .lines .first * upperAt s (k .star) T → star s k′ f W T ≤ star s k f W T
+  star-stays h = le-trans star-to-end (star-at-end h)
+
+  module _ (b : Ahead s k T) where
+    -- where F is less than what divides V* has more than V's, V is as large as the end
     bent-enough : k .divisor * sa ≤ k .stardivisor * ratioAt s (k .design) T
         → k .divisor * (1000 * sa) ≤ k .stardivisor * bent (k .lines) (ratioAt s (k .design) T) s
     bent-enough h = go (decLe (1000 * q) (k .lines .first * s))
@@ -76,29 +73,37 @@ module _ (s : ℕ) (k k′ : Hazards) (T : ℕ) (d : MoreDuctileAll k k′) (g :
         go (yes n) = rw (bent-first (k .lines) meet q s n) (omega (arith, h))
         go (no n) =
             let past : k .lines .first * s ≤ 1000 * q = omega arith in
-            le-trans (b .spectrum) (mul-le-mul-left (k .stardivisor) (bent-past-first (k .lines) meet q s past))
+            le-trans (b .soon) (mul-le-mul-left (k .stardivisor) (bent-past-first (k .lines) meet q s past))
 
-    as-large : k .divisor * sa ≤ k .stardivisor * ratioAt s (k .design) T → end ≤ shear s k (k .design) f W T
+    v-at-end : k .divisor * upperAt s (k .star) T < k .stardivisor * s → end ≤ shear s k (k .design) f W T
     unfolding shear modified
-    as-large h =
+    v-at-end h =
         let z = bent (k .lines) (ratioAt s (k .design) T) s in
         newtons-across s (k .divisor) (k .stardivisor) f W sa (up z 1000) (g .unit .positive) (g .divisor .0) (g .stardivisor .0) pa
         (le-of-mul-le-mul-left {k = 1000}
-        (omega (arith, bent-enough h, mul-le-mul-left (k .stardivisor) (up-law z 1000 (omega arith) .0)))
+        (omega (arith, bent-enough (b .ratio h), mul-le-mul-left (k .stardivisor) (up-law z 1000 (omega arith) .0)))
         (omega arith))
 
-    end-below-base : end ≤ base s k f W T
-    unfolding base
-    end-below-base = go (decLe (k .stardivisor * s) (k .divisor * upperAt s (k .star) T))
+    -- where V* rises, it does not come above what V was
+    pub risen-below-v : star s k f W T < star s k′ f W T → star s k′ f W T ≤ shear s k (k .design) f W T
+    risen-below-v risen = go (decLe (k .stardivisor * s) (k .divisor * upperAt s (k .star) T))
       where
-        go : Dec (k .stardivisor * s ≤ k .divisor * upperAt s (k .star) T) → end ≤ base s k f W T
-        go (yes h) = omega (arith, at-end h)
-        go (no h) = omega (arith, as-large (b .ratio (omega arith)))
+        go : Dec (k .stardivisor * s ≤ k .divisor * upperAt s (k .star) T) → star s k′ f W T ≤ shear s k (k .design) f W T
+        go (yes h) =
+            let F = upperAt s (k .star) T in
+            let full : 1000 * sa ≤ k .lines .first * F =
+            le-of-mul-le-mul-left {k = k .divisor} (omega (arith, b .soon, mul-le-mul-left (k .lines .first) h)) (g .divisor .0) in
+            absurd (omega (arith, risen, star-stays full))
+        go (no h) = le-trans star-to-end (v-at-end (omega arith))
 
     pub base-never-rises : base s k′ f W T ≤ base s k f W T
     unfolding base
     base-never-rises =
         let v = shear-never-higher s k k′ T d g g′ meet f pa W (k .design) (k′ .design) (g .design) (g′ .design) (d .design) in
         let vm = shear-never-higher s k k′ T d g g′ meet f pa W (k .mce) (k′ .mce) (g .mce) (g′ .mce) (d .mce) in
-        let p = le-trans star-to-end end-below-base in
-        omega (arith, p, v, vm)
+        go v vm (decLe (star s k′ f W T) (star s k f W T))
+      where
+        go : shear s k′ (k′ .design) f W T ≤ shear s k (k .design) f W T → shear s k′ (k′ .mce) f W T ≤ shear s k (k .mce) f W T
+            → Dec (star s k′ f W T ≤ star s k f W T) → base s k′ f W T ≤ base s k f W T
+        go v vm (yes h) = omega (arith, v, vm, h)
+        go v vm (no h) = omega (arith, v, vm, risen-below-v (omega arith))

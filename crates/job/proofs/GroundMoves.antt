@@ -1,11 +1,12 @@
--- What a larger R makes of the hazards of an allowed ground, a site or a zone of the Taipei Basin: more ductile ones. And V* is `Behind` on each: near-fault
--- factors make no smaller A and B, and the plain A of the design level is at most 0.8 g; in the Basin V's hazard is V*'s own, with 0.6 g.
+-- What a larger R makes of the hazards of an allowed ground, a site or a zone of the Taipei Basin: more ductile ones. And V is `Ahead` on each: near-fault
+-- factors make no smaller A and B, and A of the design level without them is at most 0.8 g; in the Basin V's hazard is V*'s own, with 0.6 g.
 -- Assumes nothing.
 use mathlib.Core.Path.{refl, ap}
 use Prim.Native.Nat.{ℕ, _+_, _*_, _≤_, _<_}
 use native.Mathlib.Nat.{le-dest, le-trans, mul-le-mul, mul-le-mul-left, mul-le-mul-right}
 use native.Mathlib.Omega.{arith}
-use Rattle.whole.specs.Fraction.{over}
+use Rattle.whole.specs.declared.Fraction.{Fraction}
+use Rattle.whole.specs.Fraction.{over, AtMost}
 use Rattle.whole.specs.Root.{lowerRoot}
 use Rattle.whole.proofs.Root.{le-of-square, lower-root-is}
 use Rattle.limits.specs.Allowed.{AllowedSite, AllowedGround}
@@ -14,7 +15,7 @@ use Rattle.limits.specs.declared.ground.Ground.the-variants.{Site as OnSite, Ba
 use Rattle.limits.specs.declared.site.Site.{Site}
 use Rattle.limits.specs.declared.zone.Zone.{Zone}
 use Rattle.site.specs.Basin.{basinHazards}
-use Rattle.site.specs.Capacity.{designCapacity, designSquare}
+use Rattle.site.specs.Capacity.{designCapacity, designSquare, basinCapacity, basinSquare}
 use Rattle.site.specs.Coefficients.{factored}
 use Rattle.site.specs.Ground.{groundHazards}
 use Rattle.site.specs.Hazards.{hazardsOf}
@@ -24,29 +25,35 @@ use Rattle.response.specs.Unit.{unit}
 use Rattle.response.proofs.LargerGround.{Rooted}
 use Rattle.response.proofs.Most.{spectrum-below}
 use Rattle.response.proofs.Reached.{small, roots-ordered, unit-fine}
-use Rattle.base_shear.specs.Moves.{MoreDuctileAll}
+use Rattle.base_shear.specs.Moves.{MoreDuctile, MoreDuctileAll}
 use Rattle.base_shear.specs.Ready.{Reached}
-use Rattle.base_shear.proofs.Behind.{Behind, upperAt, own-hazard, larger-hazard}
+use Rattle.base_shear.proofs.Ahead.{Ahead, upperAt, own-hazard, larger-hazard}
 use Rattle.job.proofs.BasinReached.{basin-reached}
 use Rattle.job.proofs.Ductilities.{design-ductile}
 use Rattle.job.proofs.SiteReached.{site-reached}
 
 -- ---- a larger R
+module _ (a b : ℕ) (c ρ c′ ρ′ : Fraction) where
+  hazard-more-ductile : AtMost c c′ → AtMost ρ ρ′
+      → MoreDuctile (record { a = a; b = b; capacity = c; square = ρ }) (record { a = a; b = b; capacity = c′; square = ρ′ })
+  hazard-more-ductile hc hρ = record { a = refl; b = refl; capacity = hc; square = hρ }
+
 pub ground-more-ductile : (g : Ground) (R R′ : ℕ) → R ≤ R′ → MoreDuctileAll (groundHazards g R) (groundHazards g R′)
 ground-more-ductile (OnSite s) R R′ h =
     record {
-      design = record { a = refl; b = refl; capacity = omega arith; square = omega arith };
-      mce = record { a = refl; b = refl; capacity = omega arith; square = omega arith };
-      star = record { a = refl; b = refl; capacity = omega arith; square = omega arith };
+      design = hazard-more-ductile _ _ _ _ _ _ (omega arith) (omega arith);
+      mce = hazard-more-ductile _ _ _ _ _ _ (omega arith) (omega arith);
+      star = hazard-more-ductile _ _ _ _ _ _ (omega arith) (omega arith);
       lines = refl;
       divisor = refl;
       stardivisor = refl;
     }
 ground-more-ductile (InBasin z) R R′ h =
+    let allowable = hazard-more-ductile _ _ (basinCapacity R) (basinSquare R) (basinCapacity R′) (basinSquare R′) (omega arith) (omega arith) in
     record {
-      design = record { a = refl; b = refl; capacity = omega arith; square = omega arith };
-      mce = record { a = refl; b = refl; capacity = omega arith; square = omega arith };
-      star = record { a = refl; b = refl; capacity = omega arith; square = omega arith };
+      design = allowable;
+      mce = hazard-more-ductile _ _ _ _ _ _ (omega arith) (omega arith);
+      star = allowable;
       lines = refl;
       divisor = refl;
       stardivisor = refl;
@@ -82,16 +89,16 @@ module _ (R : ℕ) (lo : 100 ≤ R) (hi : R ≤ 600) where
         root-below = omega (arith, below, d .root-most);
       }
 
--- ---- V* is behind
-site-behind : (s : Site) (R : ℕ) → AllowedSite s → 100 ≤ R → R ≤ 600 → (T : ℕ) → T ≤ periodMost → Behind unit (hazardsOf s R) T
-site-behind s R a lo hi T t =
+-- ---- V is ahead
+site-ahead : (s : Site) (R : ℕ) → AllowedSite s → 100 ≤ R → R ≤ 600 → (T : ℕ) → T ≤ periodMost → Ahead unit (hazardsOf s R) T
+site-ahead s R a lo hi T t =
     let k = hazardsOf s R in
     let g = site-reached s R a lo hi .shearing T t in
     let h = k .star in
     let most : h .a ≤ 80_000_000 = a-design-most (s .class) (s .ssd) (a .ssd .1) in
     let sa = spectrum-below unit (h .a) (h .b) T 8_000_000 (g .star .shape .b-positive) (omega arith) in
     record {
-      spectrum = omega (arith, sa);
+      soon = omega (arith, sa);
       ratio =
           λ below.
           let few : upperAt unit h T ≤ 3 * unit = omega (arith, below) in
@@ -104,14 +111,15 @@ site-behind s R a lo hi T t =
           );
     }
 
-basin-behind : (z : Zone) (R : ℕ) → 100 ≤ R → R ≤ 600 → (T : ℕ) → T ≤ periodMost → Behind unit (basinHazards z R) T
-basin-behind z R lo hi T t =
+basin-ahead : (z : Zone) (R : ℕ) → 100 ≤ R → R ≤ 600 → (T : ℕ) → T ≤ periodMost → Ahead unit (basinHazards z R) T
+basin-ahead z R lo hi T t =
     let k = basinHazards z R in
     let g = basin-reached z R lo hi .shearing T t in
     let h = k .star in
     let sa = spectrum-below unit (h .a) (h .b) T 6_000_000 (g .star .shape .b-positive) (omega arith) in
-    record { spectrum = omega (arith, sa); ratio = λ below. own-hazard unit h T 14 35 unit-fine (g .star) below }
+    record { soon = omega (arith, sa); ratio = λ below. own-hazard unit h T 14 35 unit-fine (g .star) below }
 
-pub ground-behind : (g : Ground) (R : ℕ) → AllowedGround g → 100 ≤ R → R ≤ 600 → (T : ℕ) → T ≤ periodMost → Behind unit (groundHazards g R) T
-ground-behind (OnSite s) R a lo hi = site-behind s R a lo hi
-ground-behind (InBasin z) R a lo hi = basin-behind z R lo hi
+pub ground-ahead : (g : Ground) (R : ℕ) → AllowedGround g → 100 ≤ R → R ≤ 600 → (T : ℕ) → T ≤ periodMost
+    → Ahead unit (groundHazards g R) T
+ground-ahead (OnSite s) R a lo hi = site-ahead s R a lo hi
+ground-ahead (InBasin z) R a lo hi = basin-ahead z R lo hi

@@ -23,8 +23,8 @@ use Rattle.job.specs.Distribution.{Buffers}
 use Rattle.job.specs.Job.{Answers}
 use Rattle.job.specs.Moves.{withR, withI, withAlpha, withWeight, NoneLower, AsRGrows}
 use Rattle.job.specs.ShearCall.{Sheared}
+use Rattle.job.proofs.CallMoves.{never-lower, as-r-grows}
 use Rattle.job.proofs.InTurn.{job-parted}
-use Rattle.job.proofs.Moves.{never-lower, as-r-grows}
 use Rattle.job.proofs.Sheared.{demand-3}
 
 -- ---- two jobs on one ground at one T

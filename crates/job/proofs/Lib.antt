@@ -4,6 +4,7 @@ pub mod SiteReached
 pub mod BasinReached
 pub mod GroundReached
 pub mod GroundMoves
+pub mod FiguresMove
 pub mod GivenReached
 pub mod Stages
 pub mod Unique
@@ -11,7 +12,7 @@ pub mod Columns
 pub mod Sheared
 pub mod ShearedRefusing
 pub mod Towers
-pub mod Moves
+pub mod CallMoves
 pub mod Distributed
 pub mod DistributedRefusing
 pub mod Answered

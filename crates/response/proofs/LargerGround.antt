@@ -1,19 +1,20 @@
 -- Two grounds at one T, the second of no smaller A and B, with one root and one capacity. While the factor of the first is at most e, the factor of the
--- second times the spectrum of the first is at most e times the spectrum of the second: where the shorter corner of the second makes its factor the
--- larger, it makes its spectrum larger still.
---   Rooted e r c    a root r of at most e, not above the capacity c and at least 0.6 of it; c at most 6; e at least 3
+-- second times the spectrum of the first is at most e times the spectrum of the second: where a shorter T0 makes the factor of the second the larger,
+-- a larger A makes its spectrum larger still.
+--   Rooted e r c    a root r of at most e, not above the capacity c and at least 0.6 of it; e at least 3
 -- Assumes nothing.
 use mathlib.Core.Path.{_≡_, sym, ap, subst, subst₂}
 use Prim.Native.Nat.{ℕ, _+_, _-_, _*_, _≤_, _<_}
-use native.Mathlib.Nat.{le-dest, mul-le-mul, mul-le-mul-left, mul-le-mul-right, mul-pos, le-of-mul-le-mul-right}
+use native.Mathlib.Nat.{mul-le-mul, mul-le-mul-left, mul-le-mul-right, mul-pos, le-of-mul-le-mul-right}
 use native.Mathlib.Decide.{decLe}
 use native.Mathlib.Omega.{arith}
 use Rattle.whole.specs.declared.Fraction.{Fraction}
 use Rattle.whole.specs.Fraction.{over, times, AtMost}
-use Rattle.whole.proofs.Choice.{by-leb}
 use Rattle.whole.proofs.Order.{at-most-trans, times-rises}
 use Rattle.response.specs.Spectrum.{g, exactSpectrum}
 use Rattle.response.proofs.Branches.{weights-positive, beyond, rising, level, below}
+use Rattle.response.proofs.LargerProducts.{far-below, flat, rising-twice, rising-once, far-past}
+use Rattle.response.proofs.LeastSpectrum.{low-rising, low-flat, low-past, both-past}
 use Rattle.response.proofs.Mean.{Weights, mean, weights}
 use Rattle.response.proofs.Most.{spectrum-within, spectrum-positive}
 use Rattle.response.proofs.Spectra.{left-positive}
@@ -26,142 +27,6 @@ pub record Rooted (e : ℕ) (r c : Fraction) : Type 0 where
   pub root-least : 3 * (c .num * r .den) ≤ 5 * (r .num * c .den)
   pub root-below : AtMost r c
 
--- ---- how low the spectrum comes, by where T lies
-module _ (A B T : ℕ) where
-  abbrev sa : Fraction
-  sa = exactSpectrum A B T
-
-  -- up to 0.2·T0
-  low-rising : T * A ≤ 200 * B → A * (400 * B + 3 * (T * A)) * sa .den ≤ sa .num * (1000 * B * 100_000_000)
-  unfolding exactSpectrum
-  low-rising h =
-      by-leb (λ (z : Fraction). A * (400 * B + 3 * (T * A)) * z .den ≤ z .num * (1000 * B * 100_000_000)) (T * (10 * A)) (2 * (1000 * B) * 1) _ _
-      (λ _. omega arith) (λ k. absurd (omega arith))
-
-  -- from there to T0
-  low-flat : 200 * B ≤ T * A → T * A ≤ 1000 * B → AtMost (g A) sa
-  unfolding exactSpectrum
-  low-flat h l =
-      by-leb (λ (z : Fraction). AtMost (g A) z) (T * (10 * A)) (2 * (1000 * B) * 1) _ _
-      (λ k. let t : T * A ≡ 200 * B = omega arith in omega (arith, ap (λ (z : ℕ). A * z) t))
-      (λ _. by-leb (λ (z : Fraction). AtMost (g A) z) (T * A) (1000 * B * 1) _ _ (λ _. omega arith) (λ k. absurd (omega arith)))
-
-  -- from T0 on
-  low-past : 0 < B → 1000 * B ≤ T * A → AtMost (over (1000 * B) (T * 100_000_000)) sa × AtMost (times (over 4 10) (g A)) sa
-  unfolding exactSpectrum
-  low-past pb h =
-      by-leb (λ (z : Fraction). AtMost (over (1000 * B) (T * 100_000_000)) z × AtMost (times (over 4 10) (g A)) z)
-      (T * (10 * A)) (2 * (1000 * B) * 1) _ _ (λ k. absurd (omega arith))
-      (λ _.
-      by-leb (λ (z : Fraction). AtMost (over (1000 * B) (T * 100_000_000)) z × AtMost (times (over 4 10) (g A)) z)
-      (T * A) (1000 * B * 1) _ _ (λ k. (omega arith, omega arith))
-      (λ _.
-      by-leb (λ (z : Fraction). AtMost (over (1000 * B) (T * 100_000_000)) z × AtMost (times (over 4 10) (g A)) z)
-      (T * (10 * A)) (25 * (1000 * B) * 1) _ _ (λ k. (omega arith, omega arith)) (λ k. (omega arith, omega arith))))
-
--- past both corners the second spectrum is no lower
-both-past : (A B A′ B′ T : ℕ) → 0 < B → A ≤ A′ → B ≤ B′ → 1000 * B ≤ T * A → 1000 * B′ ≤ T * A′
-    → AtMost (exactSpectrum A B T) (exactSpectrum A′ B′ T)
-unfolding exactSpectrum
-both-past A B A′ B′ T pb la lb h h′ =
-    let low = low-past A′ B′ T (omega arith) h′ in
-    let x′ = exactSpectrum A′ B′ T in
-    let pt : 0 < T = left-positive T A (T * A) (λ i. T * A) (omega arith) in
-    by-leb (λ (z : Fraction). AtMost z x′) (T * (10 * A)) (2 * (1000 * B) * 1) _ _ (λ k. absurd (omega arith))
-    (λ _.
-    by-leb (λ (z : Fraction). AtMost z x′) (T * A) (1000 * B * 1) _ _
-    (λ k.
-    let t : T * A ≤ 1000 * B′ = omega arith in
-    le-of-mul-le-mul-right {k = T} (omega (arith, low .0, mul-le-mul-right (x′ .den) t)) pt)
-    (λ _.
-    by-leb (λ (z : Fraction). AtMost z x′) (T * (10 * A)) (25 * (1000 * B) * 1) _ _
-    (λ _. omega (arith, low .0, mul-le-mul-right (x′ .den) lb))
-    (λ _. omega (arith, low .1, mul-le-mul-right (x′ .den) la))))
-
--- ---- the products: α is the root, β the capacity, γ one, of a common divisor; x′ is p/u
--- T up to 0.2 of the second corner, which is y + t
-far-below : (e A A′ α γ y t p u : ℕ) → 3 ≤ e → A ≤ A′ → α ≤ e * γ → A′ * (2 * y + 5 * t) * u ≤ p * (5 * (y + t) * 100_000_000)
-    → (β : ℕ) → (10 * y * γ + 10 * t * α + 0 * β) * A * (1 * u) ≤ e * p * ((10 * y + 10 * t + 0) * γ * 100_000_000)
-far-below e A A′ α γ y t p u three la ra low β =
-    let M = y + e * t in
-    let one : 10 * y * γ + 10 * t * α ≤ 10 * (M * γ) = omega (arith, mul-le-mul-left (10 * t) ra) in
-    let two : 5 * M ≤ e * (2 * y + 5 * t) = omega (arith, mul-le-mul-right y three) in
-    omega (
-      arith,
-      mul-le-mul-right u (mul-le-mul one la),
-      mul-le-mul-right (γ * A′ * u) two,
-      mul-le-mul-right (e * γ) low,
-    )
-
--- up to T0 of it, by what is to be shown of the factor and A alone
-flat : (e A A′ N D p u : ℕ) → N * A ≤ e * A′ * D → A′ * u ≤ p * 100_000_000 → N * A * (1 * u) ≤ e * p * (D * 100_000_000)
-flat e A A′ N D p u k low = omega (arith, mul-le-mul-right u k, mul-le-mul-right (e * D) low)
-
--- N of T between 0.6·T0 and T0, in tens: y is T0 − T and z is T − 0.6·T0, both times A; times the other A
-between : (B C t k α β P Q y z : ℕ) → y + t ≡ 1000 * B → z + 600 * B ≡ t → t * C ≡ k → 3 * β + P ≡ 5 * α → α + Q ≡ β
-    → (y * α + z * β) * C ≡ 200 * (B * C * P) + k * Q
-between B C t k α β P Q y z ey ez ek eP eQ =
-    omega (
-      arith,
-      ap (λ (v : ℕ). v * (α * C)) ey,
-      ap (λ (v : ℕ). v * (β * C)) ez,
-      ap (λ (v : ℕ). v * α) ek,
-      ap (λ (v : ℕ). v * β) ek,
-      ap (λ (v : ℕ). B * C * v) eP,
-      ap (λ (v : ℕ). k * v) eQ,
-    )
-
-module _ (A B A′ B′ T α β : ℕ) (la : A ≤ A′) (lb : B ≤ B′) (least : 3 * β ≤ 5 * α) (cap : α ≤ β) (y′ z′ : ℕ) (ey′ : y′ + T * A′ ≡ 1000 * B′)
-    (ez′ : z′ + 600 * B′ ≡ T * A′) where
-  -- T from 0.6 of both corners on
-  rising-twice : (y z : ℕ) → y + T * A ≡ 1000 * B → z + 600 * B ≡ T * A
-      → (y′ * α + z′ * β) * A * B ≤ (y * α + z * β) * A′ * B′
-  rising-twice y z ey ez =
-      let (P, eP) = le-dest least in
-      let (Q, eQ) = le-dest cap in
-      let k = T * A * A′ in
-      let n′ = between B′ A (T * A′) k α β P Q y′ z′ ey′ ez′ (omega arith) eP eQ in
-      let n = between B A′ (T * A) k α β P Q y z ey ez (omega arith) eP eQ in
-      together ((y′ * α + z′ * β) * A) ((y * α + z * β) * A′) k P Q n′ n
-    where
-      together : (m′ m k P Q : ℕ) → m′ ≡ 200 * (B′ * A * P) + k * Q → m ≡ 200 * (B * A′ * P) + k * Q → m′ * B ≤ m * B′
-      together m′ m k P Q e′ e =
-          omega (
-            arith,
-            ap (λ (v : ℕ). v * B) e′,
-            ap (λ (v : ℕ). v * B′) e,
-            mul-le-mul-right (B * B′ * P) la,
-            mul-le-mul-right (k * Q) lb,
-          )
-
-  -- up to 0.6 of the first
-  rising-once : T * A ≤ 600 * B → (y′ * α + z′ * β) * A ≤ 400 * B′ * α * A′
-  rising-once h =
-      let (P, eP) = le-dest least in
-      let (Q, eQ) = le-dest cap in
-      let t : T * A ≤ 600 * B′ = omega arith in
-      let k = T * A * A′ in
-      let n′ = between B′ A (T * A′) k α β P Q y′ z′ ey′ ez′ (omega arith) eP eQ in
-      together ((y′ * α + z′ * β) * A) k P Q n′ (mul-le-mul-right A′ t) eP eQ
-    where
-      together : (m′ k P Q : ℕ) → m′ ≡ 200 * (B′ * A * P) + k * Q → k ≤ 600 * B′ * A′ → 3 * β + P ≡ 5 * α → α + Q ≡ β → m′ ≤ 400 * B′ * α * A′
-      together m′ k P Q e′ small eP eQ =
-          omega (
-            arith,
-            e′,
-            mul-le-mul-right (B′ * P) la,
-            mul-le-mul-right Q small,
-            ap (λ (v : ℕ). B′ * A′ * v) eP,
-            ap (λ (v : ℕ). B′ * A′ * v) eQ,
-          )
-
--- T0 of the second and beyond, T times A being t: by what is to be shown of the factor
-far-past : (e A B′ T α β γ p u : ℕ) → 0 < T → T * A * β ≤ 1000 * e * B′ * γ → 1000 * B′ * u ≤ p * (T * 100_000_000)
-    → (0 * γ + 0 * α + 1 * β) * A * (1 * u) ≤ e * p * ((0 + 0 + 1) * γ * 100_000_000)
-far-past e A B′ T α β γ p u pt k low =
-    le-of-mul-le-mul-right {k = T} (omega (arith, mul-le-mul-right u k, mul-le-mul-right (e * γ) low)) pt
-
--- ---- the two grounds
 module _ (e A B A′ B′ T : ℕ) (r c : Fraction) (o : Rooted e r c) (pb : 0 < B) (la : A ≤ A′) (lb : B ≤ B′)
     (within : mean (weights A B T) r c .num ≤ e * mean (weights A B T) r c .den) where
   abbrev α : ℕ
@@ -264,11 +129,11 @@ module _ (e A B A′ B′ T : ℕ) (r c : Fraction) (o : Rooted e r c) (pb : 0 <
     enough-past : T * A < 1000 * B → Dec (600 * B ≤ T * A) → Enough (weights A′ B′ T)
     enough-past f (yes m) =
         by-factor
-        (between-past (T * A) α β γ (1000 * B - T * A) (T * A - 600 * B) (omega arith) (omega arith) (o .root-least) (tens-within f m))
+        (on-line-past (T * A) α β γ (1000 * B - T * A) (T * A - 600 * B) (omega arith) (omega arith) (o .root-least) (tens-within f m))
       where
-        between-past : (t α β γ y z : ℕ) → y + t ≡ 1000 * B → z + 600 * B ≡ t → 3 * β ≤ 5 * α → y * α + z * β ≤ e * (400 * B * γ)
+        on-line-past : (t α β γ y z : ℕ) → y + t ≡ 1000 * B → z + 600 * B ≡ t → 3 * β ≤ 5 * α → y * α + z * β ≤ e * (400 * B * γ)
             → t * β ≤ 1000 * e * B′ * γ
-        between-past t α β γ y z ey ez least k =
+        on-line-past t α β γ y z ey ez least k =
             omega (
               arith,
               ap (λ (v : ℕ). v * β) ey,

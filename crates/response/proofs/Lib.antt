@@ -10,6 +10,8 @@ pub mod Most
 pub mod Bent
 pub mod Exact
 pub mod Ductility
+pub mod LeastSpectrum
+pub mod LargerProducts
 pub mod LargerGround
 pub mod Least
 pub mod ZoneSpectra

@@ -1,5 +1,5 @@
--- Shares of whole numbers: c·n rounded up, which is `upIn n c`. A larger fraction has no smaller share, rounded up or down. The larger of two shares of a number is the share of the larger fraction. The share of
--- a sum is at most the sum of the shares, and that is at most one more.
+-- Shares of whole numbers: c·n rounded up, which is `upIn n c`. A larger fraction has no smaller share, rounded up or down. The larger of two shares of a
+-- number is the share of the larger fraction. The share of a sum is at most the sum of the shares, and that is at most one more.
 -- Assumes nothing.
 use mathlib.Core.Path.{_≡_}
 use Prim.Native.Nat.{ℕ, _+_, _*_, max, _≤_, _<_}

@@ -3,11 +3,9 @@
 -- Assumes nothing.
 use mathlib.Core.Path.{_≡_, sym, ap, subst, subst₂, _∙_}
 use Prim.Native.Nat.{ℕ, _≤_, _<_}
-use native.Mathlib.Nat.{le-trans}
 use native.Mathlib.Omega.{arith}
 use Rattle.limits.specs.declared.frame.Frame.{Frame}
 use Rattle.limits.specs.declared.frame.FrameValues.{FrameValues}
-use Rattle.limits.specs.declared.ground.Ground.{Ground}
 use Rattle.limits.specs.declared.ground.GroundValues.{GroundValues}
 use Rattle.limits.specs.declared.judging.Given.{Given}
 use Rattle.limits.specs.Allowed.{AllowedShearCall}
@@ -15,21 +13,18 @@ use Rattle.limits.proofs.AcceptedCalls.{shear-call-allowed}
 use Rattle.limits.proofs.GivenIs.{GivenIs, given-is}
 use Rattle.limits.proofs.Passed.{one-value}
 use Rattle.site.specs.Ground.{groundHazards}
-use Rattle.site.specs.declared.hazard.Hazards.{Hazards}
 use Rattle.response.specs.Period.{periodMost}
 use Rattle.response.specs.Unit.{unit}
 use Rattle.base_shear.specs.declared.Figures.{Figures}
 use Rattle.base_shear.specs.Moves.{NoLighter}
 use Rattle.base_shear.specs.Ready.{Reached}
-use Rattle.base_shear.specs.Shears.{shear, star, base, figuresAt}
-use Rattle.base_shear.proofs.Behind.{Behind}
-use Rattle.base_shear.proofs.Moves.{shear-never-lower, star-never-lower, base-never-lower, shear-never-higher, star-never-falls}
-use Rattle.base_shear.proofs.NeverRises.{base-never-rises}
+use Rattle.base_shear.specs.Shears.{figuresAt}
 use Rattle.job.specs.declared.FiguresAnswer.the-variants.{Taken}
 use Rattle.job.specs.Moves.{NoneLower, AsRGrows}
 use Rattle.job.specs.ShearCall.{givenHazards, buildingFigures, Sheared}
+use Rattle.job.proofs.FiguresMove.{figures-never-lower, figures-as-r-grows}
 use Rattle.job.proofs.GivenReached.{given-reached, given-between}
-use Rattle.job.proofs.GroundMoves.{ground-more-ductile, ground-behind}
+use Rattle.job.proofs.GroundMoves.{ground-ahead}
 use Rattle.job.proofs.Sheared.{taken-accepted}
 
 -- ---- an answered call: what was given, and its figures at its own T
@@ -57,59 +52,7 @@ answered s f W h n c =
       period = subst (λ (T : ℕ). T ≤ periodMost) (sym t) (given-between g W h all .3);
     }
 
--- ---- the figures, of hazards and frames within reach
-figures-never-lower : (k : Hazards) (T : ℕ) → Reached k → (f f′ : Frame) (W W′ : ℕ) → 0 < f′ .alpha → NoLighter f W f′ W′
-    → NoneLower (figuresAt unit k f W T) (figuresAt unit k f′ W′ T)
-unfolding figuresAt
-figures-never-lower k T c f f′ W W′ pa l =
-    let g = c .shearing 0 (omega arith) in
-    let pd = g .divisor .0 in
-    let pe = g .stardivisor .0 in
-    record {
-      v = shear-never-lower unit k T (omega arith) pd pe f f′ W W′ pa l (k .design);
-      vm = shear-never-lower unit k T (omega arith) pd pe f f′ W W′ pa l (k .mce);
-      star = star-never-lower unit k T (omega arith) pd pe f f′ W W′ pa l;
-      vd = base-never-lower unit k T (omega arith) pd pe f f′ W W′ pa l;
-    }
-
-module _ (x : Ground) (R R′ T : ℕ) (h : R ≤ R′) (c : Reached (groundHazards x R)) (c′ : Reached (groundHazards x R′))
-    (b : Behind unit (groundHazards x R) T) (t : T ≤ periodMost) where
-  abbrev k : Hazards
-  k = groundHazards x R
-
-  abbrev k′ : Hazards
-  k′ = groundHazards x R′
-
-  -- with one frame for both
-  one-frame : (f : Frame) (W : ℕ) → 0 < f .alpha → AsRGrows (figuresAt unit k f W T) (figuresAt unit k′ f W T)
-  unfolding figuresAt
-  one-frame f W pa =
-      let d = ground-more-ductile x R R′ h in
-      let g = c .shearing T t in
-      let g′ = c′ .shearing T t in
-      let m = c .meeting in
-      record {
-        v = shear-never-higher unit k k′ T d g g′ m f pa W (k .design) (k′ .design) (g .design) (g′ .design) (d .design);
-        vm = shear-never-higher unit k k′ T d g g′ m f pa W (k .mce) (k′ .mce) (g .mce) (g′ .mce) (d .mce);
-        star = star-never-falls unit k k′ T d g g′ m f pa W;
-        vd = base-never-rises unit k k′ T d g g′ m f pa W b;
-      }
-
-  -- of two frames with the same I and alpha-y
-  figures-as-r-grows : (f f′ : Frame) (W W′ : ℕ) → 0 < f .alpha → 0 < f′ .alpha → NoLighter f W f′ W′ → NoLighter f′ W′ f W
-      → AsRGrows (figuresAt unit k f W T) (figuresAt unit k′ f′ W′ T)
-  figures-as-r-grows f f′ W W′ pa pa′ up down =
-      let one = one-frame f W pa in
-      let more = figures-never-lower k′ T c′ f f′ W W′ pa′ up in
-      let less = figures-never-lower k′ T c′ f′ f W′ W pa down in
-      record {
-        v = le-trans (less .v) (one .v);
-        vm = le-trans (less .vm) (one .vm);
-        star = le-trans (one .star) (more .star);
-        vd = le-trans (less .vd) (one .vd);
-      }
-
--- ---- the answers of the shear call
+-- ---- two answered calls
 module _ (s : GroundValues) (f f′ : FrameValues) (W h W′ h′ : ℕ) (n n′ : Figures) (p : Sheared s f W h (Taken n)) (q : Sheared s f′ W′ h′ (Taken n′))
     (same : n .t ≡ n′ .t) where
   abbrev a : Answered s f W n
@@ -170,7 +113,7 @@ module _ (s : GroundValues) (f f′ : FrameValues) (W h W′ h′ : ℕ) (n n′
       let range = a .allowed .frame .r in
       subst₂ AsRGrows (sym (a .figures)) (sym second)
       (figures-as-r-grows x R R′ (n .t) more reached (subst Reached hazards reached′)
-      (ground-behind x R (a .allowed .ground) (range .0) (range .1) (n .t) (a .period)) (a .period)
+      (ground-ahead x R (a .allowed .ground) (range .0) (range .1) (n .t) (a .period)) (a .period)
       frame frame′ W W′ alpha-some alpha-some′
       (no-lighter (omega (arith, i)) (omega (arith, alpha)) (omega (arith, w)))
       (no-heavier (omega (arith, i)) (omega (arith, alpha)) (omega (arith, w))))

@@ -1,7 +1,7 @@
--- Where V* can still rise with R, V is as large as V* can become: of hazards where V's is V*'s own, as in the Taipei Basin, and of hazards where V's has no
--- smaller A and B, as near-fault factors make it. Over any unit, lines and divisors.
---   Behind s k T    with V*'s divisor e times V's: Sa is at most e times the end of the first line, 0.3; and while the factor of V* is below e, q of V is at
---                   least Sa/e
+-- V is ahead while V* can still rise with R: of hazards where V's is V*'s own, as in the Taipei Basin, and of hazards where V's has no smaller A and B, as
+-- near-fault factors make it. Over any unit, lines and divisors.
+--   Ahead s k T    V* is divided by e times what V is divided by. Sa of V* is at most e times the end of the first line, 0.3, so that V* is at its end once
+--                  its factor is e (`soon`). While its factor is below e, q of V is at least Sa/e (`ratio`)
 -- Assumes nothing.
 use mathlib.Core.Path.{_≡_, sym, ap, subst}
 use Prim.Native.Nat.{ℕ, _*_, _≤_, _<_}
@@ -39,8 +39,8 @@ lowerAt s h T = lowerFactor s (h .a) (h .b) T (h .capacity) (h .square)
 abbrev pub upperAt : ℕ → Hazard → ℕ → ℕ
 upperAt s h T = upperFactor s (h .a) (h .b) T (h .capacity) (h .square)
 
-pub record Behind (s : ℕ) (k : Hazards) (T : ℕ) : Type 0 where
-  pub spectrum : k .divisor * (1000 * spectrumAt s (k .star) T) ≤ k .stardivisor * (k .lines .first * s)
+pub record Ahead (s : ℕ) (k : Hazards) (T : ℕ) : Type 0 where
+  pub soon : k .divisor * (1000 * spectrumAt s (k .star) T) ≤ k .stardivisor * (k .lines .first * s)
   pub ratio : k .divisor * upperAt s (k .star) T < k .stardivisor * s
       → k .divisor * spectrumAt s (k .star) T ≤ k .stardivisor * ratioAt s (k .design) T
 
