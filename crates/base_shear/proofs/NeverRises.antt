@@ -1,7 +1,8 @@
 -- A larger R never raises V_D, at one T. V* rises with R only where F is below Sa/0.3, and then to I·Sa·W/(4.2·alpha-y) at most. Sa is at most 0.9 g, so F is
--- below 3 there, and V is at least that. Over any unit, lines that meet, divisors, and hazards within reach where V is `Ahead`.
+-- below 3 there, and V is at least that. So where V* is the largest, V_D stays. Over any unit, lines that meet, divisors, and hazards within reach where V is
+-- `Ahead`.
 -- Assumes nothing.
-use mathlib.Core.Path.{sym, subst₂}
+use mathlib.Core.Path.{_≡_, sym, subst₂}
 use Prim.Native.Nat.{ℕ, _*_, _≤_, _<_}
 use native.Mathlib.Nat.{le-refl, le-trans, mul-le-mul-left, mul-le-mul-right, mul-pos, le-of-mul-le-mul-left}
 use native.Mathlib.Decide.{decLe}
@@ -21,7 +22,7 @@ use Rattle.base_shear.specs.Moves.{MoreDuctileAll}
 use Rattle.base_shear.specs.Ready.{Shearing}
 use Rattle.base_shear.specs.Shears.{newtons, ratioAt, shear, star, base}
 use Rattle.base_shear.proofs.Ahead.{Ahead, spectrumAt, upperAt}
-use Rattle.base_shear.proofs.Moves.{no-lighter-itself, newtons-rise, shear-never-higher}
+use Rattle.base_shear.proofs.Moves.{no-lighter-itself, newtons-rise, shear-never-higher, star-never-falls}
 
 -- ---- newtons of x over d tenths and of m over n tenths
 newtons-across : (s n d : ℕ) (f : Frame) (W x m : ℕ) → 0 < s → 0 < n → 0 < d → 0 < f .alpha → n * x ≤ d * m
@@ -31,6 +32,10 @@ newtons-across s n d f W x m ps pn pd pa h =
     let once = up-at-most-times 1 (10_000 * (f .i * m * W)) (n * s * f .alpha) (10_000 * (f .i * x * W)) (d * s * f .alpha)
     (mul-pos (mul-pos pn ps) pa) (mul-pos (mul-pos pd ps) pa) (omega (arith, mul-le-mul-right (10_000 * (f .i * W) * (s * f .alpha)) h)) in
     omega (arith, once)
+
+star-within-base : (s : ℕ) (k : Hazards) (f : Frame) (W T : ℕ) → star s k f W T ≤ base s k f W T
+unfolding base
+star-within-base s k f W T = omega arith
 
 -- ---- V* at one R, and V at another
 module _ (s : ℕ) (k k′ : Hazards) (T : ℕ) (d : MoreDuctileAll k k′) (g : Shearing s k T) (g′ : Shearing s k′ T) (meet : Meeting (k .lines))
@@ -107,3 +112,10 @@ module _ (s : ℕ) (k k′ : Hazards) (T : ℕ) (d : MoreDuctileAll k k′) (g :
             → Dec (star s k′ f W T ≤ star s k f W T) → base s k′ f W T ≤ base s k f W T
         go v vm (yes h) = omega (arith, v, vm, h)
         go v vm (no h) = omega (arith, v, vm, risen-below-v (omega arith))
+
+    -- where V* is the largest, V_D stays as it is
+    pub base-stays : base s k f W T ≡ star s k f W T → base s k′ f W T ≡ base s k f W T
+    base-stays e =
+        let rises = star-never-falls s k k′ T d g g′ meet f pa W in
+        let within = star-within-base s k′ f W T in
+        omega (arith, e, rises, within, base-never-rises)

@@ -1,4 +1,4 @@
--- Which way the figures of a ground move at one T, in the unit in use, of frames within reach: `base_shear`'s laws, of the hazards of an allowed ground.
+-- Which way the figures of a ground move at one T, in the unit in use, of frames whose alpha-y is above 0: the laws of base_shear, of the hazards of a ground.
 -- Assumes nothing.
 use Prim.Native.Nat.{ℕ, _≤_, _<_}
 use native.Mathlib.Nat.{le-trans, lt-of-lt-of-le}
@@ -14,7 +14,7 @@ use Rattle.base_shear.specs.Ready.{Reached}
 use Rattle.base_shear.specs.Shears.{figuresAt}
 use Rattle.base_shear.proofs.Ahead.{Ahead}
 use Rattle.base_shear.proofs.Moves.{shear-never-lower, star-never-lower, base-never-lower, shear-never-higher, star-never-falls}
-use Rattle.base_shear.proofs.NeverRises.{risen-below-v, base-never-rises}
+use Rattle.base_shear.proofs.NeverRises.{risen-below-v, base-never-rises, base-stays}
 use Rattle.job.specs.Moves.{NoneLower, AsRGrows}
 use Rattle.job.proofs.GroundMoves.{ground-more-ductile}
 
@@ -54,6 +54,7 @@ module _ (x : Ground) (R R′ T : ℕ) (h : R ≤ R′) (c : Reached (groundHaza
         star = star-never-falls unit k k′ T d g g′ m f pa W;
         risen = risen-below-v unit k k′ T d g g′ m f pa W b;
         vd = base-never-rises unit k k′ T d g g′ m f pa W b;
+        level = base-stays unit k k′ T d g g′ m f pa W b;
       }
 
   -- of two frames with the same I and alpha-y
@@ -69,4 +70,5 @@ module _ (x : Ground) (R R′ T : ℕ) (h : R ≤ R′) (c : Reached (groundHaza
         star = le-trans (one .star) (more .star);
         risen = λ h. le-trans (less .star) (one .risen (lt-of-lt-of-le h (less .star)));
         vd = le-trans (less .vd) (one .vd);
+        level = λ e. omega (arith, one .level e, more .vd, less .vd);
       }

@@ -2,7 +2,9 @@
 --   withR f r, withI f i, withAlpha f a    the frame line f with another R, I, alpha-y
 --   withWeight ws x w    the weights ws with w kN at level x, counted from 0
 --   NoneLower n n′       none of V, V_M, V* and V_D is lower in n′ than in n
---   AsRGrows n n′        what a larger R does: V, V_M and V_D are no higher in n′, V* is no lower, and where V* is higher, it is at most the V of n
+--   AsRGrows n n′        what a larger R does: V, V_M and V_D are no higher in n′, and V* is no lower. Where V* is higher, it is at most the V of n; where V* is
+--                        the largest in n, V_D is the same in n′
+use mathlib.Core.Path.{_≡_}
 use mathlib.Core.List.{List}
 use Prim.Native.Nat.{ℕ, _≤_, _<_}
 use lib.ListN.{set}
@@ -33,3 +35,4 @@ pub record AsRGrows (n n′ : Figures) : Type 0 where
   pub star : n .star ≤ n′ .star
   pub risen : n .star < n′ .star → n′ .star ≤ n .v
   pub vd : n′ .vd ≤ n .vd
+  pub level : n .vd ≡ n .star → n′ .vd ≡ n .vd
