@@ -197,6 +197,9 @@ uint64_t rukeshomaji_basin_figures(uint64_t zone, const RukeshomajiFrame *frame,
  * Reference  document 000 (1), (4) to (9), (12) to (14), (16) to (20). By its 3.4 V_D scales a dynamic analysis; docs/manual/shear_and_storeys.md
  * Towers     if n calls, and the call with the sum of their weights, have the same site and frame and get the same t, then their vd add up to
  *            the vd of that call, or to at most (n - 1) N more; docs/manual/towers.md
+ * Moves      of two calls with the same site that get the same t: a larger i, a larger weight and a smaller alpha_y, with the same r, lower
+ *            none of v, vm, star and vd; a larger r, with the same i, alpha_y and weight, raises none of v, vm and vd, and does not lower
+ *            star; docs/manual/moves.md. Of a job the same, by the sum of its weights
  */
 uint64_t rukeshomaji_shear_call(const RukeshomajiSite *site, const RukeshomajiFrame *frame, uint64_t weight, uint64_t height,
                                 RukeshomajiFigures *figures);
@@ -211,6 +214,7 @@ uint64_t rukeshomaji_shear_call(const RukeshomajiSite *site, const RukeshomajiFr
  * Written    figures: all fields
  * Reference  document 000, 2.1 after (4) for the period, (6) to (8), (10), (11), (15) to (20), Table 4
  * Towers     as of rukeshomaji_shear_call, with the same zone
+ * Moves      as of rukeshomaji_shear_call, with the same zone
  */
 uint64_t rukeshomaji_basin_shear_call(uint64_t zone, const RukeshomajiFrame *frame, uint64_t weight, uint64_t height,
                                       RukeshomajiFigures *figures);

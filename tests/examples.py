@@ -19,6 +19,7 @@ from tests.model import calls, soil
 from tests.writes import by_hand
 from tests.writes.calls import scaling_lines
 from tests.writes.logs import BORING, MADE_UP
+from tests.writes.moves import moves_lines
 from tests.writes.towers import podium_lines
 
 ROOT = pathlib.Path(__file__).resolve().parents[1]
@@ -45,13 +46,13 @@ def printed(path):
 
 
 def run_programs():
-    """Three examples print the listing of the worked sheet, two what the manual has of a scaled analysis, two its towers, two the class of its
-    boring in soft clay; that in C++ prints every listing."""
+    """Three examples print the listing of the worked sheet, two what the manual has of a scaled analysis, two its towers, two
+    which way its figures move, two the class of its boring in soft clay; that in C++ prints every listing."""
     expected = (EXAMPLES / 'office.listing').read_bytes()
     for name in ('office.c', 'listing.cpp', 'rukeshomaji.py'):
         yield name, printed(EXAMPLES / name) == expected
     office = by_hand.read((EXAMPLES / 'office.sheet').read_bytes())
-    for example, lines in (('scaling', scaling_lines(office)), ('podium', podium_lines(office))):
+    for example, lines in (('scaling', scaling_lines(office)), ('podium', podium_lines(office)), ('moves', moves_lines(office))):
         expected = ''.join(f'{line}\n' for line in lines).encode()
         for name in (f'{example}.c', f'{example}.py'):
             yield name, printed(EXAMPLES / name) == expected

@@ -13,7 +13,7 @@ from math import ceil
 
 from tests.model import exact, limits, response, storeys
 from tests.model.sheet import listing
-from tests.writes import by_hand, calls, finer, logs, near_fault, roof, root, towers
+from tests.writes import by_hand, calls, finer, logs, moves, near_fault, roof, root, towers
 from tests.writes.by_hand import code, comma, decimal, ranged, table
 
 ROOT = pathlib.Path(__file__).resolve().parents[2]
@@ -114,6 +114,7 @@ def written():
              'near_fault.md': near_fault.names(example('near_fault')), 'basin.md': by_hand.names(example('basin')),
              'roof_force.md': roof.names(*map(example, ('office', 'soft_ground', 'tower'))), 'rounding.md': rounding_names(), 'soil.md': logs.names(),
              'soft_clay.md': logs.soft_clay_names(), 'root.md': root.names(), 'towers.md': towers.names(example('office')),
+             'moves.md': moves.names(example('office'), example('near_fault')),
              'shear_and_storeys.md': calls_names(), 'finer_spectrum.md': finer_names()}
     assert {path.name for path in PAGES.iterdir()} == pages.keys()
     return {page: filled(page, names) for page, names in pages.items()}

@@ -12,7 +12,7 @@ from xml.sax.saxutils import escape
 from tests.model import basin as basins, calls, exact, limits, response, site as sites, soil
 from tests.model.job import job
 from tests.writes import by_hand
-from tests.writes import finer, logs, towers as podium
+from tests.writes import finer, logs, moves as changes, towers as podium
 from tests.writes.calls import scaled
 
 ROOT = pathlib.Path(__file__).resolve().parents[2]
@@ -504,9 +504,32 @@ def towers():
     return picture.svg()
 
 
+def moves():
+    """V, V_M, V* and V_D of the worked sheet over R."""
+    office = by_hand.read(SHEET.read_bytes())
+    over, (_, end), level = changes.over_R(office), changes.STAR_RISES, changes.LEVEL
+    first, last = limits.R_RANGE[0], limits.R_RANGE[-1]
+    picture = Picture(960, 600, 'V, V_M, V* and V_D of the worked sheet over R')
+    axes = Axes(picture, (110, 70, 930, 520), last - first, Fraction(35, 10))
+    axes.frame('R', 'shear (MN)', [(R - first, decimal(Fraction(R, 100), 2)) for R in range(first, last + 1, 50)], tenths(35, 5))
+    drawn = (('V_D', 'V_D, the largest', '#c8c8c8', '', 12), ('V', 'V', BLUE, '', 3), ('V_M', 'V_M', GREEN, '12 6', 3), ('V_star', 'V*', RED, '3 5', 4))
+    for place, (name, words, colour, dash, width) in enumerate(drawn):
+        axes.curve([(R - first, Fraction(newtons, 10**6)) for R, newtons in over[name]], colour, dash, width)
+        y = 104 + 28 * place
+        picture.line([(640, y - 6), (690, y - 6)], colour, width, dash)
+        picture.words(702, y, words, size=16)
+    shears = dict(over['V_star'])
+    for R, words, right, down in ((first, f'{shears[first]:,} N', 10, 34), (end, f'R = {decimal(Fraction(end, 100), 2)}: {shears[end]:,} N, and no higher', 0, 40),
+                                  (level, f'from R = {decimal(Fraction(level, 100), 2)} on V_D is V*', -40, -40)):
+        axes.dot(R - first, Fraction(shears[R], 10**6), RED)
+        axes.words(R - first, Fraction(shears[R], 10**6), words, right=right, down=down, colour=RED, size=16)
+    picture.words(110, 36, 'The worked sheet with another R: V and V_M fall, V* can rise, V_D does not', size=19, weight='bold')
+    return picture.svg()
+
+
 DRAWN = {'spectrum': spectrum, 'factor': factor, 'modified': modified, 'storeys': storeys, 'classes': classes, 'near_fault': near_fault,
          'basin': basin, 'roof_force': roof_force, 'two_calls': two_calls, 'periods': periods, 'steps': steps,
-         'soft_clay': soft_clay, 'towers': towers}
+         'soft_clay': soft_clay, 'towers': towers, 'moves': moves}
 
 
 def wrong():
