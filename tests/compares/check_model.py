@@ -5,7 +5,7 @@ usage: python3 -m tests.compares.check_model
 
 import sys
 
-from tests.compares.checks import basin, calls, demand_3, errors, figures, finer, logs, pairs, paper, refusals, roof, sheets, towers
+from tests.compares.checks import basin, calls, demand_3, errors, figures, finer, logs, moves, pairs, paper, refusals, roof, sheets, towers
 
 
 def answer(function):
@@ -28,7 +28,7 @@ def answers(module):
 def main():
     """Run every check and print the wrong ones and one line of counts."""
     count = wrong = 0
-    for module in (figures, paper, finer, basin, pairs, roof, calls, towers, errors, refusals, logs, sheets, demand_3):
+    for module in (figures, paper, finer, basin, pairs, roof, calls, towers, moves, errors, refusals, logs, sheets, demand_3):
         for label, got, wanted in answers(module):
             count += 1
             if got != wanted:

@@ -1,6 +1,6 @@
 """01's 'Errors that look right', some of the Basin, some of two pairs of near-fault factors, some of the roof force, some of the finer unit, some
-of the shear call and the distribution, some of soft clay, some of the roots and some of towers, each put into the model: how many of the
-comparisons with the compiled core show it, and of the two calls how many of the stored cases of crates/run_calls.
+of the shear call and the distribution, some of soft clay, some of the roots, some of towers and some of which way the figures move, each put into
+the model: how many of the comparisons with the compiled core show it, and of the two calls how many of the stored cases of crates/run_calls.
 
 usage: python3 -m tests.compares.wrong_models [JOBS [SEED]]        after tests/compares/compare.py has built the archive
 """
@@ -12,9 +12,10 @@ from fractions import Fraction
 from math import ceil
 from unittest import mock
 
-from tests.compares import core, wrong_calls, wrong_logs, wrong_towers
+from tests.compares import core, wrong_calls, wrong_logs, wrong_moves, wrong_towers
 from tests.compares.compare import expected_job, expected_log, got_job
 from tests.compares.compare_calls import expected_distribution, expected_shear, got_distribution
+from tests.compares.compare_moves import got_moves
 from tests.compares.compare_towers import got_towers
 from tests.compares.tally import NEAR_FAULT
 from tests.draws import faults, pair_faults
@@ -327,7 +328,7 @@ def unseen_stored(kind, where, errors):
 
 def main(jobs=JOBS, seed=SEED):
     """Try the errors on sites, those of the Basin, of two pairs, of the roof force, of the finer unit, of the two calls, of soft clay, of the
-    roots and of towers; 1 where one is not seen at all."""
+    roots, of towers and of moves; 1 where one is not seen at all."""
     count = unseen_stored(call_cases.Shear, 'stored shear calls', wrong_calls.SHEAR_ERRORS)
     count += unseen_stored(call_cases.Distribution, 'stored distributions', DISTRIBUTION_ERRORS)
     rng, library = random.Random(seed), core.load()
@@ -341,7 +342,8 @@ def main(jobs=JOBS, seed=SEED):
             (wrong_calls.distributions, got_distribution, expected_distribution, 'distributions', DISTRIBUTION_ERRORS),
             (wrong_logs.logs, core.site_class, expected_log, 'soil logs', wrong_logs.ERRORS),
             (root_calls, got_job, expected_job, 'at exact roots and beside them', ROOT_ERRORS),
-            (wrong_towers.drawn, got_towers, wrong_towers.claimed, 'towers', wrong_towers.ERRORS)):
+            (wrong_towers.drawn, got_towers, wrong_towers.claimed, 'towers', wrong_towers.ERRORS),
+            (wrong_moves.drawn, got_moves, wrong_moves.claimed, 'moves', wrong_moves.ERRORS)):
         drawn = list(calls(rng, jobs))
         count += unseen(drawn, [got(library, *call) for call in drawn], expected, where, errors)
     return 1 if count else 0

@@ -1,4 +1,5 @@
-"""Writes the cases of the program `run_calls` and what the model says of them: shear calls and distributions (Wish 6), towers (Wish 8).
+"""Writes the cases of the program `run_calls` and what the model says of them: shear calls and distributions (Wish 6), towers (Wish 8), which
+way the figures move (Wish 14).
 
 usage: python3 -m tests.writes.call_cases        rewrites crates/run_calls/stdin and crates/run_calls/stdout
 
@@ -12,7 +13,7 @@ import pathlib
 import random
 from typing import NamedTuple
 
-from tests.draws import call_faults, calls as drawn, faults
+from tests.draws import call_faults, calls as drawn, faults, r_marks
 from tests.model import calls, limits
 from tests.writes.towers import SPLITS
 
@@ -83,6 +84,13 @@ AT_THE_TOP = OVER._replace(weights=[20_000] * 50, heights=list(range(1_951, 2_00
 
 # weights and heights of towers: those of the manual, with none, one and two newtons more on the worked sheet's site; the ends of the weight
 TOWERS = (*SPLITS, ((1, 1), (300, 2_000)), ((1, 999_999), (2_000, 300)), ((500_000, 500_000), (300, 300)))
+
+# R on the worked sheet: V* rises up to 1.75, V and V* are equal at 4.00
+BY_R = (100, 174, 175, 176, 250, 325, 400, 401, 480, 481, 600)
+# grounds and T between the corners of V and V*: N_A large alone, N_V large alone, both; every zone
+BESIDE_MARKS = ((limits.one_pair(80, 40, 100, 50, 150, 100, 3), 700), (limits.Site(50, 45, 70, 55, 100, 200, 150, 100, 2), 1_200),
+                (limits.one_pair(80, 45, 100, 55, 150, 200, 1), 600), *((limits.Basin(zone), 1_000) for zone in limits.ZONE))
+IN_BRANCHES = (60, 300, 450, 1_406, 3_000)      # T on the worked sheet's site, of a frame as high as can be
 
 
 def tower(count):
@@ -221,10 +229,39 @@ def tower_cases():
     yield from (WORKED._replace(weight=weight, height=150) for weight in (7_500, 7_500, 15_000))
 
 
+def framed(case=WORKED, **numbers):
+    """A shear call with some numbers of its frame changed."""
+    return case._replace(frame=limits.Frame(*case.frame)._replace(**numbers))
+
+
+def beside_marks(ground, T):
+    """R beside that with which V* has risen to its end, and beside that with which it comes to govern; the last."""
+    marks = (r_marks.first_level(ground, T), r_marks.first_governed(ground, T))
+    high = framed(WORKED._replace(ground=ground, height=limits.HEIGHT[-1]), kind=1, calculated_period=T)
+    return [framed(high, R=R) for R in sorted({*(R + step for R in marks for step in (-1, 0)), r_marks.LAST} & {*limits.R_RANGE})]
+
+
+def move_cases():
+    """Wish 14: other R, I, alpha-y and weights on the worked sheet's site, by one step and by more; R beside its marks near a fault and in every
+    zone; T in each branch; 1 and 2 kN."""
+    yield from (framed(R=R) for R in BY_R)
+    yield from (framed(I=I) for I in (125, 150))
+    yield from (framed(alphay=alphay) for alphay in (100, 149, 151, 200))
+    yield from (WORKED._replace(weight=weight) for weight in (14_999, 15_001, 16_000))
+    for weight in (1, 2):
+        light = WORKED._replace(weight=weight)
+        yield from (*(framed(light, alphay=alphay) for alphay in (151, 150, 149, 148)), framed(light, I=125), framed(light, R=100))
+    for ground, T in BESIDE_MARKS:
+        yield from beside_marks(ground, T)
+    for T in IN_BRANCHES:
+        high = framed(WORKED._replace(height=limits.HEIGHT[-1]), kind=1, calculated_period=T)
+        yield from (framed(high, R=R) for R in (100, 300, 600))
+
+
 def all_cases():
     """Every case, in the order of the file."""
     return [*worked_cases(), *shear_limits(), *shear_pairs(), *every_shear_at_every_period(), *handed_in_limits(), *list_cases(),
-            *level_cases(), *distribution_pairs(), *drawn_cases(), *tower_cases()]
+            *level_cases(), *distribution_pairs(), *drawn_cases(), *tower_cases(), *move_cases()]
 
 
 def stored(cases):

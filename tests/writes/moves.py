@@ -3,6 +3,7 @@
 What the page says in words is asserted here of the model. What examples/moves.c and examples/moves.py print is here too.
 """
 
+import itertools
 from fractions import Fraction
 
 from tests.model import basin as basins, calls, limits, response, site as sites
@@ -85,11 +86,12 @@ def star_table(worked):
 def other_stars(near_fault, worked):
     """V* at a smaller and a larger R, near a fault and in a zone."""
     rows = []
-    for name, result in (('near a fault, `examples/near_fault.sheet`', near_fault), (f'zone {ZONE} of the Basin', worked._replace(ground=limits.Basin(ZONE)))):
+    in_zone = worked._replace(ground=limits.Basin(ZONE))
+    for name, result in (('near a fault, `examples/near_fault.sheet`', near_fault), (f'zone {ZONE} of the Basin', in_zone)):
         low, high = (with_frame(result, R=R) for R in OTHER_RISES)
         assert low.T == high.T and low.V_star < high.V_star <= low.V and high.V_D < low.V_D
-        rows += [(name, hundredths(each.frame.R), comma(each.T), comma(each.V_star), comma(each.V), comma(each.V_M), comma(each.V_D)) for each in (low, high)]
-    return table(('', 'R', 'T, ms', 'V*, N', 'V, N', 'V_M, N', 'V_D, N'), rows)
+        rows += [(name, hundredths(each.frame.R), comma(each.T), *cells(each)) for each in (low, high)]
+    return table(('', 'R', 'T, ms', *FIGURES), rows)
 
 
 def assert_level(worked):
@@ -106,7 +108,8 @@ def assert_level(worked):
 def most_A():
     """The largest A of the design level without near-fault factors, in g."""
     none = sites.NO_NEAR_FAULT
-    return Fraction(max(sites.A_and_B(S_S, S_1, none, none, cls)[0] for S_S in limits.S_S_DESIGN for S_1 in limits.S_1_DESIGN for cls in limits.CLASS), 10**8)
+    every = itertools.product(limits.S_S_DESIGN, limits.S_1_DESIGN, limits.CLASS)
+    return Fraction(max(sites.A_and_B(S_S, S_1, none, none, cls)[0] for S_S, S_1, cls in every), 10**8)
 
 
 def metres(height):
@@ -190,16 +193,17 @@ def names(data, near_fault_data):
     most, basin_most = most_A(), Fraction(basins.S_DS, 10**8)
     assert most / Fraction(3, 10) < 3 and basin_most / Fraction(3, 10) < Fraction(5, 2) and sites.V_STAR == 3 * Fraction(14, 10)
     assert basins.V_STAR == Fraction(5, 2) * Fraction(14, 10)
-    return {'light_W': str(LIGHT), 'light_V_D': comma(light[0]), 'light_alphay': hundredths(LIGHT_ALPHAY[0]), 'light_smaller': hundredths(LIGHT_ALPHAY[1]),
-            'I': hundredths(frame.I), 'alphay': hundredths(frame.alphay), 'R': hundredths(frame.R), 'level': comma(office.weights[0]), 'T': comma(office.T),
-            'changes_table': changes_table(office), 'T0': decimal(T0), 'Sa': in_ones(office.star.spectrum), 'star_table': star_table(office),
-            'star_low': hundredths(STAR_RISES[0]), 'star_high': hundredths(STAR_RISES[1]), 'star_before': comma(low.V_star), 'star_after': comma(high.V_star),
+    return {'light_W': str(LIGHT), 'light_V_D': comma(light[0]), 'light_alphay': hundredths(LIGHT_ALPHAY[0]),
+            'light_smaller': hundredths(LIGHT_ALPHAY[1]), 'I': hundredths(frame.I), 'alphay': hundredths(frame.alphay), 'R': hundredths(frame.R),
+            'level': comma(office.weights[0]), 'T': comma(office.T), 'changes_table': changes_table(office), 'T0': decimal(T0),
+            'Sa': in_ones(office.star.spectrum), 'star_table': star_table(office), 'star_low': hundredths(STAR_RISES[0]),
+            'star_high': hundredths(STAR_RISES[1]), 'star_before': comma(low.V_star), 'star_after': comma(high.V_star),
             'star_percent': str(round(100 * Fraction(high.V_star - low.V_star, low.V_star))), 'end_factor': in_ones(high.star.upper_factor),
-            'v_fall': comma(low.V - high.V), 'vm_fall': comma(low.V_M - high.V_M), 'vd_fall': comma(low.V_D - high.V_D), 'level_R': hundredths(LEVEL),
-            'last_R': hundredths(limits.R_RANGE[-1]), 'other_stars': other_stars(near_fault, office), 'most_A': decimal(most),
-            'most_factor': decimal(most / Fraction(3, 10), 2), 'basin_A': decimal(basin_most), 'basin_factor': decimal(basin_most / Fraction(3, 10)),
-            'period_table': period_table(office), 'rising_zone': str(RISING[0].zone), 'rising_kind': str(RISING[1].kind), 'rising_R': hundredths(RISING[1].R),
-            **roof_names(office), 'printed': code(moves_lines(office))}
+            'v_fall': comma(low.V - high.V), 'vm_fall': comma(low.V_M - high.V_M), 'vd_fall': comma(low.V_D - high.V_D),
+            'level_R': hundredths(LEVEL), 'last_R': hundredths(limits.R_RANGE[-1]), 'other_stars': other_stars(near_fault, office),
+            'most_A': decimal(most), 'most_factor': decimal(most / Fraction(3, 10), 2), 'basin_A': decimal(basin_most),
+            'basin_factor': decimal(basin_most / Fraction(3, 10)), 'period_table': period_table(office), 'rising_zone': str(RISING[0].zone),
+            'rising_kind': str(RISING[1].kind), 'rising_R': hundredths(RISING[1].R), **roof_names(office), 'printed': code(moves_lines(office))}
 
 
 def over_R(worked):
