@@ -202,7 +202,7 @@ def names(data, near_fault_data):
             'v_fall': comma(low.V - high.V), 'vm_fall': comma(low.V_M - high.V_M), 'vd_fall': comma(low.V_D - high.V_D),
             'level_R': hundredths(LEVEL), 'last_R': hundredths(limits.R_RANGE[-1]), 'other_stars': other_stars(near_fault, office),
             'most_A': decimal(most), 'most_factor': decimal(most / Fraction(3, 10), 2), 'basin_A': decimal(basin_most),
-            'basin_factor': decimal(basin_most / Fraction(3, 10)), 'period_table': period_table(office), 'rising_zone': str(RISING[0].zone),
+            'basin_factor': decimal(basin_most / Fraction(3, 10)), 'period_table': period_table(office),
             'rising_kind': str(RISING[1].kind), 'rising_R': hundredths(RISING[1].R), **roof_names(office), 'printed': code(moves_lines(office))}
 
 

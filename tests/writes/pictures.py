@@ -519,8 +519,9 @@ def moves():
         picture.line([(640, y - 6), (690, y - 6)], colour, width, dash)
         picture.words(702, y, words, size=16)
     shears = dict(over['V_star'])
-    for R, words, right, down in ((first, f'{shears[first]:,} N', 10, 34), (end, f'R = {decimal(Fraction(end, 100), 2)}: {shears[end]:,} N, and no higher', 0, 40),
-                                  (level, f'from R = {decimal(Fraction(level, 100), 2)} on V_D is V*', -40, -40)):
+    said = ((first, f'{shears[first]:,} N', 10, 34), (end, f'R = {decimal(Fraction(end, 100), 2)}: {shears[end]:,} N, and no higher', 0, 40),
+            (level, f'from R = {decimal(Fraction(level, 100), 2)} on V_D is V*', -40, -40))
+    for R, words, right, down in said:
         axes.dot(R - first, Fraction(shears[R], 10**6), RED)
         axes.words(R - first, Fraction(shears[R], 10**6), words, right=right, down=down, colour=RED, size=16)
     picture.words(110, 36, 'The worked sheet with another R: V and V_M fall, V* can rise, V_D does not', size=19, weight='bold')

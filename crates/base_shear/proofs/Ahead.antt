@@ -3,41 +3,32 @@
 --   Ahead s k T    V* is divided by e times what V is divided by. Sa of V* is at most e times the end of the first line, 0.3, so that V* is at its end once
 --                  its factor is e (`soon`). While its factor is below e, q of V is at least Sa/e (`ratio`)
 -- Assumes nothing.
-use mathlib.Core.Path.{_≡_, sym, ap, subst}
+use mathlib.Core.Path.{_≡_, sym, subst}
 use Prim.Native.Nat.{ℕ, _*_, _≤_, _<_}
 use native.Mathlib.Nat.{lt-of-lt-of-le, mul-comm, mul-le-mul-left, mul-le-mul-right, mul-pos, le-of-mul-le-mul-left}
 use native.Mathlib.Omega.{arith}
 use Rattle.whole.specs.declared.Fraction.{Fraction}
-use Rattle.whole.specs.Fraction.{over, times, AtMost, upIn, downIn}
+use Rattle.whole.specs.Fraction.{over, AtMost, upIn, downIn}
 use Rattle.whole.specs.Root.{lowerRoot, upperRoot}
-use Rattle.whole.specs.Rounding.{up}
 use Rattle.whole.proofs.Order.{at-most-trans}
 use Rattle.whole.proofs.Rounding.{up-law, down-law, up-most}
 use Rattle.site.specs.declared.hazard.Hazard.{Hazard}
 use Rattle.site.specs.declared.hazard.Hazards.{Hazards}
-use Rattle.response.specs.Factor.{lowerFactor, upperFactor}
+use Rattle.response.specs.Factor.{lowerFactor}
 use Rattle.response.specs.Ratio.{ratio}
 use Rattle.response.specs.Reach.{FineUnit}
 use Rattle.response.specs.Spectrum.{exactSpectrum, spectrum}
-use Rattle.response.proofs.Branches.{weights-positive, lower-is-mean, upper-is-mean}
+use Rattle.response.proofs.Branches.{mean-positive, lower-is-mean, upper-is-mean}
 use Rattle.response.proofs.Ductility.{lower-below-upper}
 use Rattle.response.proofs.Exact.{mean-rises}
 use Rattle.response.proofs.LargerGround.{Rooted, larger-ground}
 use Rattle.response.proofs.Mean.{mean, weights}
-use Rattle.response.proofs.Most.{lower-factor-least, spectrum-positive}
+use Rattle.response.proofs.Most.{spectrum-positive}
 use Rattle.response.proofs.Reached.{roots-ordered}
 use Rattle.response.proofs.Spectra.{left-positive}
 use Rattle.base_shear.specs.Ready.{Ready}
 use Rattle.base_shear.specs.Shears.{ratioAt}
-
-abbrev pub spectrumAt : ℕ → Hazard → ℕ → ℕ
-spectrumAt s h T = spectrum s (h .a) (h .b) T
-
-abbrev pub lowerAt : ℕ → Hazard → ℕ → ℕ
-lowerAt s h T = lowerFactor s (h .a) (h .b) T (h .capacity) (h .square)
-
-abbrev pub upperAt : ℕ → Hazard → ℕ → ℕ
-upperAt s h T = upperFactor s (h .a) (h .b) T (h .capacity) (h .square)
+use Rattle.base_shear.proofs.Stages.{spectrumAt, lowerAt, upperAt, lower-some}
 
 pub record Ahead (s : ℕ) (k : Hazards) (T : ℕ) : Type 0 where
   pub soon : k .divisor * (1000 * spectrumAt s (k .star) T) ≤ k .stardivisor * (k .lines .first * s)
@@ -48,8 +39,7 @@ pub record Ahead (s : ℕ) (k : Hazards) (T : ℕ) : Type 0 where
 ratio-least : (s : ℕ) (h : Hazard) (T : ℕ) → FineUnit s → Ready s h T → s * spectrumAt s h T ≤ lowerAt s h T * ratioAt s h T
 unfolding ratio
 ratio-least s h T u y =
-    up-law (s * spectrumAt s h T) (lowerAt s h T)
-    (lt-of-lt-of-le (u .positive) (lower-factor-least s (h .a) (h .b) T (h .capacity) (h .square) u (y .shape) (y .ductile))) .0
+    up-law (s * spectrumAt s h T) (lowerAt s h T) (lower-some s h T u y) .0
 
 -- ---- one hazard h for both, n and d the divisors of V and V*
 pub own-hazard : (s : ℕ) (h : Hazard) (T n d : ℕ) → FineUnit s → Ready s h T → n * upperAt s h T < d * s
@@ -74,9 +64,6 @@ module _ (s : ℕ) (h h′ : Hazard) (T e : ℕ) (u : FineUnit s) (y : Ready s h
   abbrev second : Fraction
   second = mean (weights (h′ .a) (h′ .b) T) root (h .capacity)
 
-  means-positive : (A B : ℕ) (r : Fraction) → 0 < B → 0 < r .den → 0 < mean (weights A B T) r (h .capacity) .den
-  means-positive A B r pb pr = mul-pos (weights-positive A B T pb) (mul-pos pr (y .ductile .cap-positive))
-
   -- the factor of V* at the lower root is at most e while its upper factor is
   first-within : upperAt s h T ≤ e * s → first .num ≤ e * first .den
   first-within below =
@@ -84,7 +71,7 @@ module _ (s : ℕ) (h h′ : Hazard) (T e : ℕ) (u : FineUnit s) (y : Ready s h
       let m = mean (weights (h .a) (h .b) T) upper (h .capacity) in
       let is = upper-is-mean s (h .a) (h .b) T (h .capacity) (h .square) (u .positive) (y .shape .a-positive) (y .shape .b-positive)
       (y .ductile .cap-positive) in
-      let p = means-positive (h .a) (h .b) upper (y .shape .b-positive) (u .positive) in
+      let p = mean-positive (h .a) (h .b) T upper (h .capacity) (y .shape .b-positive) (u .positive) (y .ductile .cap-positive) in
       let law = up-law (s * m .num) (m .den) p .0 in
       let most : upIn s m ≤ e * s = subst (λ (z : ℕ). z ≤ e * s) is below in
       let within : AtMost m (over e 1) =
@@ -105,12 +92,10 @@ module _ (s : ℕ) (h h′ : Hazard) (T e : ℕ) (u : FineUnit s) (y : Ready s h
   larger-hazard below =
       let x = exactSpectrum (h .a) (h .b) T in
       let x′ = exactSpectrum (h′ .a) (h′ .b) T in
-      let p = means-positive (h′ .a) (h′ .b) root (y′ .shape .b-positive) (u .positive) in
-      let pf = lt-of-lt-of-le (u .positive)
-      (lower-factor-least s (h′ .a) (h′ .b) T (h′ .capacity) (h′ .square) u (y′ .shape) (y′ .ductile)) in
+      let p = mean-positive (h′ .a) (h′ .b) T root (h .capacity) (y′ .shape .b-positive) (u .positive) (y .ductile .cap-positive) in
       up-most (s * x .num) (x .den) (e * ratioAt s h′ T) (spectrum-positive (h .a) (h .b) T (y .shape .b-positive))
       (chain e s (lowerAt s h′ T) (ratioAt s h′ T) (upIn s x′) (second .num) (second .den) (x .num) (x .den) (x′ .num) (x′ .den)
-      (u .positive) pf p
+      (u .positive) (lower-some s h′ T u y′) p
       (spectrum-positive (h′ .a) (h′ .b) T (y′ .shape .b-positive))
       (ratio-least s h′ T u y′)
       (subst (λ (z : ℕ). second .den * z ≤ s * second .num) (sym lower-is) (down-law (s * second .num) (second .den) p .0))

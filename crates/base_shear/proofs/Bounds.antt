@@ -2,7 +2,7 @@
 -- is at most 2.
 -- Assumes nothing.
 use Prim.Native.Nat.{ℕ, _*_, _≤_, _<_}
-use native.Mathlib.Nat.{le-trans, lt-of-lt-of-le, mul-le-mul, mul-le-mul-right, mul-pos, le-max-left, max-le}
+use native.Mathlib.Nat.{le-trans, mul-le-mul, mul-le-mul-right, mul-pos, le-max-left, max-le}
 use native.Mathlib.Omega.{arith}
 use Rattle.whole.proofs.Rounding.{up-most}
 use Rattle.limits.specs.Allowed.{AllowedFrame}
@@ -10,26 +10,20 @@ use Rattle.limits.specs.Levels.{totalMost}
 use Rattle.limits.specs.declared.frame.Frame.{Frame}
 use Rattle.site.specs.declared.hazard.Hazard.{Hazard}
 use Rattle.site.specs.declared.hazard.Hazards.{Hazards}
-use Rattle.response.specs.Factor.{lowerFactor}
 use Rattle.response.specs.Period.{periodMost}
 use Rattle.response.specs.Reach.{FineUnit}
 use Rattle.response.specs.Spectrum.{spectrum}
 use Rattle.response.specs.Unit.{unit}
 use Rattle.response.proofs.Least.{up-some, spectrum-some, ratio-some, modified-some}
-use Rattle.response.proofs.Most.{spectrum-below, spectrum-most, lower-factor-least, ratio-most, modified-rises, blended-within}
+use Rattle.response.proofs.Most.{spectrum-below, spectrum-most, ratio-most, modified-rises, blended-within}
 use Rattle.base_shear.specs.Ready.{Ready, Shearing, Within, Bounded, Reached}
 use Rattle.base_shear.specs.Shears.{newtons, ratioAt, shear, star, base}
+use Rattle.base_shear.proofs.Stages.{lower-least, lower-some}
 
 -- ---- the ratio of a hazard within reach
 module _ (s : ℕ) (h : Hazard) (t : ℕ) (u : FineUnit s) (r : Ready s h t) where
-  least : s ≤ lowerFactor s (h .a) (h .b) t (h .capacity) (h .square)
-  least = lower-factor-least s (h .a) (h .b) t (h .capacity) (h .square) u (r .shape) (r .ductile)
-
-  factor-some : 0 < lowerFactor s (h .a) (h .b) t (h .capacity) (h .square)
-  factor-some = lt-of-lt-of-le (u .positive) least
-
   ratio-within : ratioAt s h t ≤ spectrum s (h .a) (h .b) t
-  ratio-within = ratio-most s _ _ factor-some least
+  ratio-within = ratio-most s _ _ (lower-some s h t u r) (lower-least s h t u r)
 
   pub ratio-at-most : ratioAt s h t ≤ 2 * s
   ratio-at-most = le-trans ratio-within (spectrum-most s (h .a) (h .b) t (r .shape .b-positive) (r .shape .a-most))
@@ -38,7 +32,7 @@ module _ (s : ℕ) (h : Hazard) (t : ℕ) (u : FineUnit s) (r : Ready s h t) whe
   ratio-at-some =
       ratio-some s _ _ (u .positive)
       (spectrum-some s (h .a) (h .b) t (u .positive) (r .shape .a-positive) (r .shape .b-positive))
-      factor-some
+      (lower-some s h t u r)
 
 module _ (k : Hazards) (f : Frame) (W T : ℕ) (c : Reached k) (b : AllowedFrame f) (t : T ≤ periodMost) where
   abbrev g : Shearing unit k T

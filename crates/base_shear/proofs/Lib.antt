@@ -1,4 +1,5 @@
 pub mod Literal
+pub mod Stages
 pub mod Bounds
 pub mod Share
 pub mod Moves

@@ -1,9 +1,9 @@
 -- Which way the shears move, at one T. A larger I, a larger W and a smaller alpha-y lower none of V, V_M, V* and V_D; a larger R never raises V or V_M, and
 -- never lowers V*. Over any unit, lines that meet, and hazards within reach.
 -- Assumes nothing.
-use mathlib.Core.Path.{_≡_, sym, subst₂}
+use mathlib.Core.Path.{sym, subst₂}
 use Prim.Native.Nat.{ℕ, _*_, _≤_, _<_}
-use native.Mathlib.Nat.{le-refl, lt-of-lt-of-le, mul-le-mul, mul-le-mul-left, mul-pos}
+use native.Mathlib.Nat.{le-refl, mul-le-mul, mul-le-mul-left, mul-pos}
 use native.Mathlib.Omega.{arith}
 use Rattle.whole.proofs.Rounding.{up-mono}
 use Rattle.limits.specs.declared.frame.Frame.{Frame}
@@ -15,10 +15,11 @@ use Rattle.response.specs.Ratio.{ratio, blended}
 use Rattle.response.specs.Reach.{FineUnit, Meeting}
 use Rattle.response.specs.Spectrum.{spectrum}
 use Rattle.response.proofs.Ductility.{lower-factor-rises, upper-factor-rises, ratio-falls, blended-rises}
-use Rattle.response.proofs.Most.{lower-factor-least, modified-rises}
+use Rattle.response.proofs.Most.{modified-rises}
 use Rattle.base_shear.specs.Moves.{NoLighter, MoreDuctile, MoreDuctileAll}
 use Rattle.base_shear.specs.Ready.{Ready, Shearing}
 use Rattle.base_shear.specs.Shears.{newtons, ratioAt, modifiedAt, blendedAt, shear, star, base}
+use Rattle.base_shear.proofs.Stages.{lower-some}
 
 -- what stays as it is
 pub no-lighter-itself : (f : Frame) (W : ℕ) → NoLighter f W f W
@@ -34,30 +35,25 @@ module _ (s n : ℕ) (ps : 0 < s) (pn : 0 < n) (f f′ : Frame) (W W′ : ℕ) (
       (mul-le-mul-left 10_000 (mul-le-mul (mul-le-mul (l .i) h) (l .weight)))
 
 -- ---- I, W and alpha-y, at the hazards of one R
-module _ (s : ℕ) (k : Hazards) (T : ℕ) (ps : 0 < s) (pd : 0 < k .divisor) (pe : 0 < k .stardivisor) (f f′ : Frame) (W W′ : ℕ)
-    (pa : 0 < f′ .alpha) (l : NoLighter f W f′ W′) where
-  pub shear-never-lower : (h : Hazard) → shear s k h f W T ≤ shear s k h f′ W′ T
+module _ (s : ℕ) (k : Hazards) (T : ℕ) (ps : 0 < s) (f f′ : Frame) (W W′ : ℕ) (pa : 0 < f′ .alpha) (l : NoLighter f W f′ W′) where
+  pub shear-never-lower : 0 < k .divisor → (h : Hazard) → shear s k h f W T ≤ shear s k h f′ W′ T
   unfolding shear
-  shear-never-lower h = newtons-rise s (k .divisor) ps pd f f′ W W′ pa l _ _ (le-refl (modifiedAt s (k .lines) h T))
+  shear-never-lower pd h = newtons-rise s (k .divisor) ps pd f f′ W W′ pa l _ _ (le-refl (modifiedAt s (k .lines) h T))
 
-  pub star-never-lower : star s k f W T ≤ star s k f′ W′ T
+  pub star-never-lower : 0 < k .stardivisor → star s k f W T ≤ star s k f′ W′ T
   unfolding star
-  star-never-lower = newtons-rise s (k .stardivisor) ps pe f f′ W W′ pa l _ _ (le-refl (blendedAt s (k .lines) (k .star) T))
+  star-never-lower pe = newtons-rise s (k .stardivisor) ps pe f f′ W W′ pa l _ _ (le-refl (blendedAt s (k .lines) (k .star) T))
 
-  pub base-never-lower : base s k f W T ≤ base s k f′ W′ T
+  pub base-never-lower : 0 < k .divisor → 0 < k .stardivisor → base s k f W T ≤ base s k f′ W′ T
   unfolding base
-  base-never-lower = omega (arith, shear-never-lower (k .design), shear-never-lower (k .mce), star-never-lower)
+  base-never-lower pd pe = omega (arith, shear-never-lower pd (k .design), shear-never-lower pd (k .mce), star-never-lower pe)
 
 -- ---- R: the stages of one hazard
 module _ (s : ℕ) (h h′ : Hazard) (T : ℕ) (u : FineUnit s) (y : Ready s h T) (y′ : Ready s h′ T) (d : MoreDuctile h h′) where
-  factor-some : 0 < lowerFactor s (h .a) (h .b) T (h .capacity) (h .square)
-  factor-some =
-      lt-of-lt-of-le (u .positive) (lower-factor-least s (h .a) (h .b) T (h .capacity) (h .square) u (y .shape) (y .ductile))
-
   ratio-at-falls : ratioAt s h′ T ≤ ratioAt s h T
   ratio-at-falls =
       subst₂ (λ (a b : ℕ). ratio s (spectrum s a b T) (lowerFactor s a b T (h′ .capacity) (h′ .square)) ≤ ratioAt s h T) (d .a) (d .b)
-      (ratio-falls s (spectrum s (h .a) (h .b) T) _ _ factor-some
+      (ratio-falls s (spectrum s (h .a) (h .b) T) _ _ (lower-some s h T u y)
       (lower-factor-rises s (h .a) (h .b) T (h .capacity) (h .square) (h′ .capacity) (h′ .square) u (y .shape) (y .ductile) (y′ .ductile)
       (d .capacity) (d .square)))
 

@@ -1,6 +1,6 @@
--- A larger R never raises V_D, at one T. V* rises with R only where F is below Sa/0.3, and then to I·Sa·W/(4.2·alpha-y) at most. Sa is at most 0.9 g, so F is
--- below 3 there, and V is at least that. So where V* is the largest, V_D stays. Over any unit, lines that meet, divisors, and hazards within reach where V is
--- `Ahead`.
+-- A larger R never raises V_D, at one T. V* rises with R only while F is below Sa over the end of the first line, which is Sa/0.3, and never above
+-- I·Sa·W over its divisor and alpha-y. Where V is `Ahead`, V is at least that while V* rises. And as V* never falls, V_D stays where V* is the largest. Over
+-- any unit, lines that meet, divisors, and hazards within reach.
 -- Assumes nothing.
 use mathlib.Core.Path.{_≡_, sym, subst₂}
 use Prim.Native.Nat.{ℕ, _*_, _≤_, _<_}
@@ -21,8 +21,9 @@ use Rattle.response.proofs.Most.{blended-within}
 use Rattle.base_shear.specs.Moves.{MoreDuctileAll}
 use Rattle.base_shear.specs.Ready.{Shearing}
 use Rattle.base_shear.specs.Shears.{newtons, ratioAt, shear, star, base}
-use Rattle.base_shear.proofs.Ahead.{Ahead, spectrumAt, upperAt}
+use Rattle.base_shear.proofs.Ahead.{Ahead}
 use Rattle.base_shear.proofs.Moves.{no-lighter-itself, newtons-rise, shear-never-higher, star-never-falls}
+use Rattle.base_shear.proofs.Stages.{spectrumAt, upperAt}
 
 -- ---- newtons of x over d tenths and of m over n tenths
 newtons-across : (s n d : ℕ) (f : Frame) (W x m : ℕ) → 0 < s → 0 < n → 0 < d → 0 < f .alpha → n * x ≤ d * m
@@ -57,16 +58,16 @@ module _ (s : ℕ) (k k′ : Hazards) (T : ℕ) (d : MoreDuctileAll k k′) (g :
       (blended-within (k .lines) meet sa (upperFactor s (k .star .a) (k .star .b) T (h .capacity) (h .square)))))
 
   -- where F is at least Sa/0.3 it is there
-  pub star-at-end : 1000 * sa ≤ k .lines .first * upperAt s (k .star) T → end ≤ star s k f W T
+  star-at-end : 1000 * sa ≤ k .lines .first * upperAt s (k .star) T → end ≤ star s k f W T
   unfolding star
-  star-at-end h = rw (blended-full (k .lines) meet sa (upperAt s (k .star) T) h) (le-refl end)
+  star-at-end h = rw (blended-full (k .lines) sa (upperAt s (k .star) T) h) (le-refl end)
 
   -- and so a larger R leaves it as it is
   pub star-stays : 1000 * sa ≤ k .lines .first * upperAt s (k .star) T → star s k′ f W T ≤ star s k f W T
   star-stays h = le-trans star-to-end (star-at-end h)
 
   module _ (b : Ahead s k T) where
-    -- where F is less than what divides V* has more than V's, V is as large as the end
+    -- as far as q and Sa go by their divisors, so does m
     bent-enough : k .divisor * sa ≤ k .stardivisor * ratioAt s (k .design) T
         → k .divisor * (1000 * sa) ≤ k .stardivisor * bent (k .lines) (ratioAt s (k .design) T) s
     bent-enough h = go (decLe (1000 * q) (k .lines .first * s))
@@ -75,11 +76,12 @@ module _ (s : ℕ) (k k′ : Hazards) (T : ℕ) (d : MoreDuctileAll k k′) (g :
         q = ratioAt s (k .design) T
 
         go : Dec (1000 * q ≤ k .lines .first * s) → k .divisor * (1000 * sa) ≤ k .stardivisor * bent (k .lines) q s
-        go (yes n) = rw (bent-first (k .lines) meet q s n) (omega (arith, h))
+        go (yes n) = rw (bent-first (k .lines) q s n) (omega (arith, h))
         go (no n) =
             let past : k .lines .first * s ≤ 1000 * q = omega arith in
             le-trans (b .soon) (mul-le-mul-left (k .stardivisor) (bent-past-first (k .lines) meet q s past))
 
+    -- while F is below the one divisor over the other, V is at least the end
     v-at-end : k .divisor * upperAt s (k .star) T < k .stardivisor * s → end ≤ shear s k (k .design) f W T
     unfolding shear modified
     v-at-end h =

@@ -1,4 +1,4 @@
--- What is no smaller where one thing of a building is changed, whatever hazards it has.
+-- What is known of two frames, two weights and two hazards where one thing is changed, whatever made the hazards.
 --   NoLighter f W f′ W′    I and W are no smaller, and alpha-y is no larger
 --   MoreDuctile h h′       the hazard of a larger R: the same A and B, a capacity and a square that are no smaller
 --   MoreDuctileAll k k′    so it is of the three hazards; lines and divisors are the same

@@ -1,5 +1,6 @@
 -- Which way the figures of the shear call move, on one ground, a site or a zone of the Taipei Basin, at one period in use. The premises are that both calls
--- were answered with figures, that T is the same, and the change. Kind, calculated period and height may differ: T is all that they do.
+-- were answered with figures, that T is the same, and the change. Kind, calculated period and height may differ: T is all that they make. Where they do
+-- not, T is the same.
 -- Assumes nothing.
 use mathlib.Core.Path.{_≡_, sym, ap, subst, subst₂, _∙_}
 use Prim.Native.Nat.{ℕ, _≤_, _<_}
@@ -9,11 +10,12 @@ use Rattle.limits.specs.declared.frame.FrameValues.{FrameValues}
 use Rattle.limits.specs.declared.ground.GroundValues.{GroundValues}
 use Rattle.limits.specs.declared.judging.Given.{Given}
 use Rattle.limits.specs.Allowed.{AllowedShearCall}
+use Rattle.limits.specs.Frame.{judgedKind}
 use Rattle.limits.proofs.AcceptedCalls.{shear-call-allowed}
 use Rattle.limits.proofs.GivenIs.{GivenIs, given-is}
 use Rattle.limits.proofs.Passed.{one-value}
 use Rattle.site.specs.Ground.{groundHazards}
-use Rattle.response.specs.Period.{periodMost}
+use Rattle.response.specs.Period.{periodOf, periodMost}
 use Rattle.response.specs.Unit.{unit}
 use Rattle.base_shear.specs.declared.Figures.{Figures}
 use Rattle.base_shear.specs.Moves.{NoLighter}
@@ -24,19 +26,19 @@ use Rattle.job.specs.Moves.{NoneLower, AsRGrows}
 use Rattle.job.specs.ShearCall.{givenHazards, buildingFigures, Sheared}
 use Rattle.job.proofs.FiguresMove.{figures-never-lower, figures-as-r-grows}
 use Rattle.job.proofs.GivenReached.{given-reached, given-between}
-use Rattle.job.proofs.GroundMoves.{ground-ahead}
+use Rattle.job.proofs.GroundAhead.{ground-ahead}
 use Rattle.job.proofs.Sheared.{taken-accepted}
 
 -- ---- an answered call: what was given, and its figures at its own T
-record Answered (s : GroundValues) (f : FrameValues) (W : ℕ) (n : Figures) : Type 0 where
+record Answered (s : GroundValues) (f : FrameValues) (W h : ℕ) (n : Figures) : Type 0 where
   given : Given
   is : GivenIs s f given
-  height : ℕ
-  allowed : AllowedShearCall given W height
+  allowed : AllowedShearCall given W h
+  made : n .t ≡ periodOf (given .frame .kind) (given .frame .calculated) h
   figures : n ≡ figuresAt unit (givenHazards given) (given .frame) W (n .t)
   period : n .t ≤ periodMost
 
-answered : (s : GroundValues) (f : FrameValues) (W h : ℕ) (n : Figures) → Sheared s f W h (Taken n) → Answered s f W n
+answered : (s : GroundValues) (f : FrameValues) (W h : ℕ) (n : Figures) → Sheared s f W h (Taken n) → Answered s f W h n
 unfolding figuresAt
 answered s f W h n c =
     let a = taken-accepted s f W h n c in
@@ -46,19 +48,30 @@ answered s f W h n c =
     record {
       given = g;
       is = given-is s f W h g (a .judged);
-      height = h;
       allowed = all;
+      made = t;
       figures = a .figures ∙ ap (λ (T : ℕ). figuresAt unit (givenHazards g) (g .frame) W T) (sym t);
       period = subst (λ (T : ℕ). T ≤ periodMost) (sym t) (given-between g W h all .3);
     }
 
+-- ---- T is of kind, calculated period and height alone
+module _ (s : GroundValues) (f f′ : FrameValues) (W h W′ h′ : ℕ) (n n′ : Figures) (p : Sheared s f W h (Taken n)) (q : Sheared s f′ W′ h′ (Taken n′)) where
+  pub same-period : f .kind ≡ f′ .kind → f .calculated ≡ f′ .calculated → h ≡ h′ → n .t ≡ n′ .t
+  same-period kind calculated height =
+      let a = answered s f W h n p in
+      let a′ = answered s f′ W′ h′ n′ q in
+      let one-kind : a .given .frame .kind ≡ a′ .given .frame .kind = one-value (sym (a .is .kind) ∙ ap judgedKind kind ∙ a′ .is .kind) in
+      let one-calculated : a .given .frame .calculated ≡ a′ .given .frame .calculated =
+      a .is .calculated ∙ calculated ∙ sym (a′ .is .calculated) in
+      a .made ∙ (λ j. periodOf (one-kind j) (one-calculated j) (height j)) ∙ sym (a′ .made)
+
 -- ---- two answered calls
 module _ (s : GroundValues) (f f′ : FrameValues) (W h W′ h′ : ℕ) (n n′ : Figures) (p : Sheared s f W h (Taken n)) (q : Sheared s f′ W′ h′ (Taken n′))
     (same : n .t ≡ n′ .t) where
-  abbrev a : Answered s f W n
+  abbrev a : Answered s f W h n
   a = answered s f W h n p
 
-  abbrev a′ : Answered s f′ W′ n′
+  abbrev a′ : Answered s f′ W′ h′ n′
   a′ = answered s f′ W′ h′ n′ q
 
   abbrev frame : Frame
@@ -74,10 +87,10 @@ module _ (s : GroundValues) (f f′ : FrameValues) (W h W′ h′ : ℕ) (n n′
   alpha-some′ = omega (arith, a′ .allowed .frame .alpha)
 
   reached : Reached (givenHazards (a .given))
-  reached = given-reached (a .given) W (a .height) (a .allowed)
+  reached = given-reached (a .given) W h (a .allowed)
 
   reached′ : Reached (givenHazards (a′ .given))
-  reached′ = given-reached (a′ .given) W′ (a′ .height) (a′ .allowed)
+  reached′ = given-reached (a′ .given) W′ h′ (a′ .allowed)
 
   one-ground : a .given .ground ≡ a′ .given .ground
   one-ground = one-value (sym (a .is .ground) ∙ a′ .is .ground)

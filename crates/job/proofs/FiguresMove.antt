@@ -16,7 +16,7 @@ use Rattle.base_shear.proofs.Ahead.{Ahead}
 use Rattle.base_shear.proofs.Moves.{shear-never-lower, star-never-lower, base-never-lower, shear-never-higher, star-never-falls}
 use Rattle.base_shear.proofs.NeverRises.{risen-below-v, base-never-rises, base-stays}
 use Rattle.job.specs.Moves.{NoneLower, AsRGrows}
-use Rattle.job.proofs.GroundMoves.{ground-more-ductile}
+use Rattle.job.proofs.GroundDuctile.{ground-more-ductile}
 
 pub figures-never-lower : (k : Hazards) (T : ℕ) → Reached k → (f f′ : Frame) (W W′ : ℕ) → 0 < f′ .alpha → NoLighter f W f′ W′
     → NoneLower (figuresAt unit k f W T) (figuresAt unit k f′ W′ T)
@@ -26,10 +26,10 @@ figures-never-lower k T c f f′ W W′ pa l =
     let pd = g .divisor .0 in
     let pe = g .stardivisor .0 in
     record {
-      v = shear-never-lower unit k T (omega arith) pd pe f f′ W W′ pa l (k .design);
-      vm = shear-never-lower unit k T (omega arith) pd pe f f′ W W′ pa l (k .mce);
-      star = star-never-lower unit k T (omega arith) pd pe f f′ W W′ pa l;
-      vd = base-never-lower unit k T (omega arith) pd pe f f′ W W′ pa l;
+      v = shear-never-lower unit k T (omega arith) f f′ W W′ pa l pd (k .design);
+      vm = shear-never-lower unit k T (omega arith) f f′ W W′ pa l pd (k .mce);
+      star = star-never-lower unit k T (omega arith) f f′ W W′ pa l pe;
+      vd = base-never-lower unit k T (omega arith) f f′ W W′ pa l pd pe;
     }
 
 module _ (x : Ground) (R R′ T : ℕ) (h : R ≤ R′) (c : Reached (groundHazards x R)) (c′ : Reached (groundHazards x R′))
@@ -54,7 +54,7 @@ module _ (x : Ground) (R R′ T : ℕ) (h : R ≤ R′) (c : Reached (groundHaza
         star = star-never-falls unit k k′ T d g g′ m f pa W;
         risen = risen-below-v unit k k′ T d g g′ m f pa W b;
         vd = base-never-rises unit k k′ T d g g′ m f pa W b;
-        level = base-stays unit k k′ T d g g′ m f pa W b;
+        stays = base-stays unit k k′ T d g g′ m f pa W b;
       }
 
   -- of two frames with the same I and alpha-y
@@ -70,5 +70,5 @@ module _ (x : Ground) (R R′ T : ℕ) (h : R ≤ R′) (c : Reached (groundHaza
         star = le-trans (one .star) (more .star);
         risen = λ h. le-trans (less .star) (one .risen (lt-of-lt-of-le h (less .star)));
         vd = le-trans (less .vd) (one .vd);
-        level = λ e. omega (arith, one .level e, more .vd, less .vd);
+        stays = λ e. omega (arith, one .stays e, more .vd, less .vd);
       }

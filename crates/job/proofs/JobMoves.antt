@@ -1,8 +1,8 @@
 -- Which way the figures of a job move. Of any two jobs on one ground whose T is the same: the premises are that both were answered with figures, T, and the
--- change. And of two jobs that differ in one thing, which is not a height: there T is the same by itself. The answer without buffers is the same
+-- change. And of two jobs that differ in R, I, alpha-y or one weight alone: there T is the same by itself. The answer without buffers is the same
 -- (`figured-answers`).
 -- Assumes nothing.
-use mathlib.Core.Path.{_≡_, refl, sym, ap, subst, _∙_}
+use mathlib.Core.Path.{_≡_, refl}
 use mathlib.Core.List.{List}
 use Prim.Native.Nat.{ℕ, _≤_}
 use native.Mathlib.Nat.{le-refl}
@@ -11,21 +11,15 @@ use Rattle.whole.specs.Cells.{sum}
 use Rattle.whole.proofs.Sums.{sum-rises}
 use Rattle.limits.specs.declared.frame.FrameValues.{FrameValues}
 use Rattle.limits.specs.declared.ground.GroundValues.{GroundValues}
-use Rattle.limits.specs.declared.kind.Kind.{Kind}
-use Rattle.limits.specs.Frame.{judgedKind}
 use Rattle.limits.specs.Levels.{topHeight}
-use Rattle.limits.proofs.GivenIs.{given-is}
-use Rattle.limits.proofs.Passed.{one-value}
-use Rattle.response.specs.Period.{periodOf}
 use Rattle.base_shear.specs.declared.Figures.{Figures}
 use Rattle.job.specs.declared.FiguresAnswer.the-variants.{Taken}
 use Rattle.job.specs.Distribution.{Buffers}
 use Rattle.job.specs.Job.{Answers}
 use Rattle.job.specs.Moves.{withR, withI, withAlpha, withWeight, NoneLower, AsRGrows}
 use Rattle.job.specs.ShearCall.{Sheared}
-use Rattle.job.proofs.CallMoves.{never-lower, as-r-grows}
+use Rattle.job.proofs.CallMoves.{same-period, never-lower, as-r-grows}
 use Rattle.job.proofs.InTurn.{job-parted}
-use Rattle.job.proofs.Sheared.{demand-3}
 
 -- ---- two jobs on one ground at one T
 module _ (s : GroundValues) (f f′ : FrameValues) (ws hs ws′ hs′ : List ℕ) (b b′ c c′ : Buffers) (n n′ : Figures)
@@ -42,40 +36,32 @@ module _ (s : GroundValues) (f f′ : FrameValues) (ws hs ws′ hs′ : List ℕ
   pub job-as-r-grows : n .t ≡ n′ .t → f .r ≤ f′ .r → f .i ≡ f′ .i → f .alpha ≡ f′ .alpha → sum ws ≡ sum ws′ → AsRGrows n n′
   job-as-r-grows same = as-r-grows s f f′ (sum ws) (topHeight hs) (sum ws′) (topHeight hs′) n n′ first second same
 
-  -- T is of kind, calculated period and top height alone
-  pub same-period : f .kind ≡ f′ .kind → f .calculated ≡ f′ .calculated → topHeight hs ≡ topHeight hs′ → n .t ≡ n′ .t
-  same-period kind calculated top =
-      let k = demand-3 s f (sum ws) (topHeight hs) n first in
-      let k′ = demand-3 s f′ (sum ws′) (topHeight hs′) n′ second in
-      let g = given-is s f (sum ws) (topHeight hs) (k .given) (k .judged) in
-      let g′ = given-is s f′ (sum ws′) (topHeight hs′) (k′ .given) (k′ .judged) in
-      let one-kind : k .given .frame .kind ≡ k′ .given .frame .kind = one-value (sym (g .kind) ∙ ap judgedKind kind ∙ g′ .kind) in
-      let one-period : k .given .frame .calculated ≡ k′ .given .frame .calculated = g .calculated ∙ calculated ∙ sym (g′ .calculated) in
-      k .period ∙ (λ j. periodOf (one-kind j) (one-period j) (top j)) ∙ sym (k′ .period)
+  pub job-same-period : f .kind ≡ f′ .kind → f .calculated ≡ f′ .calculated → topHeight hs ≡ topHeight hs′ → n .t ≡ n′ .t
+  job-same-period = same-period s f f′ (sum ws) (topHeight hs) (sum ws′) (topHeight hs′) n n′ first second
 
 -- ---- one change
 module _ (s : GroundValues) (f : FrameValues) (ws hs : List ℕ) (b b′ c c′ : Buffers) (n n′ : Figures) (p : Answers s f ws hs b (Taken n) b′) where
   -- a larger I
   pub larger-i : (i : ℕ) → Answers s (withI f i) ws hs c (Taken n′) c′ → f .i ≤ i → (n .t ≡ n′ .t) × NoneLower n n′
   larger-i i q h =
-      let same = same-period s f (withI f i) ws hs ws hs b b′ c c′ n n′ p q refl refl refl in
+      let same = job-same-period s f (withI f i) ws hs ws hs b b′ c c′ n n′ p q refl refl refl in
       (same, job-never-lower s f (withI f i) ws hs ws hs b b′ c c′ n n′ p q same refl h (le-refl (f .alpha)) (le-refl (sum ws)))
 
   -- a smaller alpha-y
   pub smaller-alpha : (a : ℕ) → Answers s (withAlpha f a) ws hs c (Taken n′) c′ → a ≤ f .alpha → (n .t ≡ n′ .t) × NoneLower n n′
   smaller-alpha a q h =
-      let same = same-period s f (withAlpha f a) ws hs ws hs b b′ c c′ n n′ p q refl refl refl in
+      let same = job-same-period s f (withAlpha f a) ws hs ws hs b b′ c c′ n n′ p q refl refl refl in
       (same, job-never-lower s f (withAlpha f a) ws hs ws hs b b′ c c′ n n′ p q same refl (le-refl (f .i)) h (le-refl (sum ws)))
 
   -- a larger weight at one level
   pub heavier-level : (x w : ℕ) → Answers s f (withWeight ws x w) hs c (Taken n′) c′ → getD ws x 0 ≤ w → (n .t ≡ n′ .t) × NoneLower n n′
   heavier-level x w q h =
       let vs = withWeight ws x w in
-      let same = same-period s f f ws hs vs hs b b′ c c′ n n′ p q refl refl refl in
+      let same = job-same-period s f f ws hs vs hs b b′ c c′ n n′ p q refl refl refl in
       (same, job-never-lower s f f ws hs vs hs b b′ c c′ n n′ p q same refl (le-refl (f .i)) (le-refl (f .alpha)) (sum-rises ws x w h))
 
   -- a larger R
   pub larger-r : (r : ℕ) → Answers s (withR f r) ws hs c (Taken n′) c′ → f .r ≤ r → (n .t ≡ n′ .t) × AsRGrows n n′
   larger-r r q h =
-      let same = same-period s f (withR f r) ws hs ws hs b b′ c c′ n n′ p q refl refl refl in
+      let same = job-same-period s f (withR f r) ws hs ws hs b b′ c c′ n n′ p q refl refl refl in
       (same, job-as-r-grows s f (withR f r) ws hs ws hs b b′ c c′ n n′ p q same h refl refl refl)

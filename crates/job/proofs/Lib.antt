@@ -3,7 +3,8 @@ pub mod HazardsReached
 pub mod SiteReached
 pub mod BasinReached
 pub mod GroundReached
-pub mod GroundMoves
+pub mod GroundDuctile
+pub mod GroundAhead
 pub mod FiguresMove
 pub mod GivenReached
 pub mod Stages
@@ -30,6 +31,7 @@ pub mod Worked
 pub mod WorkedBasin
 pub mod WorkedNearFault
 pub mod WorkedTowers
+pub mod WorkedStar
 pub mod WorkedMoves
 pub mod JobNumbers
 pub mod SharpMargin

@@ -1,6 +1,5 @@
--- The building of document 01's worked sheet with one thing changed. V* rises with R, on its site, near a fault and in zone 3 of the Taipei Basin, while V,
--- V_M and V_D fall. A heavier roof raises V_D and lowers the forces below it. Where T does not stay the same, a heavier building can have a
--- lower V_D, and a larger R a higher V. The definition, computed.
+-- The building of document 01's worked sheet with one thing changed. A heavier roof raises V_D and lowers the forces below it. Where T does not stay the same, a
+-- heavier building can have a lower V_D, and a larger R a higher V. The definition, computed.
 -- Assumes nothing.
 use mathlib.Core.Path.{_≡_, refl}
 use mathlib.Core.List.{List, [], _∷_}
@@ -58,26 +57,7 @@ heights = 100 ∷ 200 ∷ 300 ∷ []
 abbrev figures : ℕ → ℕ → ℕ → ℕ → ℕ → Figures
 figures v vm star vd t = record { v = v; vm = vm; star = star; vd = vd; t = t }
 
--- ---- what is answered. At 1.00 and at a larger R: on the site at 1,000 ms, near a fault at 500 ms, in zone 3
-abbrev site100 : Figures
-site100 = figures 2_700_000 3_071_429 900_000 3_071_429 1000
-
-abbrev site175 : Figures
-site175 = figures 2_142_858 2_195_920 1_071_429 2_195_920 1000
-
-abbrev nearFault100 : Figures
-nearFault100 = figures 4_480_000 5_900_000 1_333_334 5_900_000 500
-
-abbrev nearFault400 : Figures
-nearFault400 = figures 2_291_103 2_362_834 1_904_762 2_362_834 500
-
-abbrev zone100 : Figures
-zone100 = figures 3_257_143 4_000_000 1_302_858 4_000_000 1000
-
-abbrev zone400 : Figures
-zone400 = figures 1_756_098 1_488_569 1_714_286 1_756_098 1000
-
--- with no calculated period, 30 and 35 m high: T is 897 and 1,007 ms
+-- ---- what is answered with no calculated period, 30 and 35 m high: T is 897 and 1,007 ms
 abbrev of30 : Figures
 of30 = figures 1_014_163 912_434 1_194_458 1_194_458 897
 
@@ -109,57 +89,35 @@ heavy =
       overturnings = 278_442_000 ∷ 164_156_200 ∷ 65_974_200 ∷ [];
     }
 
-abbrev Job : GroundValues → FrameValues → Figures → Type 0
-Job s f n = Figured s f weights heights (Taken n)
-
-answered : Job plain (frame 1000 100) site100 × Job plain (frame 1000 175) site175
-    × Job nearFault (frame 500 100) nearFault100 × Job nearFault (frame 500 400) nearFault400
-    × Job (Basin 3) (frame 1000 100) zone100 × Job (Basin 3) (frame 1000 400) zone400
-    × Sheared plain (frame 0 480) 15_000 300 (Taken of30) × Sheared plain (frame 0 480) 16_000 350 (Taken heavierOf35)
+answered : Sheared plain (frame 0 480) 15_000 300 (Taken of30) × Sheared plain (frame 0 480) 16_000 350 (Taken heavierOf35)
     × Sheared plain (frame 0 480) 15_000 350 (Taken of35) × Sheared plain (frame 0 481) 15_000 300 (Taken moreDuctileOf30)
-    × (jobOf plain (frame 1000 480) weights heights 3 ≡ accepted light)
-    × (jobOf plain (frame 1000 480) (withWeight weights 2 6000) heights 3 ≡ accepted heavy)
-unfolding jobOf judgedJob judgedLevels weighed raised within inRange among listed judgedSite judgedMapped judgedNearFault judgedClass
-    judgedZone judgedFrame judgedKind judgedPeriod shearCallOf judgedShearCall judgedBuilding cells sum between lowerRoot upperRoot up down
-    largest smallest bitsFrom factor lowerFactor upperFactor approximate inUse bent ratio modified blended exactSpectrum spectrum newtons shear
-    star base figuresAt weightHeight about floor ceiling
-answered = (refl, refl, refl, refl, refl, refl, refl, refl, refl, refl, refl, refl)
-
--- ---- V* rises with R, and the other three fall: two accepted jobs that differ in R alone
-abbrev StarRises : GroundValues → FrameValues → ℕ → Figures → Figures → Type 0
-StarRises s f r n n′ =
-    Job s f n × Job s (withR f r) n′ × (f .r < r) × (n .star < n′ .star) × (n′ .v < n .v) × (n′ .vm < n .vm) × (n′ .vd < n .vd)
-
--- R = 1.00 and R = 1.75: 900,000 and 1,071,429 N
-pub star-rises : StarRises plain (frame 1000 100) 175 site100 site175
-star-rises = (answered .0, answered .1, omega arith, omega arith, omega arith, omega arith, omega arith)
-
--- R = 1.00 and R = 4.00: 1,333,334 and 1,904,762 N
-pub star-rises-near-fault : StarRises nearFault (frame 500 100) 400 nearFault100 nearFault400
-star-rises-near-fault = (answered .2, answered .3, omega arith, omega arith, omega arith, omega arith, omega arith)
-
--- R = 1.00 and R = 4.00: 1,302,858 and 1,714,286 N
-pub star-rises-in-basin : StarRises (Basin 3) (frame 1000 100) 400 zone100 zone400
-star-rises-in-basin = (answered .4, answered .5, omega arith, omega arith, omega arith, omega arith, omega arith)
+unfolding judgedSite judgedMapped judgedNearFault judgedClass judgedFrame judgedKind judgedPeriod shearCallOf judgedShearCall judgedBuilding within
+    inRange among listed between lowerRoot upperRoot up down largest smallest bitsFrom factor lowerFactor upperFactor approximate inUse bent ratio
+    modified blended exactSpectrum spectrum newtons shear star base figuresAt floor ceiling
+answered = (refl, refl, refl, refl)
 
 -- ---- a heavier roof: V_D rises, and the forces of both levels below it fall
 pub heavier-roof : (jobOf plain (frame 1000 480) weights heights 3 ≡ accepted light)
     × (jobOf plain (frame 1000 480) (withWeight weights 2 6000) heights 3 ≡ accepted heavy)
     × (light .figures .vd < heavy .figures .vd)
     × (getD (heavy .forces) 0 0 < getD (light .forces) 0 0) × (getD (heavy .forces) 1 0 < getD (light .forces) 1 0)
-heavier-roof = (answered .10, answered .11, omega arith, omega arith, omega arith)
+unfolding jobOf judgedJob judgedLevels weighed raised within inRange among listed judgedSite judgedMapped judgedNearFault judgedClass
+    judgedFrame judgedKind judgedPeriod cells sum between lowerRoot upperRoot up down largest smallest bitsFrom factor lowerFactor
+    upperFactor approximate inUse bent ratio modified blended exactSpectrum spectrum newtons shear star base figuresAt weightHeight about floor
+    ceiling
+heavier-roof = (refl, refl, omega arith, omega arith, omega arith)
 
 -- ---- with nothing said of T neither a heavier building nor a larger R moves the figures the one way
 -- 15,000 kN at 30 m have 1,194,458 N, and 16,000 kN at 35 m have 1,134,913 N
 pub heavier-at-any-period-false : ((s : GroundValues) (f : FrameValues) (W h W′ h′ : ℕ) (n n′ : Figures)
     → Sheared s f W h (Taken n) → Sheared s f W′ h′ (Taken n′) → W ≤ W′ → n .vd ≤ n′ .vd) → ⊥
 heavier-at-any-period-false p =
-    let h = p plain (frame 0 480) 15_000 300 16_000 350 of30 heavierOf35 (answered .6) (answered .7) (omega arith) in
+    let h = p plain (frame 0 480) 15_000 300 16_000 350 of30 heavierOf35 (answered .0) (answered .1) (omega arith) in
     omega (arith, h)
 
 -- R = 4.80 at 35 m has V = 903,380 N, and R = 4.81 at 30 m has V = 1,012,253 N
 pub larger-r-at-any-period-false : ((s : GroundValues) (f : FrameValues) (W h r h′ : ℕ) (n n′ : Figures)
     → Sheared s f W h (Taken n) → Sheared s (withR f r) W h′ (Taken n′) → f .r ≤ r → n′ .v ≤ n .v) → ⊥
 larger-r-at-any-period-false p =
-    let h = p plain (frame 0 480) 15_000 350 481 300 of35 moreDuctileOf30 (answered .8) (answered .9) (omega arith) in
+    let h = p plain (frame 0 480) 15_000 350 481 300 of35 moreDuctileOf30 (answered .2) (answered .3) (omega arith) in
     omega (arith, h)

@@ -35,4 +35,4 @@ pub record AsRGrows (n n′ : Figures) : Type 0 where
   pub star : n .star ≤ n′ .star
   pub risen : n .star < n′ .star → n′ .star ≤ n .v
   pub vd : n′ .vd ≤ n .vd
-  pub level : n .vd ≡ n .star → n′ .vd ≡ n .vd
+  pub stays : n .vd ≡ n .star → n′ .vd ≡ n .vd

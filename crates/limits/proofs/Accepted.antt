@@ -23,12 +23,13 @@ use Rattle.limits.specs.declared.class.Class.{Class}
 use Rattle.limits.specs.declared.site.Site.{Site}
 use Rattle.limits.specs.declared.site.SiteValues.{SiteValues}
 use Rattle.limits.specs.Allowed.{AllowedSite, AllowedGround, AllowedFrame, AllowedLevels, AllowedGiven}
-use Rattle.limits.specs.Frame.{judgedKind, judgedPeriod, frameOf, judgedFrame}
+use Rattle.limits.specs.Frame.{judgedPeriod, judgedFrame}
 use Rattle.limits.specs.Ground.{judgedGround}
 use Rattle.limits.specs.Judging.{judgedGiven, judgedJob}
 use Rattle.limits.specs.Levels.{counted, paired, roomy, judgedWeight, weighed, judgedHeight, raised, judgedLevels, topHeight}
 use Rattle.limits.specs.Outcome.{Outcome, accepted, refused, Done, require, _>>=_, _>>_}
 use Rattle.limits.specs.Ranges.{inRange, among, within, listed}
+use Rattle.limits.proofs.FramePassed.{frame-passed}
 use Rattle.limits.proofs.Passed.{differ, one-value, then-passed, bind-passed, require-passed, within-passed}
 use Rattle.limits.specs.Site.{judgedClass, siteOf, judgedMapped, judgedNearFault, judgedSite}
 use Rattle.limits.specs.Zone.{judgedZone}
@@ -100,20 +101,15 @@ ground-allowed (Basin n) g e =
 
 -- ---- the frame
 pub frame-allowed : (v : FrameValues) (f : Frame) → judgedFrame v ≡ accepted f → AllowedFrame f
-unfolding judgedFrame judgedPeriod spread
+unfolding judgedPeriod spread
 frame-allowed v f e =
-    let r = then-passed (within 100 600 (v .r) 8 0) _ e in
-    let i = then-passed (listed (100 ∷ 125 ∷ 150 ∷ []) (v .i) 9 0) _ (r .1) in
-    let al = then-passed (within 100 200 (v .alpha) 10 0) _ (i .1) in
-    let kind = bind-passed (judgedKind (v .kind)) (λ k. judgedPeriod (v .calculated) >> accepted (frameOf v k)) (al .1) in
-    let period = then-passed (judgedPeriod (v .calculated)) (accepted (frameOf v (kind .0))) (kind .2) in
-    let same : frameOf v (kind .0) ≡ f = one-value (period .1) in
-    subst AllowedFrame same
+    let p = frame-passed v f e in
+    subst AllowedFrame (p .is)
     (record {
-      r = within-passed 100 600 (v .r) 8 0 (r .0);
-      i = listed-accepted 100 150 (v .i) 9 0 _ refl (i .0);
-      alpha = within-passed 100 200 (v .alpha) 10 0 (al .0);
-      period = most (eqb (v .calculated) 0) refl (period .0);
+      r = within-passed 100 600 (v .r) 8 0 (p .r);
+      i = listed-accepted 100 150 (v .i) 9 0 _ refl (p .i);
+      alpha = within-passed 100 200 (v .alpha) 10 0 (p .alpha);
+      period = most (eqb (v .calculated) 0) refl (p .period);
     })
   where
     most : (t : Bool) → eqb (v .calculated) 0 ≡ t → pick t (accepted tt) (within 1 60_000 (v .calculated) 12 0) ≡ accepted tt

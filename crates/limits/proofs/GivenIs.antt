@@ -1,21 +1,18 @@
 -- What is given where the shear call accepts: the ground as it was judged, and a frame that has R, I, alpha-y and calculated period of the frame line.
 --   GivenIs s f g    so g is of a ground s and a frame line f
 -- Assumes nothing.
-use mathlib.Core.Path.{_≡_, sym, ap, subst, _∙_}
-use mathlib.Core.List.{[], _∷_}
+use mathlib.Core.Path.{_≡_, sym, ap, _∙_}
 use Prim.Native.Nat.{ℕ}
 use Rattle.limits.specs.declared.frame.Frame.{Frame}
 use Rattle.limits.specs.declared.frame.FrameValues.{FrameValues}
-use Rattle.limits.specs.declared.ground.Ground.{Ground}
 use Rattle.limits.specs.declared.ground.GroundValues.{GroundValues}
 use Rattle.limits.specs.declared.judging.Given.{Given}
-use Rattle.limits.specs.declared.kind.Kind.{Kind}
 use Rattle.limits.specs.Building.{judgedBuilding}
-use Rattle.limits.specs.Frame.{judgedKind, judgedPeriod, frameOf, judgedFrame}
+use Rattle.limits.specs.Frame.{judgedKind, frameOf, judgedFrame}
 use Rattle.limits.specs.Ground.{judgedGround}
 use Rattle.limits.specs.Judging.{judgedShearCall}
-use Rattle.limits.specs.Outcome.{Outcome, accepted, _>>_}
-use Rattle.limits.specs.Ranges.{within, listed}
+use Rattle.limits.specs.Outcome.{accepted}
+use Rattle.limits.proofs.FramePassed.{frame-passed}
 use Rattle.limits.proofs.Passed.{one-value, then-passed, bind-passed}
 
 pub record GivenIs (s : GroundValues) (f : FrameValues) (g : Given) : Type 0 where
@@ -26,28 +23,13 @@ pub record GivenIs (s : GroundValues) (f : FrameValues) (g : Given) : Type 0 whe
   pub i : g .frame .i ≡ f .i
   pub alpha : g .frame .alpha ≡ f .alpha
 
-record FrameIs (f : FrameValues) (x : Frame) : Type 0 where
-  kind : Kind
-  kinded : judgedKind (f .kind) ≡ accepted kind
-  is : frameOf f kind ≡ x
-
-frame-is : (f : FrameValues) (x : Frame) → judgedFrame f ≡ accepted x → FrameIs f x
-unfolding judgedFrame
-frame-is f x e =
-    let r = then-passed (within 100 600 (f .r) 8 0) _ e in
-    let i = then-passed (listed (100 ∷ 125 ∷ 150 ∷ []) (f .i) 9 0) _ (r .1) in
-    let a = then-passed (within 100 200 (f .alpha) 10 0) _ (i .1) in
-    let k = bind-passed (judgedKind (f .kind)) (λ k. judgedPeriod (f .calculated) >> accepted (frameOf f k)) (a .1) in
-    let p = then-passed (judgedPeriod (f .calculated)) (accepted (frameOf f (k .0))) (k .2) in
-    record { kind = k .0; kinded = k .1; is = one-value (p .1) }
-
 pub given-is : (s : GroundValues) (f : FrameValues) (W h : ℕ) (g : Given) → judgedShearCall s f W h ≡ accepted g → GivenIs s f g
 unfolding judgedShearCall
 given-is s f W h g e =
     let ground = bind-passed (judgedGround s) _ (then-passed (judgedBuilding W h) _ e .1) in
     let frame = bind-passed (judgedFrame f) (λ y. accepted (record { ground = ground .0; frame = y })) (ground .2) in
     let same : record { ground = ground .0; frame = frame .0 } ≡ g = one-value (frame .2) in
-    let x = frame-is f (frame .0) (frame .1) in
+    let x = frame-passed f (frame .0) (frame .1) in
     let is : frameOf f (x .kind) ≡ g .frame = x .is ∙ ap (λ (y : Given). y .frame) same in
     record {
       ground = ground .1 ∙ ap (λ (y : Given). accepted (y .ground)) same;

@@ -3,6 +3,7 @@ pub mod Listed
 pub mod Stages
 pub mod Lists
 pub mod Unique
+pub mod FramePassed
 pub mod Accepted
 pub mod Built
 pub mod AcceptedCalls

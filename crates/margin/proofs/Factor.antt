@@ -12,13 +12,14 @@ use Rattle.whole.proofs.Order.{at-most-trans, same-at-most}
 use Rattle.whole.proofs.Root.{lower-root-is, upper-root-is}
 use Rattle.whole.proofs.Rounding.{up-law, down-law}
 use Rattle.site.specs.declared.hazard.Hazard.{Hazard}
-use Rattle.response.specs.Factor.{exactFactor, lowerFactor, upperFactor}
+use Rattle.response.specs.Factor.{exactFactor}
 use Rattle.response.specs.Reach.{FineUnit}
 use Rattle.response.proofs.Branches.{weights-positive, lower-is-mean, upper-is-mean}
 use Rattle.response.proofs.Exact.{mean-rises, exact-factor-positive, exact-factor-is, exact-factor-least}
 use Rattle.response.proofs.Mean.{Weights, total, mean, weights}
 use Rattle.response.proofs.Reached.{small}
 use Rattle.base_shear.specs.Ready.{Ready}
+use Rattle.base_shear.proofs.Stages.{lowerAt, upperAt}
 use Rattle.margin.specs.Roots.{High, Low}
 use Rattle.margin.proofs.Offsets.{Over, Short, over-same, short-same}
 use Rattle.margin.proofs.Root.{lower-below-high, low-below-upper, low-near-lower, upper-near-high}
@@ -46,12 +47,6 @@ module _ (s k f : ℕ) (w : Weights) (r c : Fraction) (pr : 0 < r .den) where
 -- ---- the factors of a hazard
 abbrev pub factorAt : Hazard → ℕ → Fraction → Fraction
 factorAt h T r = exactFactor (h .a) (h .b) T (h .capacity) r
-
-abbrev pub lowerAt : ℕ → Hazard → ℕ → ℕ
-lowerAt s h T = lowerFactor s (h .a) (h .b) T (h .capacity) (h .square)
-
-abbrev pub upperAt : ℕ → Hazard → ℕ → ℕ
-upperAt s h T = upperFactor s (h .a) (h .b) T (h .capacity) (h .square)
 
 abbrev meanAt : Hazard → ℕ → Fraction → Fraction
 meanAt h T r = mean (weights (h .a) (h .b) T) r (h .capacity)

@@ -13,19 +13,17 @@ use Rattle.site.specs.declared.hazard.Hazards.{Hazards}
 use Rattle.response.specs.Ratio.{ratio, modified, blended, exactRatio, exactModified, exactBlended}
 use Rattle.response.specs.Spectrum.{exactSpectrum, spectrum}
 use Rattle.response.specs.Reach.{Meeting}
-use Rattle.response.proofs.Most.{spectrum-positive, spectrum-within, lower-factor-least}
+use Rattle.response.proofs.Most.{spectrum-positive, spectrum-within}
 use Rattle.base_shear.specs.Exact.{exactShear, exactStar}
 use Rattle.base_shear.specs.Ready.{Ready, Shearing}
 use Rattle.base_shear.specs.Shears.{shear, star}
+use Rattle.base_shear.proofs.Stages.{spectrumAt, lowerAt, upperAt, lower-least, lower-some}
 use Rattle.margin.specs.Demand3.{Number, AtLeast, LessBy, marginOf}
 use Rattle.margin.specs.Roots.{High, Low}
 use Rattle.margin.proofs.Bound.{newtons-above, newtons-over}
-use Rattle.margin.proofs.Factor.{factorAt, lowerAt, upperAt, factor-positive, factor-least, lower-below, upper-above, lower-short, upper-over}
+use Rattle.margin.proofs.Factor.{factorAt, factor-positive, factor-least, lower-below, upper-above, lower-short, upper-over}
 use Rattle.margin.proofs.Offsets.{Over}
 use Rattle.margin.proofs.Ratio.{ratio-above, ratio-over, modified-above, modified-over, blended-above, blended-over}
-
-abbrev spectrumAt : ℕ → Hazard → ℕ → ℕ
-spectrumAt s h T = spectrum s (h .a) (h .b) T
 
 abbrev exactSpectrumAt : Hazard → ℕ → Fraction
 exactSpectrumAt h T = exactSpectrum (h .a) (h .b) T
@@ -49,10 +47,10 @@ module _ (s : ℕ) (k : Hazards) (T : ℕ) (g : Shearing s k T) (m : Meeting (k 
         omega (arith, up-law (s * x .num) (x .den) spectrum-sound .1)
 
     least : s ≤ lowerAt s h T
-    least = lower-factor-least s (h .a) (h .b) T (h .capacity) (h .square) (g .unit) (y .shape) (y .ductile)
+    least = lower-least s h T (g .unit) y
 
     some : 0 < lowerAt s h T
-    some = lt-of-lt-of-le (g .unit .positive) least
+    some = lower-some s h T (g .unit) y
 
     -- the ratio's divisor
     ratio-sound : 0 < r .den → AtMost (over 1 1) r → 0 < exactRatio (exactSpectrumAt h T) (factorAt h T r) .den

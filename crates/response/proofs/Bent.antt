@@ -49,6 +49,11 @@ cross a b c t x y h e =
     let ey : (a * t + 1000 * b) * y ≡ c * t * y = ap (λ (z : ℕ). z * y) e in
     (λ k. omega (arith, mul-le-mul-left d k), λ k. omega (arith, mul-le-mul-left d k))
 
+-- up to the end of the first line it is that line
+pub bent-first : (l : Lines) (x y : ℕ) → 1000 * x ≤ l .first * y → bent l x y ≡ 1000 * x
+unfolding bent
+bent-first l x y h = by-leb (λ (z : ℕ). z ≡ 1000 * x) (1000 * x) (l .first * y) _ _ (λ _. refl) (λ k. absurd (omega arith))
+
 module _ (l : Lines) (m : Meeting l) where
   -- the line that the tests pick, with what they show of the three
   by-line : (P : ℕ → Type 0) (x y : ℕ)
@@ -75,13 +80,7 @@ module _ (l : Lines) (m : Meeting l) where
   pub bent-within : (x y : ℕ) → bent l x y ≤ 1000 * x
   bent-within x y = rw (bent-is x y) (omega arith)
 
-  -- by the first line alone, up to where it ends
-  pub bent-first : (x y : ℕ) → 1000 * x ≤ l .first * y → bent l x y ≡ 1000 * x
-  unfolding bent
-  bent-first x y h =
-      by-leb (λ (z : ℕ). z ≡ 1000 * x) (1000 * x) (l .first * y) _ _ (λ _. refl) (λ k. absurd (omega arith))
-
-  -- and from there on it is no lower than at the end of that line
+  -- past the first line it is no lower than at its end
   pub bent-past-first : (x y : ℕ) → l .first * y ≤ 1000 * x → l .first * y ≤ bent l x y
   bent-past-first x y h =
       let met : (l .slope * l .first + 1000 * l .add) * y ≡ 1000 * l .first * y = ap (λ (z : ℕ). z * y) (m .meet-first) in

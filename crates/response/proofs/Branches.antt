@@ -41,23 +41,23 @@ factor-positive A B T r c pa pb pr pc =
     (λ _. mul-pos pr (mul-pos (mul-pos pr (omega arith)) (e 2 (omega arith))))))
 
 -- ---- the printed factors are the mean, rounded
-module _ (s A B T : ℕ) (c ρ : Fraction) (ps : 0 < s) (pa : 0 < A) (pb : 0 < B) (pc : 0 < c .den) where
-  mean-positive : (k : ℕ) → 0 < mean (weights A B T) (over k s) c .den
-  mean-positive k = mul-pos (weights-positive A B T pb) (mul-pos ps pc)
+pub mean-positive : (A B T : ℕ) (r c : Fraction) → 0 < B → 0 < r .den → 0 < c .den → 0 < mean (weights A B T) r c .den
+mean-positive A B T r c pb pr pc = mul-pos (weights-positive A B T pb) (mul-pos pr pc)
 
+module _ (s A B T : ℕ) (c ρ : Fraction) (ps : 0 < s) (pa : 0 < A) (pb : 0 < B) (pc : 0 < c .den) where
   pub lower-is-mean : lowerFactor s A B T c ρ ≡ downIn s (mean (weights A B T) (over (lowerRoot s ρ) s) c)
   unfolding lowerFactor
   lower-is-mean =
       let r = over (lowerRoot s ρ) s in
       ap natural (floor-stands (factor A B T c r) (mean (weights A B T) r c) (factor-positive A B T r c pa pb ps pc)
-      (mean-positive (lowerRoot s ρ)) (factor-stands A B T r c) s)
+      (mean-positive A B T r c pb ps pc) (factor-stands A B T r c) s)
 
   pub upper-is-mean : upperFactor s A B T c ρ ≡ upIn s (mean (weights A B T) (over (upperRoot s ρ) s) c)
   unfolding upperFactor
   upper-is-mean =
       let r = over (upperRoot s ρ) s in
       ap natural (ceiling-stands (factor A B T c r) (mean (weights A B T) r c) (factor-positive A B T r c pa pb ps pc)
-      (mean-positive (upperRoot s ρ)) (factor-stands A B T r c) s)
+      (mean-positive A B T r c pb ps pc) (factor-stands A B T r c) s)
 
 -- ---- what each weighs, by where T lies
 module _ (A B T : ℕ) where

@@ -3,7 +3,7 @@
 -- Assumes nothing.
 use mathlib.Core.Path.{_≡_, ap, _∙_}
 use Prim.Native.Nat.{ℕ, _*_, _≤_, _<_}
-use native.Mathlib.Nat.{le-refl, le-trans, mul-pos, mul-le-mul-right}
+use native.Mathlib.Nat.{le-refl, le-trans, mul-le-mul-right}
 use native.Mathlib.Omega.{arith}
 use Rattle.whole.specs.declared.Fraction.{Fraction}
 use Rattle.whole.specs.Fraction.{over, AtMost, upIn}
@@ -18,7 +18,7 @@ use Rattle.response.specs.Factor.{lowerFactor, upperFactor}
 use Rattle.response.specs.Ratio.{bent, ratio, blended}
 use Rattle.response.specs.Reach.{FineUnit, Shape, Ductile, Meeting}
 use Rattle.response.proofs.Bent.{bent-rises, bent-first}
-use Rattle.response.proofs.Branches.{weights-positive, lower-is-mean, upper-is-mean}
+use Rattle.response.proofs.Branches.{mean-positive, lower-is-mean, upper-is-mean}
 use Rattle.response.proofs.Exact.{mean-rises, mean-rises-with-capacity}
 use Rattle.response.proofs.Mean.{mean, weights}
 use Rattle.response.proofs.Reached.{small, roots-ordered}
@@ -26,13 +26,21 @@ use Rattle.response.proofs.Reached.{small, roots-ordered}
 -- ---- the factors, of two capacities and squares
 module _ (s A B T : ℕ) (c ρ c′ ρ′ : Fraction) (u : FineUnit s) (sh : Shape A B T) (d : Ductile s c ρ) (d′ : Ductile s c′ ρ′)
     (hc : AtMost c c′) (hρ : AtMost ρ ρ′) where
-  mean-positive : (r c : Fraction) → 0 < r .den → 0 < c .den → 0 < mean (weights A B T) r c .den
-  mean-positive r c pr pc = mul-pos (weights-positive A B T (sh .b-positive)) (mul-pos pr pc)
+  abbrev first : ℕ → Fraction
+  first k = mean (weights A B T) (over k s) c
 
-  means-rise : (k k′ : ℕ) → k ≤ k′ → AtMost (mean (weights A B T) (over k s) c) (mean (weights A B T) (over k′ s) c′)
+  abbrev second : ℕ → Fraction
+  second k = mean (weights A B T) (over k s) c′
+
+  first-positive : (k : ℕ) → 0 < first k .den
+  first-positive k = mean-positive A B T (over k s) c (sh .b-positive) (u .positive) (d .cap-positive)
+
+  second-positive : (k : ℕ) → 0 < second k .den
+  second-positive k = mean-positive A B T (over k s) c′ (sh .b-positive) (u .positive) (d′ .cap-positive)
+
+  means-rise : (k k′ : ℕ) → k ≤ k′ → AtMost (first k) (second k′)
   means-rise k k′ h =
-      at-most-trans (mean (weights A B T) (over k s) c) (mean (weights A B T) (over k′ s) c) (mean (weights A B T) (over k′ s) c′)
-      (mean-positive (over k′ s) c (u .positive) (d .cap-positive))
+      at-most-trans (first k) (first k′) (second k′) (first-positive k′)
       (mean-rises (weights A B T) (over k s) (over k′ s) c (mul-le-mul-right s h))
       (mean-rises-with-capacity (weights A B T) (over k′ s) c c′ hc)
 
@@ -44,9 +52,7 @@ module _ (s A B T : ℕ) (c ρ c′ ρ′ : Fraction) (u : FineUnit s) (sh : Sha
         lower-is-mean s A B T c ρ (u .positive) (sh .a-positive) (sh .b-positive) (d .cap-positive),
         lower-is-mean s A B T c′ ρ′ (u .positive) (sh .a-positive) (sh .b-positive) (d′ .cap-positive),
       )
-      (share-down-rises (mean (weights A B T) (over k s) c) (mean (weights A B T) (over k′ s) c′) s
-      (mean-positive (over k s) c (u .positive) (d .cap-positive))
-      (mean-positive (over k′ s) c′ (u .positive) (d′ .cap-positive))
+      (share-down-rises (first k) (second k′) s (first-positive k) (second-positive k′)
       (means-rise k k′ (lower-root-rises s ρ ρ′ (small s c ρ u d) (small s c′ ρ′ u d′) hρ (d .square-positive))))
 
   pub upper-factor-rises : upperFactor s A B T c ρ ≤ upperFactor s A B T c′ ρ′
@@ -57,9 +63,7 @@ module _ (s A B T : ℕ) (c ρ c′ ρ′ : Fraction) (u : FineUnit s) (sh : Sha
         upper-is-mean s A B T c ρ (u .positive) (sh .a-positive) (sh .b-positive) (d .cap-positive),
         upper-is-mean s A B T c′ ρ′ (u .positive) (sh .a-positive) (sh .b-positive) (d′ .cap-positive),
       )
-      (share-rises (mean (weights A B T) (over k s) c) (mean (weights A B T) (over k′ s) c′) s
-      (mean-positive (over k s) c (u .positive) (d .cap-positive))
-      (mean-positive (over k′ s) c′ (u .positive) (d′ .cap-positive))
+      (share-rises (first k) (second k′) s (first-positive k) (second-positive k′)
       (means-rise k k′ (upper-root-rises s ρ ρ′ (small s c ρ u d) (small s c′ ρ′ u d′) hρ (d′ .square-positive))))
 
 -- ---- the lower factor is at most the upper one
@@ -70,7 +74,7 @@ lower-below-upper s A B T c ρ u sh d =
     let k′ = over (upperRoot s ρ) s in
     let m = mean (weights A B T) k c in
     let m′ = mean (weights A B T) k′ c in
-    let p : 0 < m .den = mul-pos (weights-positive A B T (sh .b-positive)) (mul-pos (u .positive) (d .cap-positive)) in
+    let p = mean-positive A B T k c (sh .b-positive) (u .positive) (d .cap-positive) in
     let below : AtMost m m′ = mean-rises (weights A B T) k k′ c (mul-le-mul-right s (roots-ordered s c ρ u d)) in
     rw (
       lower-is-mean s A B T c ρ (u .positive) (sh .a-positive) (sh .b-positive) (d .cap-positive),
@@ -83,13 +87,12 @@ pub ratio-falls : (s Sa F F′ : ℕ) → 0 < F → F ≤ F′ → ratio s Sa F�
 unfolding ratio
 ratio-falls s Sa F F′ p h = up-mono (s * Sa) F′ (s * Sa) F p h (le-refl (s * Sa))
 
-module _ (l : Lines) (m : Meeting l) (Sa : ℕ) where
-  pub blended-rises : (F F′ : ℕ) → F ≤ F′ → blended l Sa F ≤ blended l Sa F′
-  unfolding blended
-  blended-rises F F′ h =
-      up-mono (bent l Sa F) 1000 (bent l Sa F′) 1000 (omega arith) (omega arith) (bent-rises l m Sa F Sa F′ (le-refl Sa) h)
+pub blended-rises : (l : Lines) → Meeting l → (Sa F F′ : ℕ) → F ≤ F′ → blended l Sa F ≤ blended l Sa F′
+unfolding blended
+blended-rises l m Sa F F′ h =
+    up-mono (bent l Sa F) 1000 (bent l Sa F′) 1000 (omega arith) (omega arith) (bent-rises l m Sa F Sa F′ (le-refl Sa) h)
 
-  -- 'V* rises only where F is below Sa/0.3'
-  pub blended-full : (F : ℕ) → 1000 * Sa ≤ l .first * F → blended l Sa F ≡ Sa
-  unfolding blended
-  blended-full F h = ap (λ (z : ℕ). up z 1000) (bent-first l m Sa F h) ∙ up-exact Sa 1000 (omega arith)
+-- p is the spectrum where the factor is at least the spectrum over the end of the first line
+pub blended-full : (l : Lines) (Sa F : ℕ) → 1000 * Sa ≤ l .first * F → blended l Sa F ≡ Sa
+unfolding blended
+blended-full l Sa F h = ap (λ (z : ℕ). up z 1000) (bent-first l Sa F h) ∙ up-exact Sa 1000 (omega arith)

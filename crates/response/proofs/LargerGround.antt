@@ -12,7 +12,7 @@ use Rattle.whole.specs.declared.Fraction.{Fraction}
 use Rattle.whole.specs.Fraction.{over, times, AtMost}
 use Rattle.whole.proofs.Order.{at-most-trans, times-rises}
 use Rattle.response.specs.Spectrum.{g, exactSpectrum}
-use Rattle.response.proofs.Branches.{weights-positive, beyond, rising, level, below}
+use Rattle.response.proofs.Branches.{mean-positive, beyond, rising, level, below}
 use Rattle.response.proofs.LargerProducts.{far-below, flat, rising-twice, rising-once, far-past}
 use Rattle.response.proofs.LeastSpectrum.{low-rising, low-flat, low-past, both-past}
 use Rattle.response.proofs.Mean.{Weights, mean, weights}
@@ -163,7 +163,7 @@ module _ (e A B A′ B′ T : ℕ) (r c : Fraction) (o : Rooted e r c) (pb : 0 <
   enough : Enough (weights A′ B′ T) → AtMost (times second x) (times (over e 1) x′)
   enough k =
       at-most-trans (times second x) (times second (g A)) (times (over e 1) x′)
-      (mul-pos (mul-pos (weights-positive A′ B′ T (omega arith)) (mul-pos (o .root-positive) (o .cap-positive))) (omega arith))
+      (mul-pos (mean-positive A′ B′ T r c (omega arith) (o .root-positive) (o .cap-positive)) (omega arith))
       (times-rises second x (g A) (omega (arith, spectrum-within A 100_000_000 A B T (omega arith))))
       k
 

@@ -82,7 +82,7 @@ module _ (A B A′ B′ T α β : ℕ) (la : A ≤ A′) (lb : B ≤ B′) (leas
             ap (λ (v : ℕ). B′ * A′ * v) eQ,
           )
 
--- T0 of the second and beyond, T times A being t: by what is to be shown of the factor
+-- T0 of the second and beyond, by what is to be shown of the factor
 pub far-past : (e A B′ T α β γ p u : ℕ) → 0 < T → T * A * β ≤ 1000 * e * B′ * γ → 1000 * B′ * u ≤ p * (T * 100_000_000)
     → (0 * γ + 0 * α + 1 * β) * A * (1 * u) ≤ e * p * ((0 + 0 + 1) * γ * 100_000_000)
 far-past e A B′ T α β γ p u pt k low =

@@ -1,12 +1,11 @@
--- What a larger R makes of the hazards of an allowed ground, a site or a zone of the Taipei Basin: more ductile ones. And V is `Ahead` on each: near-fault
--- factors make no smaller A and B, and A of the design level without them is at most 0.8 g; in the Basin V's hazard is V*'s own, with 0.6 g.
+-- V is `Ahead` on every allowed ground: near-fault factors make no smaller A and B, and A of the design level without them is at most 0.8 g; in the Taipei
+-- Basin V's hazard is V*'s own, with 0.6 g.
 -- Assumes nothing.
 use mathlib.Core.Path.{refl, ap}
-use Prim.Native.Nat.{ℕ, _+_, _*_, _≤_, _<_}
-use native.Mathlib.Nat.{le-dest, le-trans, mul-le-mul, mul-le-mul-left, mul-le-mul-right}
+use Prim.Native.Nat.{ℕ, _+_, _*_, _≤_}
+use native.Mathlib.Nat.{le-dest, mul-le-mul-left, mul-le-mul-right}
 use native.Mathlib.Omega.{arith}
-use Rattle.whole.specs.declared.Fraction.{Fraction}
-use Rattle.whole.specs.Fraction.{over, AtMost}
+use Rattle.whole.specs.Fraction.{over}
 use Rattle.whole.specs.Root.{lowerRoot}
 use Rattle.whole.proofs.Root.{le-of-square, lower-root-is}
 use Rattle.limits.specs.Allowed.{AllowedSite, AllowedGround}
@@ -15,8 +14,7 @@ use Rattle.limits.specs.declared.ground.Ground.the-variants.{Site as OnSite, Ba
 use Rattle.limits.specs.declared.site.Site.{Site}
 use Rattle.limits.specs.declared.zone.Zone.{Zone}
 use Rattle.site.specs.Basin.{basinHazards}
-use Rattle.site.specs.Capacity.{designCapacity, designSquare, basinCapacity, basinSquare}
-use Rattle.site.specs.Coefficients.{factored}
+use Rattle.site.specs.Capacity.{designCapacity, designSquare}
 use Rattle.site.specs.Ground.{groundHazards}
 use Rattle.site.specs.Hazards.{hazardsOf}
 use Rattle.site.proofs.Rising.{a-rises, b-rises, factored-rises, a-design-most}
@@ -25,39 +23,11 @@ use Rattle.response.specs.Unit.{unit}
 use Rattle.response.proofs.LargerGround.{Rooted}
 use Rattle.response.proofs.Most.{spectrum-below}
 use Rattle.response.proofs.Reached.{small, roots-ordered, unit-fine}
-use Rattle.base_shear.specs.Moves.{MoreDuctile, MoreDuctileAll}
-use Rattle.base_shear.specs.Ready.{Reached}
-use Rattle.base_shear.proofs.Ahead.{Ahead, upperAt, own-hazard, larger-hazard}
+use Rattle.base_shear.proofs.Ahead.{Ahead, own-hazard, larger-hazard}
+use Rattle.base_shear.proofs.Stages.{upperAt}
 use Rattle.job.proofs.BasinReached.{basin-reached}
 use Rattle.job.proofs.Ductilities.{design-ductile}
 use Rattle.job.proofs.SiteReached.{site-reached}
-
--- ---- a larger R
-module _ (a b : ℕ) (c ρ c′ ρ′ : Fraction) where
-  hazard-more-ductile : AtMost c c′ → AtMost ρ ρ′
-      → MoreDuctile (record { a = a; b = b; capacity = c; square = ρ }) (record { a = a; b = b; capacity = c′; square = ρ′ })
-  hazard-more-ductile hc hρ = record { a = refl; b = refl; capacity = hc; square = hρ }
-
-pub ground-more-ductile : (g : Ground) (R R′ : ℕ) → R ≤ R′ → MoreDuctileAll (groundHazards g R) (groundHazards g R′)
-ground-more-ductile (OnSite s) R R′ h =
-    record {
-      design = hazard-more-ductile _ _ _ _ _ _ (omega arith) (omega arith);
-      mce = hazard-more-ductile _ _ _ _ _ _ (omega arith) (omega arith);
-      star = hazard-more-ductile _ _ _ _ _ _ (omega arith) (omega arith);
-      lines = refl;
-      divisor = refl;
-      stardivisor = refl;
-    }
-ground-more-ductile (InBasin z) R R′ h =
-    let allowable = hazard-more-ductile _ _ (basinCapacity R) (basinSquare R) (basinCapacity R′) (basinSquare R′) (omega arith) (omega arith) in
-    record {
-      design = allowable;
-      mce = hazard-more-ductile _ _ _ _ _ _ (omega arith) (omega arith);
-      star = allowable;
-      lines = refl;
-      divisor = refl;
-      stardivisor = refl;
-    }
 
 -- ---- the root of the design capacity: at most 3, and at least 0.6 of the capacity
 module _ (R : ℕ) (lo : 100 ≤ R) (hi : R ≤ 600) where
