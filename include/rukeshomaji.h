@@ -142,6 +142,7 @@ typedef struct {
  *            shears in N, each under its level; overturnings in N*dm, about the bottom of its storey. Other cells hold what they held
  * Reference  document 000 (1), (4) to (9), (12) to (14), (16) to (21), (23) without its factor. F_t of (21) is 0 for T up to 700 ms and at
  *            most V_D/4, rounded up. docs/DIFFERENCES.md says where else the rules depart from it
+ * Moves      v, vm, star and vd as of rukeshomaji_shear_call, by the sum of the weights; nothing is said of forces, shears and overturnings
  */
 uint64_t rukeshomaji_job(const RukeshomajiSite *site, const RukeshomajiFrame *frame, const uint64_t *weights, uint64_t weight_count,
                          const uint64_t *heights, uint64_t height_count, uint64_t *forces, uint64_t force_cells, uint64_t *shears,
@@ -154,6 +155,7 @@ uint64_t rukeshomaji_job(const RukeshomajiSite *site, const RukeshomajiFrame *fr
  * Refused    1 to 12, with 2 for lists of unequal length alone
  * Written    figures: all fields
  * Reference  document 000 (1), (4) to (9), (12) to (14), (16) to (20)
+ * Moves      as of rukeshomaji_shear_call, by the sum of the weights
  */
 uint64_t rukeshomaji_figures(const RukeshomajiSite *site, const RukeshomajiFrame *frame, const uint64_t *weights, uint64_t weight_count,
                              const uint64_t *heights, uint64_t height_count, RukeshomajiFigures *figures);
@@ -168,6 +170,7 @@ uint64_t rukeshomaji_figures(const RukeshomajiSite *site, const RukeshomajiFrame
  * Written    as of rukeshomaji_job
  * Reference  document 000, 2.1 after (4) for the period, (6) to (8), (10), (11), (15) to (21), Table 4, (23) without its factor.
  *            F_t of (21) as of rukeshomaji_job. docs/DIFFERENCES.md says where else the rules depart from it
+ * Moves      as of rukeshomaji_job, with the same zone
  */
 uint64_t rukeshomaji_basin_job(uint64_t zone, const RukeshomajiFrame *frame, const uint64_t *weights, uint64_t weight_count,
                                const uint64_t *heights, uint64_t height_count, uint64_t *forces, uint64_t force_cells, uint64_t *shears,
@@ -180,6 +183,7 @@ uint64_t rukeshomaji_basin_job(uint64_t zone, const RukeshomajiFrame *frame, con
  * Refused    1 to 4, 18, 8 to 12, with 2 for lists of unequal length alone
  * Written    figures: all fields
  * Reference  document 000, 2.1 after (4) for the period, (6) to (8), (10), (11), (15) to (20), Table 4
+ * Moves      as of rukeshomaji_figures, with the same zone
  */
 uint64_t rukeshomaji_basin_figures(uint64_t zone, const RukeshomajiFrame *frame, const uint64_t *weights, uint64_t weight_count,
                                    const uint64_t *heights, uint64_t height_count, RukeshomajiFigures *figures);
@@ -197,9 +201,9 @@ uint64_t rukeshomaji_basin_figures(uint64_t zone, const RukeshomajiFrame *frame,
  * Reference  document 000 (1), (4) to (9), (12) to (14), (16) to (20). By its 3.4 V_D scales a dynamic analysis; docs/manual/shear_and_storeys.md
  * Towers     if n calls, and the call with the sum of their weights, have the same site and frame and get the same t, then their vd add up to
  *            the vd of that call, or to at most (n - 1) N more; docs/manual/towers.md
- * Moves      of two calls with the same site that get the same t: a larger i, a larger weight and a smaller alpha_y, with the same r, lower
- *            none of v, vm, star and vd; a larger r, with the same i, alpha_y and weight, raises none of v, vm and vd, and does not lower
- *            star; docs/manual/moves.md. Of a job the same, by the sum of its weights
+ * Moves      of two calls with the same site that get the same t: with the same r, if i and weight are no smaller and alpha_y is no larger, none
+ *            of v, vm, star and vd is lower; with the same i, alpha_y and weight, a larger r raises none of v, vm and vd and never lowers star,
+ *            which can rise; docs/manual/moves.md
  */
 uint64_t rukeshomaji_shear_call(const RukeshomajiSite *site, const RukeshomajiFrame *frame, uint64_t weight, uint64_t height,
                                 RukeshomajiFigures *figures);

@@ -80,14 +80,14 @@ def star_table(worked):
         result, (F, _) = with_frame(worked, R=R), response.design_capacity(R)
         assert 0 <= result.star.upper_factor - F * UNIT < 1 and result.star.spectrum == worked.star.spectrum
         rows.append((hundredths(R), decimal(F, 4), decimal(Sa / F, 4), comma(result.p), *cells(result), governs(result)))
-    return table(('R', 'F', 'Sa/F', 'p, 10⁻⁷ g', *FIGURES, 'V_D is'), rows)
+    return table(('R', 'F of V, V*', 'Sa/F of V, V*', 'p, 10⁻⁷ g', *FIGURES, 'V_D is'), rows)
 
 
 def other_stars(near_fault, worked):
     """V* at a smaller and a larger R, near a fault and in a zone."""
     rows = []
     in_zone = worked._replace(ground=limits.Basin(ZONE))
-    for name, result in (('near a fault, `examples/near_fault.sheet`', near_fault), (f'zone {ZONE} of the Basin', in_zone)):
+    for name, result in (('`examples/near_fault.sheet` with another R', near_fault), (f'worked sheet in zone {ZONE} of the Basin, with another R', in_zone)):
         low, high = (with_frame(result, R=R) for R in OTHER_RISES)
         assert low.T == high.T and low.V_star < high.V_star <= low.V and high.V_D < low.V_D
         rows += [(name, hundredths(each.frame.R), comma(each.T), *cells(each)) for each in (low, high)]
@@ -145,7 +145,7 @@ def period_table(worked):
         assert before.T != after.T and side == ('higher' if after.V_D > before.V_D else 'lower')
         assert (after.V > before.V) == (side == 'higher') and (before.V_D != after.V_D)
         rows.append((name, arrow(before.T, after.T), arrow(before.V, after.V), arrow(before.V_D, after.V_D), side))
-    return table(('changed', 'T, ms', 'V, N', 'V_D, N', 'V_D is'), rows)
+    return table(('changed', 'T, ms', 'V, N', 'V_D, N', 'V_D becomes'), rows)
 
 
 def storeys_table(before, after):
@@ -191,6 +191,8 @@ def names(data, near_fault_data):
     light = [calls.shear_call(office.ground, frame._replace(alphay=alphay), LIGHT, office.heights[-1]).V_D for alphay in LIGHT_ALPHAY]
     assert light[0] == light[1]
     most, basin_most = most_A(), Fraction(basins.S_DS, 10**8)
+    rising, fifth = calls.shear_call(*RISING, office.W, RISING_HEIGHTS[0]).T, Fraction(basins.TABLE_4[RISING[0].zone], 5)
+    assert rising < fifth and low.p * 1000 == 520 * low.star.spectrum + 144 * low.star.upper_factor and low.star.upper_factor == UNIT
     assert most / Fraction(3, 10) < 3 and basin_most / Fraction(3, 10) < Fraction(5, 2) and sites.V_STAR == 3 * Fraction(14, 10)
     assert basins.V_STAR == Fraction(5, 2) * Fraction(14, 10)
     return {'light_W': str(LIGHT), 'light_V_D': comma(light[0]), 'light_alphay': hundredths(LIGHT_ALPHAY[0]),
@@ -198,10 +200,12 @@ def names(data, near_fault_data):
             'level': comma(office.weights[0]), 'T': comma(office.T), 'changes_table': changes_table(office), 'T0': decimal(T0),
             'Sa': in_ones(office.star.spectrum), 'star_table': star_table(office), 'star_low': hundredths(STAR_RISES[0]),
             'star_high': hundredths(STAR_RISES[1]), 'star_before': comma(low.V_star), 'star_after': comma(high.V_star),
-            'star_percent': str(round(100 * Fraction(high.V_star - low.V_star, low.V_star))), 'end_factor': in_ones(high.star.upper_factor),
+            'star_percent': str(round(100 * Fraction(high.V_star - low.V_star, low.V_star))),
             'v_fall': comma(low.V - high.V), 'vm_fall': comma(low.V_M - high.V_M), 'vd_fall': comma(low.V_D - high.V_D),
             'level_R': hundredths(LEVEL), 'last_R': hundredths(limits.R_RANGE[-1]), 'other_stars': other_stars(near_fault, office),
-            'most_A': decimal(most), 'most_factor': decimal(most / Fraction(3, 10), 2), 'basin_A': decimal(basin_most),
+            'most_A': decimal(most), 'most_third': decimal(most / 3), 'basin_part': decimal(basin_most / Fraction(5, 2)),
+            'rising_T': comma(rising), 'rising_fifth': decimal(fifth), 'Sa_M': in_ones(office.mce.spectrum), 'p_low': in_ones(low.p),
+            'most_factor': decimal(most / Fraction(3, 10), 2), 'basin_A': decimal(basin_most),
             'basin_factor': decimal(basin_most / Fraction(3, 10)), 'period_table': period_table(office),
             'rising_kind': str(RISING[1].kind), 'rising_R': hundredths(RISING[1].R), **roof_names(office), 'printed': code(moves_lines(office))}
 

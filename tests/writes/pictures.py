@@ -519,12 +519,12 @@ def moves():
         picture.line([(640, y - 6), (690, y - 6)], colour, width, dash)
         picture.words(702, y, words, size=16)
     shears = dict(over['V_star'])
-    said = ((first, f'{shears[first]:,} N', 10, 34), (end, f'R = {decimal(Fraction(end, 100), 2)}: {shears[end]:,} N, and no higher', 0, 40),
-            (level, f'from R = {decimal(Fraction(level, 100), 2)} on V_D is V*', -40, -40))
+    said = ((first, f'V* = {shears[first]:,} N', 10, 42), (end, f'V* = {shears[end]:,} N from R = {decimal(Fraction(end, 100), 2)} on', 20, 28),
+            (level, f'V_D = V* from R = {decimal(Fraction(level, 100), 2)} on', -40, -40))
     for R, words, right, down in said:
         axes.dot(R - first, Fraction(shears[R], 10**6), RED)
         axes.words(R - first, Fraction(shears[R], 10**6), words, right=right, down=down, colour=RED, size=16)
-    picture.words(110, 36, 'The worked sheet with another R: V and V_M fall, V* can rise, V_D does not', size=19, weight='bold')
+    picture.words(110, 36, 'The worked sheet over R: V and V_M fall, V* can rise, V_D never rises', size=19, weight='bold')
     return picture.svg()
 
 
