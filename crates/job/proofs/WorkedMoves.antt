@@ -14,7 +14,6 @@ use Rattle.whole.specs.Search.{largest, smallest, bitsFrom}
 use Rattle.whole.specs.Signed.{floor, ceiling}
 use Rattle.limits.specs.declared.frame.FrameValues.{FrameValues}
 use Rattle.limits.specs.declared.ground.GroundValues.{GroundValues}
-use Rattle.limits.specs.declared.ground.GroundValues.the-variants.{Site, Basin}
 use Rattle.limits.specs.Building.{judgedBuilding}
 use Rattle.limits.specs.Frame.{judgedKind, judgedPeriod, judgedFrame}
 use Rattle.limits.specs.Judging.{judgedJob, judgedShearCall}
@@ -22,7 +21,6 @@ use Rattle.limits.specs.Levels.{weighed, raised, judgedLevels}
 use Rattle.limits.specs.Outcome.{accepted}
 use Rattle.limits.specs.Ranges.{inRange, among, within, listed}
 use Rattle.limits.specs.Site.{judgedClass, judgedMapped, judgedNearFault, judgedSite}
-use Rattle.limits.specs.Zone.{judgedZone}
 use Rattle.response.specs.Factor.{factor, lowerFactor, upperFactor}
 use Rattle.response.specs.Period.{approximate, inUse}
 use Rattle.response.specs.Ratio.{bent, ratio, modified, blended}
@@ -31,31 +29,10 @@ use Rattle.base_shear.specs.declared.Figures.{Figures}
 use Rattle.base_shear.specs.Shears.{newtons, shear, star, base, figuresAt}
 use Rattle.storeys.specs.Storeys.{weightHeight, about}
 use Rattle.job.specs.declared.FiguresAnswer.the-variants.{Taken}
-use Rattle.job.specs.Job.{Results, jobOf, Figured}
+use Rattle.job.specs.Job.{Results, jobOf}
 use Rattle.job.specs.Moves.{withR, withWeight}
 use Rattle.job.specs.ShearCall.{shearCallOf, Sheared}
-
-abbrev siteWith : ℕ → ℕ → ℕ → ℕ → GroundValues
-siteWith nad nvd nam nvm = Site (record { ssd = 80; s1d = 45; ssm = 100; s1m = 55; nad = nad; nvd = nvd; nam = nam; nvm = nvm; class = 1 })
-
-abbrev plain : GroundValues
-plain = siteWith 100 100 100 100
-
-abbrev nearFault : GroundValues
-nearFault = siteWith 112 123 118 136
-
--- with a calculated period in ms, 0 for none, and R
-abbrev frame : ℕ → ℕ → FrameValues
-frame calculated r = record { kind = 2; calculated = calculated; r = r; i = 100; alpha = 150 }
-
-abbrev weights : List ℕ
-weights = 5000 ∷ 5000 ∷ 5000 ∷ []
-
-abbrev heights : List ℕ
-heights = 100 ∷ 200 ∷ 300 ∷ []
-
-abbrev figures : ℕ → ℕ → ℕ → ℕ → ℕ → Figures
-figures v vm star vd t = record { v = v; vm = vm; star = star; vd = vd; t = t }
+use Rattle.job.proofs.WorkedStar.{plain, frame, weights, heights, figures}
 
 -- ---- what is answered with no calculated period, 30 and 35 m high: T is 897 and 1,007 ms
 abbrev of30 : Figures

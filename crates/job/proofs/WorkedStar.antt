@@ -1,11 +1,10 @@
 -- The building of document 01's worked sheet with a larger R. V* rises, on its site, near a fault and in zone 3 of the Taipei Basin, while V, V_M and V_D
 -- fall. Where V* is the largest V_D stays, so a larger R does not always lower it. The definition, computed.
 -- Assumes nothing.
-use mathlib.Core.Path.{_≡_, refl}
+use mathlib.Core.Path.{refl}
 use mathlib.Core.List.{List, [], _∷_}
-use Prim.Native.Nat.{ℕ, _≤_, _<_}
+use Prim.Native.Nat.{ℕ, _<_}
 use native.Mathlib.Omega.{arith}
-use lib.ListN.{getD}
 use Rattle.whole.specs.Cells.{cells, sum}
 use Rattle.whole.specs.Line.{between}
 use Rattle.whole.specs.Root.{lowerRoot, upperRoot}
@@ -15,11 +14,9 @@ use Rattle.whole.specs.Signed.{floor, ceiling}
 use Rattle.limits.specs.declared.frame.FrameValues.{FrameValues}
 use Rattle.limits.specs.declared.ground.GroundValues.{GroundValues}
 use Rattle.limits.specs.declared.ground.GroundValues.the-variants.{Site, Basin}
-use Rattle.limits.specs.Building.{judgedBuilding}
 use Rattle.limits.specs.Frame.{judgedKind, judgedPeriod, judgedFrame}
-use Rattle.limits.specs.Judging.{judgedJob, judgedShearCall}
+use Rattle.limits.specs.Judging.{judgedJob}
 use Rattle.limits.specs.Levels.{weighed, raised, judgedLevels}
-use Rattle.limits.specs.Outcome.{accepted}
 use Rattle.limits.specs.Ranges.{inRange, among, within, listed}
 use Rattle.limits.specs.Site.{judgedClass, judgedMapped, judgedNearFault, judgedSite}
 use Rattle.limits.specs.Zone.{judgedZone}
@@ -31,30 +28,29 @@ use Rattle.base_shear.specs.declared.Figures.{Figures}
 use Rattle.base_shear.specs.Shears.{newtons, shear, star, base, figuresAt}
 use Rattle.storeys.specs.Storeys.{weightHeight, about}
 use Rattle.job.specs.declared.FiguresAnswer.the-variants.{Taken}
-use Rattle.job.specs.Job.{Results, jobOf, Figured}
-use Rattle.job.specs.Moves.{withR, withWeight}
-use Rattle.job.specs.ShearCall.{shearCallOf, Sheared}
+use Rattle.job.specs.Job.{jobOf, Figured}
+use Rattle.job.specs.Moves.{withR}
 
 abbrev siteWith : ℕ → ℕ → ℕ → ℕ → GroundValues
 siteWith nad nvd nam nvm = Site (record { ssd = 80; s1d = 45; ssm = 100; s1m = 55; nad = nad; nvd = nvd; nam = nam; nvm = nvm; class = 1 })
 
-abbrev plain : GroundValues
+abbrev pub plain : GroundValues
 plain = siteWith 100 100 100 100
 
 abbrev nearFault : GroundValues
 nearFault = siteWith 112 123 118 136
 
 -- with a calculated period in ms, 0 for none, and R
-abbrev frame : ℕ → ℕ → FrameValues
+abbrev pub frame : ℕ → ℕ → FrameValues
 frame calculated r = record { kind = 2; calculated = calculated; r = r; i = 100; alpha = 150 }
 
-abbrev weights : List ℕ
+abbrev pub weights : List ℕ
 weights = 5000 ∷ 5000 ∷ 5000 ∷ []
 
-abbrev heights : List ℕ
+abbrev pub heights : List ℕ
 heights = 100 ∷ 200 ∷ 300 ∷ []
 
-abbrev figures : ℕ → ℕ → ℕ → ℕ → ℕ → Figures
+abbrev pub figures : ℕ → ℕ → ℕ → ℕ → ℕ → Figures
 figures v vm star vd t = record { v = v; vm = vm; star = star; vd = vd; t = t }
 
 -- ---- what is answered at 1.00 and at a larger R: on the site at 1,000 ms, near a fault at 500 ms, in zone 3

@@ -13,7 +13,6 @@ use Rattle.whole.specs.Cells.{below}
 use Rattle.whole.specs.Choice.{pick}
 use Rattle.limits.specs.declared.frame.Frame.{Frame}
 use Rattle.limits.specs.declared.frame.FrameValues.{FrameValues}
-use Rattle.limits.specs.declared.kind.Kind.{Kind}
 use Rattle.limits.specs.declared.ground.Ground.{Ground}
 use Rattle.limits.specs.declared.ground.Ground.the-variants.{Site as OnSite, Basin as InBasin}
 use Rattle.limits.specs.declared.ground.GroundValues.{GroundValues}
@@ -27,7 +26,7 @@ use Rattle.limits.specs.Frame.{judgedPeriod, judgedFrame}
 use Rattle.limits.specs.Ground.{judgedGround}
 use Rattle.limits.specs.Judging.{judgedGiven, judgedJob}
 use Rattle.limits.specs.Levels.{counted, paired, roomy, judgedWeight, weighed, judgedHeight, raised, judgedLevels, topHeight}
-use Rattle.limits.specs.Outcome.{Outcome, accepted, refused, Done, require, _>>=_, _>>_}
+use Rattle.limits.specs.Outcome.{Outcome, accepted, refused, Done, require, _>>=_}
 use Rattle.limits.specs.Ranges.{inRange, among, within, listed}
 use Rattle.limits.proofs.FramePassed.{frame-passed}
 use Rattle.limits.proofs.Passed.{differ, one-value, then-passed, bind-passed, require-passed, within-passed}
