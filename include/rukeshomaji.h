@@ -142,7 +142,8 @@ typedef struct {
  *            shears in N, each under its level; overturnings in N*dm, about the bottom of its storey. Other cells hold what they held
  * Reference  document 000 (1), (4) to (9), (12) to (14), (16) to (21), (23) without its factor. F_t of (21) is 0 for T up to 700 ms and at
  *            most V_D/4, rounded up. docs/DIFFERENCES.md says where else the rules depart from it
- * Moves      v, vm, star and vd as of rukeshomaji_shear_call, by the sum of the weights; nothing is said of forces, shears and overturnings
+ * Moves      v, vm, star and vd as of rukeshomaji_shear_call, by the sum of the weights; nothing is said of forces,
+ *            overturnings and the shears above level 1
  */
 uint64_t rukeshomaji_job(const RukeshomajiSite *site, const RukeshomajiFrame *frame, const uint64_t *weights, uint64_t weight_count,
                          const uint64_t *heights, uint64_t height_count, uint64_t *forces, uint64_t force_cells, uint64_t *shears,

@@ -3,8 +3,8 @@
 The numerals of the chain are tried on the jobs of crates/vectors, those of the soil log on the logs of crates/run_logs, those of
 the ranges and refusals on the changed jobs of crates/run_refusals, the jobs of crates/vectors and the shear calls and
 distributions of crates/run_calls: the files that stand there, which the unchanged model must meet first. What they do not see,
-and the numerals of towers and of moves, are tried on the figures of tests/compares/check_model.py. A numeral of an assertion is
-left alone, and so are the names of LEFT, each with its reason.
+and the numerals of towers, are tried on the figures of tests/compares/check_model.py. A numeral of an assertion is left alone,
+and so are the names of LEFT, each with its reason.
 
 usage: python3 -m tests.compares.changed_numerals
 """
@@ -20,8 +20,8 @@ import signal
 import sys
 
 from tests.compares import check_model
-from tests.compares.checks import basin as basin_figures, errors, figures, moves as move_figures, towers as tower_figures
-from tests.model import basin, calls, exact, limits, moves, response, shears, site, soil, storeys, towers
+from tests.compares.checks import basin as basin_figures, errors, figures, towers as tower_figures
+from tests.model import basin, calls, exact, limits, response, shears, site, soil, storeys, towers
 from tests.model.job import job
 from tests.writes import call_cases, log_cases, refusal_cases, vectors
 
@@ -138,14 +138,13 @@ def suites():
     cases = call_cases.all_cases()
     known = [*answers(CRATES / 'run_refusals' / 'stdout'), *(vector(*row) for row in rows), *call_cases.stored(cases)]
     yield (limits, calls), judged, [*jobs, *rows, *((case,) for case in cases)], known
-    yield (towers, moves), judged, [], []       # no stored case says what towers add up to, or which way figures move
+    yield (towers,), towers.holds, [], []        # no stored case says what towers add up to
 
 
 def by_figures():
     """Do the figures that the model is checked against see it?"""
-    for module, known in ((towers, tower_figures.HOLDS), (moves, move_figures.HOLDS)):
-        if any(module.holds(*case) != so for case, so in known.items()):
-            return True
+    if any(towers.holds(*case) != known for case, known in tower_figures.HOLDS.items()):
+        return True
     return any(got != wanted for module in (figures, basin_figures, errors) for _, got, wanted in check_model.answers(module))
 
 

@@ -17,7 +17,7 @@ from tests.model import limits
 from tests.model.moves import AT_ONCE, CHANGES, HEAVIER, LARGER_I, LARGER_R, LOADS, SMALLER_ALPHA_Y
 
 NAMES = {kind: name.replace('shear call', 'moves') for kind, name in SHEAR_NAMES.items()}
-TIED = f'{LARGER_R}: {larger_r.TIED}'       # how the name of the stratum ends that is long looked for
+TIED = f'{LARGER_R}: {larger_r.TIED}'       # how the name of the rare stratum ends
 OF_FRAME = {LARGER_R: ('R', limits.R_RANGE), LARGER_I: ('I', limits.I_VALUES), SMALLER_ALPHA_Y: ('alphay', limits.ALPHA_Y)}
 CALLS = 5               # of what is drawn from all that is allowed one in so many is a pair of shear calls
 

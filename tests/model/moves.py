@@ -67,7 +67,8 @@ def level(before, after):
 
 
 def besides(change, before, after):
-    """What follows besides: of a load that none of V, V_M and V* is lowered, of a larger R that V* is not, and that V_D is not raised."""
+    """What follows besides: of a load that none of V, V_M and V* is lowered; of a larger R that V* is not, and grows to V at most, and that V_D is not
+    raised, and stays where it is V*."""
     return meets(BESIDES[change], before, after) and (change != LARGER_R or at_most_V(before, after) and level(before, after))
 
 

@@ -15,7 +15,7 @@ SHOWN_R = (100, 125, 150, 175, 200, 300, 400, 480, 600)     # of the table of V*
 CALLED_R = (100, 175, 400, 480, 600)                        # of the example
 STAR_RISES, LEVEL = (100, 175), 400                         # where V* of the worked sheet rises, and from where on V_D is level
 OTHER_RISES, ZONE = (100, 400), 3                           # the same near a fault and in a zone
-HEAVIER_I, SMALLER_ALPHAY, HEAVIER, ROOF = 125, 100, 6_000, 2
+LARGER_I, SMALLER_ALPHAY, HEAVIER, ROOF = 125, 100, 6_000, 2
 LIGHT, LIGHT_ALPHAY = 1, (200, 199)                         # kN and alpha-y, where V_D stays
 TALLER, HEAVY, STIFFER = 350, 16_000, 900                   # dm, kN, ms
 RISING, RISING_HEIGHTS = (limits.Basin(1), limits.Frame(4, 0, 100, 100, 150)), (100, 150)      # where V_D grows with T
@@ -48,14 +48,14 @@ def changed(worked):
     frame, roof = worked.frame, len(worked.weights) - 1
     assert roof == ROOF
     yield 'nothing', '', worked
-    yield 'I', f'{hundredths(frame.I)} → {hundredths(HEAVIER_I)}', with_frame(worked, I=HEAVIER_I)
+    yield 'I', f'{hundredths(frame.I)} → {hundredths(LARGER_I)}', with_frame(worked, I=LARGER_I)
     yield 'alpha-y', f'{hundredths(frame.alphay)} → {hundredths(SMALLER_ALPHAY)}', with_frame(worked, alphay=SMALLER_ALPHAY)
     yield 'weight of the roof', f'{arrow(worked.weights[roof], HEAVIER)} kN', with_weight(worked, roof, HEAVIER)
     yield from (('R', f'{hundredths(frame.R)} → {hundredths(R)}', with_frame(worked, R=R)) for R in (600, 300))
 
 
 def changes_table(worked):
-    """The worked sheet with one number changed: the first four rows rise, with a larger R V and V_M fall."""
+    """The worked sheet with one number changed: with I, alpha-y and the roof all rise, with a larger R V and V_M fall."""
     rows = list(changed(worked))
     assert all(result.T == worked.T for _, _, result in rows)
     assert all(min(figures(result)[k] - figures(worked)[k] for k in range(4)) > 0 for _, _, result in rows[1:4])
@@ -123,7 +123,7 @@ def arrow(one, other):
 
 
 def period_pairs(worked):
-    """Two calls each with another T: what is changed, and both; how V_D, or V with R, must move."""
+    """Two calls each with another T: what is changed, and both; which way V and V_D move."""
     frame, W, h, ground = worked.frame, worked.W, worked.heights[-1], worked.ground
     plain = frame._replace(calculated_period=0)
     yield f'taller: {metres(h)} → {metres(TALLER)} m', (ground, plain, W, h), (ground, plain, W, TALLER), 'lower'
@@ -158,7 +158,7 @@ def storeys_table(before, after):
 
 
 def roof_names(worked):
-    """A heavier roof, and a heavier level below a light one."""
+    """A heavier roof, and a heavier level below the roof."""
     heavier = with_weight(worked, ROOF, HEAVIER)
     assert heavier.V_D > worked.V_D and heavier.forces[0] < worked.forces[0] and heavier.forces[1] < worked.forces[1]
     heights = [worked.heights[0], MIDDLE, worked.heights[-1]]
@@ -174,7 +174,7 @@ def moves_lines(worked):
     """What examples/moves.c prints: the worked sheet with other R, I, alpha-y and total weight."""
     frame, W, h = worked.frame, worked.W, worked.heights[-1]
     made = [('R', R, frame._replace(R=R), W) for R in CALLED_R]
-    made += [('I', HEAVIER_I, frame._replace(I=HEAVIER_I), W), ('alpha-y', SMALLER_ALPHAY, frame._replace(alphay=SMALLER_ALPHAY), W),
+    made += [('I', LARGER_I, frame._replace(I=LARGER_I), W), ('alpha-y', SMALLER_ALPHAY, frame._replace(alphay=SMALLER_ALPHAY), W),
              ('weight', HEAVY, frame, HEAVY)]
     results = [(name, number, calls.shear_call(worked.ground, line, weight, h)) for name, number, line, weight in made]
     assert all(result.T == worked.T for _, _, result in results)
@@ -207,7 +207,8 @@ def names(data, near_fault_data):
             'rising_T': comma(rising), 'rising_fifth': decimal(fifth), 'Sa_M': in_ones(office.mce.spectrum), 'p_low': in_ones(low.p),
             'most_factor': decimal(most / Fraction(3, 10), 2), 'basin_A': decimal(basin_most),
             'basin_factor': decimal(basin_most / Fraction(3, 10)), 'period_table': period_table(office),
-            'rising_kind': str(RISING[1].kind), 'rising_R': hundredths(RISING[1].R), **roof_names(office), 'printed': code(moves_lines(office))}
+            'rising_kind': str(RISING[1].kind), 'rising_R': hundredths(RISING[1].R), 'rising_I': hundredths(RISING[1].I), 'near_T': comma(near_fault.T),
+            **roof_names(office), 'printed': code(moves_lines(office))}
 
 
 def over_R(worked):

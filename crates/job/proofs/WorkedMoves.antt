@@ -1,5 +1,5 @@
--- The building of document 01's worked sheet with one thing changed. A heavier roof raises V_D and lowers the forces below it. Where T does not stay the same, a
--- heavier building can have a lower V_D, and a larger R a higher V. The definition, computed.
+-- The building of document 01's worked sheet with a heavier roof: V_D rises, and the forces below the roof fall. And with another T, where a heavier
+-- building has a lower V_D, and a larger R a higher V. The definition, computed.
 -- Assumes nothing.
 use mathlib.Core.Path.{_≡_, refl}
 use mathlib.Core.List.{List, [], _∷_}

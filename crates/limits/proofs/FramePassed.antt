@@ -1,5 +1,5 @@
 -- What a frame line that is accepted has passed, judgment by judgment.
---   FramePassed v f    so it is of a frame line v and the frame f that is made of it
+--   FramePassed v f    the judgments that the frame line v has passed, and that the frame f is made of it
 -- Assumes nothing.
 use mathlib.Core.Path.{_≡_}
 use mathlib.Core.List.{[], _∷_}

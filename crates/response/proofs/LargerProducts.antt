@@ -6,7 +6,7 @@ use Prim.Native.Nat.{ℕ, _+_, _*_, _≤_, _<_}
 use native.Mathlib.Nat.{le-dest, mul-le-mul, mul-le-mul-left, mul-le-mul-right, le-of-mul-le-mul-right}
 use native.Mathlib.Omega.{arith}
 
--- T up to 0.2 of the second corner, which is y + t
+-- T up to 0.2 of the second corner, which times A′ is y + t
 pub far-below : (e A A′ α γ y t p u : ℕ) → 3 ≤ e → A ≤ A′ → α ≤ e * γ → A′ * (2 * y + 5 * t) * u ≤ p * (5 * (y + t) * 100_000_000)
     → (β : ℕ) → (10 * y * γ + 10 * t * α + 0 * β) * A * (1 * u) ≤ e * p * ((10 * y + 10 * t + 0) * γ * 100_000_000)
 far-below e A A′ α γ y t p u three la ra low β =
@@ -24,7 +24,7 @@ far-below e A A′ α γ y t p u three la ra low β =
 pub flat : (e A A′ N D p u : ℕ) → N * A ≤ e * A′ * D → A′ * u ≤ p * 100_000_000 → N * A * (1 * u) ≤ e * p * (D * 100_000_000)
 flat e A A′ N D p u k low = omega (arith, mul-le-mul-right u k, mul-le-mul-right (e * D) low)
 
--- N of T between 0.6·T0 and T0, in tens: y is T0 − T and z is T − 0.6·T0, both times A; times the other A
+-- the factor between 0.6·T0 and T0 without its divisor: y is T0 − T and z is T − 0.6·T0, both times A; all times the other A
 on-line : (B C t k α β P Q y z : ℕ) → y + t ≡ 1000 * B → z + 600 * B ≡ t → t * C ≡ k → 3 * β + P ≡ 5 * α → α + Q ≡ β
     → (y * α + z * β) * C ≡ 200 * (B * C * P) + k * Q
 on-line B C t k α β P Q y z ey ez ek eP eQ =

@@ -1,5 +1,5 @@
--- A line between two columns: what stands at x, times x, rises with x. It does so to the end where the value of p times the place of q is at most the value of
--- q times that place and the width together, so that the value falls slowly.
+-- A line between two columns p and q: what stands at x, times x, rises with x. It does so to the end where the value of p times the place of q is at most the
+-- value of q times that place and the width together, so that the value falls slowly.
 --   of f x    x times a fraction
 -- Assumes nothing.
 use mathlib.Core.Path.{_≡_, sym, subst, subst₂}

@@ -1,4 +1,4 @@
--- Where a table's values fall slowly, what stands at x times x rises with x: over any columns.
+-- Where a table's values fall slowly, what stands at x, times x, rises with x: over any columns.
 --   slow cs    each column stands past the one before it, and the value falls as slowly as the line between them asks (LineRises)
 -- Assumes nothing.
 use mathlib.Core.Path.{_≡_, sym, ap}
