@@ -67,7 +67,7 @@ module _ (s : ℕ) (k k′ : Hazards) (T : ℕ) (d : MoreDuctileAll k k′) (g :
   star-stays h = le-trans star-to-end (star-at-end h)
 
   module _ (b : Ahead s k T) where
-    -- as far as q and Sa go by their divisors, so does m
+    -- where q is at least Sa/e, so is m: on the first line m is q, and past it m is no lower than its end, which Sa/e does not exceed (`soon`)
     bent-enough : k .divisor * sa ≤ k .stardivisor * ratioAt s (k .design) T
         → k .divisor * (1000 * sa) ≤ k .stardivisor * bent (k .lines) (ratioAt s (k .design) T) s
     bent-enough h = go (decLe (1000 * q) (k .lines .first * s))
