@@ -2,6 +2,7 @@
 -- second times the spectrum of the first is at most e times the spectrum of the second: where a shorter T0 makes the factor of the second the larger,
 -- a larger A makes its spectrum larger still.
 --   Rooted e r c    a root r of at most e, not above the capacity c and at least 0.6 of it; e at least 3
+-- The cases, by where T lies on each ground, stand in one file: they share what is known of both.
 -- Assumes nothing.
 use mathlib.Core.Path.{_≡_, sym, ap, subst, subst₂}
 use Prim.Native.Nat.{ℕ, _+_, _-_, _*_, _≤_, _<_}
