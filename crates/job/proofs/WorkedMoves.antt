@@ -32,6 +32,7 @@ use Rattle.job.specs.declared.FiguresAnswer.the-variants.{Taken}
 use Rattle.job.specs.Job.{Results, jobOf}
 use Rattle.job.specs.Moves.{withR, withWeight}
 use Rattle.job.specs.ShearCall.{shearCallOf, Sheared}
+use Rattle.job.proofs.Worked.{worked}
 use Rattle.job.proofs.WorkedStar.{plain, frame, weights, heights, figures}
 
 -- ---- what is answered with no calculated period, 30 and 35 m high: T is 897 and 1,007 ms
@@ -47,7 +48,7 @@ of35 = figures 903_380 812_764 1_063_981 1_063_981 1007
 abbrev moreDuctileOf30 : Figures
 moreDuctileOf30 = figures 1_012_253 910_537 1_194_458 1_194_458 897
 
--- with the roof of 5,000 and of 6,000 kN
+-- with the roof of 5,000 kN, as on the sheet, and of 6,000 kN
 abbrev light : Results
 light =
     record {
@@ -82,7 +83,7 @@ unfolding jobOf judgedJob judgedLevels weighed raised within inRange among liste
     judgedFrame judgedKind judgedPeriod cells sum between lowerRoot upperRoot up down largest smallest bitsFrom factor lowerFactor
     upperFactor approximate inUse bent ratio modified blended exactSpectrum spectrum newtons shear star base figuresAt weightHeight about floor
     ceiling
-heavier-roof = (refl, refl, omega arith, omega arith, omega arith)
+heavier-roof = (worked, refl, omega arith, omega arith, omega arith)
 
 -- ---- with nothing said of T neither a heavier building nor a larger R moves the figures the one way
 -- 15,000 kN at 30 m have 1,194,458 N, and 16,000 kN at 35 m have 1,134,913 N

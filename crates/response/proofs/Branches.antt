@@ -40,10 +40,11 @@ factor-positive A B T r c pa pb pr pc =
     by-leb (λ (z : Signed). 0 < z .den) (2 * (1000 * B) * 1) (T * (10 * A)) _ _ (λ _. pr)
     (λ _. mul-pos pr (mul-pos (mul-pos pr (omega arith)) (e 2 (omega arith))))))
 
--- ---- the printed factors are the mean, rounded
+-- ---- the divisor of the mean is above 0
 pub mean-positive : (A B T : ℕ) (r c : Fraction) → 0 < B → 0 < r .den → 0 < c .den → 0 < mean (weights A B T) r c .den
 mean-positive A B T r c pb pr pc = mul-pos (weights-positive A B T pb) (mul-pos pr pc)
 
+-- ---- the printed factors are the mean, rounded
 module _ (s A B T : ℕ) (c ρ : Fraction) (ps : 0 < s) (pa : 0 < A) (pb : 0 < B) (pc : 0 < c .den) where
   pub lower-is-mean : lowerFactor s A B T c ρ ≡ downIn s (mean (weights A B T) (over (lowerRoot s ρ) s) c)
   unfolding lowerFactor

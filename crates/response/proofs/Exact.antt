@@ -1,4 +1,4 @@
--- The exact factor is the mean of 1, the root and the capacity, of no sign; how the exact stages move with the root.
+-- The exact factor is the mean of 1, the root and the capacity, of no sign; how the exact stages move with the root, and the mean with the capacity.
 -- Assumes nothing.
 use mathlib.Core.Path.{_≡_}
 use Prim.Native.Nat.{ℕ, _*_, _≤_, _<_}
