@@ -1,4 +1,5 @@
-"""Which way the figures move (Wish 14): figures by hand, what is said of every stratum, and a hunt for an R with which V_D rises.
+"""Which way the figures move (Wish 14): figures by hand, what is said of every stratum, a hunt for an R with which V_D rises, and what the manual
+says of V and V* near a fault.
 
 On the worked sheet T = 1.000 s is beyond T0 = 0.5625 s and T0^M = 0.55 s: Sa = 0.45 g, of MCE 0.55 g, and the factors are the capacities,
 F = (2*R + 1)/3 and F^M = R. With I = 1.00, alpha-y = 1.50 and 15,000 kN, V = m*5/7, V_M likewise and V* = p*5/21, m and p in ten-millionths:
@@ -18,6 +19,7 @@ T = 0.5 s every factor is 1, F_t is 0, and V_M governs with 0.7*1.0 g, which is 
 import functools
 import itertools
 import random
+from fractions import Fraction
 from math import ceil, floor
 
 from tests.compares.checks.refusals import FRAME, SITE
@@ -25,7 +27,7 @@ from tests.compares.compare_moves import modelled, moved
 from tests.draws import larger_r, moves as drawn, r_marks
 from tests.draws.calls import ShearInputs
 from tests.draws.strata import CORNERS
-from tests.model import calls, limits, moves
+from tests.model import calls, limits, moves, response, site as site_hazards
 from tests.model.job import job
 from tests.model.moves import AT_ONCE, HEAVIER, LARGER_I, LARGER_R, SMALLER_ALPHA_Y
 
@@ -52,7 +54,7 @@ LIGHT = {151: 71, 150: 72, 149: 72, 148: 73}
 # R = 1.00, T = 500 ms, levels at 3, 27 and 30 m by the weight of the second: V_D, storey shears
 TALL = {5_000: (5_000_000, [5_000_000, 4_750_000, 2_500_000]), 6_000: (5_333_334, [5_333_334, 5_088_686, 2_446_484])}
 # of the hunt
-N_A, N_V, PARTS_OF_T0 = (100, 117, 133, 150), (100, 133, 167, 200), (0.1, 0.2, 0.4, 0.6, 0.8, 1, 1.7, 2.5, 3)
+N_A, N_V, SOME_R, PARTS_OF_T0 = (100, 117, 133, 150), (100, 133, 167, 200), (100, 300, 600), (0.1, 0.2, 0.4, 0.6, 0.8, 1, 1.7, 2.5, 3)
 GROUNDS = (SITE, limits.one_pair(50, 30, 100, 40, 150, 100, 3), limits.one_pair(80, 40, 70, 55, 100, 200, 2), limits.Basin(3))
 
 BEFORE = moves.Answer(30, 20, 10, 30, 1_000)
@@ -209,6 +211,28 @@ def hunt():
         yield f'every R: {ground}, {part} T0', every_R, True
 
 
+def of_hazard(name, site, T, R):
+    """A, T0, and Sa and F without their rounding, of a hazard of a site."""
+    A, B, (capacity, square) = site_hazards.hazard(name, site, R)
+    T0, root = response.corner(A, B), Fraction(response.lower_root(square), response.UNIT)
+    return A, T0, response.spectrum_in_g(A, B, T), response.factor(capacity, root, T0, T)
+
+
+def as_the_manual_says(site, T, R):
+    """Near a fault: where T0 of V is shorter than that of V*, A of V is larger, and Sa by no less than F; where it is longer, F is no larger."""
+    (A, T0, Sa, F), (plain_A, plain_T0, plain_Sa, plain_F) = (of_hazard(name, site, T, R) for name in ('design', 'star'))
+    shorter = T0 >= plain_T0 or A > plain_A and Sa * plain_F >= plain_Sa * F
+    return shorter and (T0 <= plain_T0 or F <= plain_F)
+
+
+def near_a_fault():
+    """Every design value and class with factors at their ends and between, T at every corner."""
+    for SSD, S1D, cls in itertools.product(limits.S_S_DESIGN, limits.S_1_DESIGN, limits.CLASS):
+        every = [(limits.one_pair(SSD, S1D, 100, 55, NA, NV, cls), R) for NA, NV, R in itertools.product(N_A[::3], N_V[::3], SOME_R)]
+        yield f'T0 of V and of V*: {SSD} {S1D} {cls}', lambda every=every: all(
+            as_the_manual_says(site, T, R) for site, R in every for T in corners(site)), True
+
+
 def checks():
     """All checks of which way the figures move."""
     yield from worked_frames()
@@ -216,3 +240,4 @@ def checks():
     yield from said()
     yield from drawn_checks()
     yield from hunt()
+    yield from near_a_fault()
