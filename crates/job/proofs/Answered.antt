@@ -14,25 +14,25 @@ use Rattle.limits.proofs.Reading.{success, refusal}
 use Rattle.base_shear.specs.declared.Figures.{Figures}
 use Rattle.job.specs.declared.FiguresAnswer.the-variants.{Taken, Refused}
 use Rattle.job.specs.Distribution.{Buffers, shortest}
-use Rattle.job.specs.Job.{Results, givenFigures, resultsAt, jobOf, figuresOnly, written, Answers}
+use Rattle.job.specs.Job.{Results, givenFigures, resultsAt, figuresOnly, written, Answers}
 use Rattle.job.specs.ShearCall.{five, answerOutcome}
 use Rattle.job.proofs.Stages.{job-refused, job-accepted}
 
-module _ (s : GroundValues) (f : FrameValues) (ws hs : List ℕ) (b : Buffers) where
+module _ (G : GroundValues) (f : FrameValues) (ws hs : List ℕ) (b : Buffers) where
   -- of a taken answer: the judgments accept, n is what `givenFigures` gives, and each level's cells are written
   pub record Accepted (n : Figures) (b′ : Buffers) : Type 0 where
     pub given : Given
-    pub judged : judgedJob s f ws hs (shortest b) ≡ accepted given
+    pub judged : judgedJob G f ws hs (shortest b) ≡ accepted given
     pub figures : n ≡ givenFigures given ws hs
     pub cells : b′ ≡ written (accepted (resultsAt n ws hs)) b
 
-  module _ (n : Figures) (b′ : Buffers) (a : Answers s f ws hs b (Taken n) b′) where
+  module _ (n : Figures) (b′ : Buffers) (a : Answers G f ws hs b (Taken n) b′) where
     pub taken-accepted : Accepted n b′
-    taken-accepted = go (judgedJob s f ws hs (shortest b)) refl
+    taken-accepted = go (judgedJob G f ws hs (shortest b)) refl
       where
-        go : (o : Outcome Given) → judgedJob s f ws hs (shortest b) ≡ o → Accepted n b′
+        go : (o : Outcome Given) → judgedJob G f ws hs (shortest b) ≡ o → Accepted n b′
         go (accepted g) e =
-            let o = job-accepted s f ws hs (shortest b) e in
+            let o = job-accepted G f ws hs (shortest b) e in
             let same = one-value (a .0 ∙ ap figuresOnly o) in
             record {
               given = g;
@@ -42,22 +42,22 @@ module _ (s : GroundValues) (f : FrameValues) (ws hs : List ℕ) (b : Buffers) w
                   a .1 ∙ ap (λ (x : Outcome Results). written x b) o
                   ∙ ap (λ (m : Figures). written (accepted (resultsAt m ws hs)) b) (sym same);
             }
-        go (refused m p) e = absurd (never (sym (a .0 ∙ ap figuresOnly (job-refused s f ws hs (shortest b) e))))
+        go (refused m p) e = absurd (never (sym (a .0 ∙ ap figuresOnly (job-refused G f ws hs (shortest b) e))))
 
-  module _ (r : Refusal) (b′ : Buffers) (a : Answers s f ws hs b (Refused r) b′) where
-    pub refused-judged : judgedJob s f ws hs (shortest b) ≡ refused (r .number) (r .place)
-    refused-judged = go (judgedJob s f ws hs (shortest b)) refl
+  module _ (r : Refusal) (b′ : Buffers) (a : Answers G f ws hs b (Refused r) b′) where
+    pub refused-judged : judgedJob G f ws hs (shortest b) ≡ refused (r .number) (r .place)
+    refused-judged = go (judgedJob G f ws hs (shortest b)) refl
       where
-        go : (o : Outcome Given) → judgedJob s f ws hs (shortest b) ≡ o
-            → judgedJob s f ws hs (shortest b) ≡ refused (r .number) (r .place)
-        go (accepted g) e = absurd (never (a .0 ∙ ap figuresOnly (job-accepted s f ws hs (shortest b) e)))
+        go : (o : Outcome Given) → judgedJob G f ws hs (shortest b) ≡ o
+            → judgedJob G f ws hs (shortest b) ≡ refused (r .number) (r .place)
+        go (accepted g) e = absurd (never (a .0 ∙ ap figuresOnly (job-accepted G f ws hs (shortest b) e)))
         go (refused m p) e =
-            let same = one-refusal (a .0 ∙ ap figuresOnly (job-refused s f ws hs (shortest b) e)) in
+            let same = one-refusal (a .0 ∙ ap figuresOnly (job-refused G f ws hs (shortest b) e)) in
             e ∙ λ i. refused (sym (same .0) i) (sym (same .1) i)
 
     -- 'buffers untouched'
     pub refused-untouched : b′ ≡ b
-    refused-untouched = a .1 ∙ ap (λ (x : Outcome Results). written x b) (job-refused s f ws hs (shortest b) refused-judged)
+    refused-untouched = a .1 ∙ ap (λ (x : Outcome Results). written x b) (job-refused G f ws hs (shortest b) refused-judged)
 
 -- the numbers that come back: number and place, and 'figures 0' where data is refused
 pub taken-values : (n : Figures)

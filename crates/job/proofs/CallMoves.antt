@@ -30,24 +30,24 @@ use Rattle.job.proofs.GroundAhead.{ground-ahead}
 use Rattle.job.proofs.Sheared.{taken-accepted}
 
 -- ---- an answered call: what was given, and its figures at its own T
-record Answered (s : GroundValues) (f : FrameValues) (W h : ℕ) (n : Figures) : Type 0 where
+record Answered (G : GroundValues) (f : FrameValues) (W h : ℕ) (n : Figures) : Type 0 where
   given : Given
-  is : GivenIs s f given
+  is : GivenIs G f given
   allowed : AllowedShearCall given W h
   made : n .t ≡ periodOf (given .frame .kind) (given .frame .calculated) h
   figures : n ≡ figuresAt unit (givenHazards given) (given .frame) W (n .t)
   period : n .t ≤ periodMost
 
-answered : (s : GroundValues) (f : FrameValues) (W h : ℕ) (n : Figures) → Sheared s f W h (Taken n) → Answered s f W h n
+answered : (G : GroundValues) (f : FrameValues) (W h : ℕ) (n : Figures) → Sheared G f W h (Taken n) → Answered G f W h n
 unfolding figuresAt
-answered s f W h n c =
-    let a = taken-accepted s f W h n c in
+answered G f W h n c =
+    let a = taken-accepted G f W h n c in
     let g = a .given in
-    let all = shear-call-allowed s f W h g (a .judged) in
+    let all = shear-call-allowed G f W h g (a .judged) in
     let t : n .t ≡ buildingFigures g W h .t = ap (λ (m : Figures). m .t) (a .figures) in
     record {
       given = g;
-      is = given-is s f W h g (a .judged);
+      is = given-is G f W h g (a .judged);
       allowed = all;
       made = t;
       figures = a .figures ∙ ap (λ (T : ℕ). figuresAt unit (givenHazards g) (g .frame) W T) (sym t);
@@ -55,24 +55,24 @@ answered s f W h n c =
     }
 
 -- ---- T is of kind, calculated period and height alone
-module _ (s : GroundValues) (f f′ : FrameValues) (W h W′ h′ : ℕ) (n n′ : Figures) (p : Sheared s f W h (Taken n)) (q : Sheared s f′ W′ h′ (Taken n′)) where
+module _ (G : GroundValues) (f f′ : FrameValues) (W h W′ h′ : ℕ) (n n′ : Figures) (p : Sheared G f W h (Taken n)) (q : Sheared G f′ W′ h′ (Taken n′)) where
   pub same-period : f .kind ≡ f′ .kind → f .calculated ≡ f′ .calculated → h ≡ h′ → n .t ≡ n′ .t
   same-period kind calculated height =
-      let a = answered s f W h n p in
-      let a′ = answered s f′ W′ h′ n′ q in
+      let a = answered G f W h n p in
+      let a′ = answered G f′ W′ h′ n′ q in
       let one-kind : a .given .frame .kind ≡ a′ .given .frame .kind = one-value (sym (a .is .kind) ∙ ap judgedKind kind ∙ a′ .is .kind) in
       let one-calculated : a .given .frame .calculated ≡ a′ .given .frame .calculated =
       a .is .calculated ∙ calculated ∙ sym (a′ .is .calculated) in
       a .made ∙ (λ j. periodOf (one-kind j) (one-calculated j) (height j)) ∙ sym (a′ .made)
 
 -- ---- two answered calls
-module _ (s : GroundValues) (f f′ : FrameValues) (W h W′ h′ : ℕ) (n n′ : Figures) (p : Sheared s f W h (Taken n)) (q : Sheared s f′ W′ h′ (Taken n′))
+module _ (G : GroundValues) (f f′ : FrameValues) (W h W′ h′ : ℕ) (n n′ : Figures) (p : Sheared G f W h (Taken n)) (q : Sheared G f′ W′ h′ (Taken n′))
     (same : n .t ≡ n′ .t) where
-  abbrev a : Answered s f W h n
-  a = answered s f W h n p
+  abbrev a : Answered G f W h n
+  a = answered G f W h n p
 
-  abbrev a′ : Answered s f′ W′ h′ n′
-  a′ = answered s f′ W′ h′ n′ q
+  abbrev a′ : Answered G f′ W′ h′ n′
+  a′ = answered G f′ W′ h′ n′ q
 
   abbrev frame : Frame
   frame = a .given .frame

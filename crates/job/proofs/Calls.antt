@@ -2,7 +2,7 @@
 --   answerOf o    the answer that says the outcome o
 --   blank ws      buffers of one cell a level
 -- Assumes nothing.
-use mathlib.Core.Path.{_≡_, refl, sym, ap, subst, _∙_}
+use mathlib.Core.Path.{_≡_, refl, sym, ap, _∙_}
 use mathlib.Core.List.{List}
 use Prim.Native.Nat.{ℕ, min}
 use native.Mathlib.Omega.{arith}
@@ -35,15 +35,15 @@ blank-room : (ws : List ℕ) → shortest (blank ws) ≡ length ws
 blank-room ws =
     ap (λ (n : ℕ). min (min n n) n) (cells-length (λ (x : ℕ). 0) (length ws)) ∙ omega arith
 
-module _ (s : GroundValues) (f : FrameValues) (ws hs : List ℕ) where
+module _ (G : GroundValues) (f : FrameValues) (ws hs : List ℕ) where
   pub outcome-answers : (b : Buffers)
-      → Answers s f ws hs b (answerOf (figuresOnly (jobOf s f ws hs (shortest b)))) (written (jobOf s f ws hs (shortest b)) b)
+      → Answers G f ws hs b (answerOf (figuresOnly (jobOf G f ws hs (shortest b)))) (written (jobOf G f ws hs (shortest b)) b)
   outcome-answers b = (says-outcome _, refl)
 
-  pub figured-answers : (a : FiguresAnswer) → Figured s f ws hs a
-      → Answers s f ws hs (blank ws) a (written (jobOf s f ws hs (length ws)) (blank ws))
+  pub figured-answers : (a : FiguresAnswer) → Figured G f ws hs a
+      → Answers G f ws hs (blank ws) a (written (jobOf G f ws hs (length ws)) (blank ws))
   figured-answers a p =
       let room = sym (blank-room ws) in (
-        p ∙ ap (λ (n : ℕ). figuresOnly (jobOf s f ws hs n)) room,
-        ap (λ (n : ℕ). written (jobOf s f ws hs n) (blank ws)) room,
+        p ∙ ap (λ (n : ℕ). figuresOnly (jobOf G f ws hs n)) room,
+        ap (λ (n : ℕ). written (jobOf G f ws hs n) (blank ws)) room,
       )

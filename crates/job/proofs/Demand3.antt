@@ -29,31 +29,31 @@ use Rattle.job.proofs.Answered.{taken-accepted}
 use Rattle.job.proofs.Storeys.{shear-cell}
 use Rattle.job.proofs.GivenReached.{standing, given-reached, given-between}
 
-pub demand3-accepted : (s : GroundValues) (f : FrameValues) (ws hs : List ℕ) (room : ℕ) (g : Given)
-    → judgedJob s f ws hs room ≡ accepted g
+pub demand3-accepted : (G : GroundValues) (f : FrameValues) (ws hs : List ℕ) (room : ℕ) (g : Given)
+    → judgedJob G f ws hs room ≡ accepted g
     → let n = givenFigures g ws hs in
     Demand3 unit (givenHazards g) (g .frame) ws hs (n .t) (n .vd) (shearUnder (n .t) (n .vd) ws hs)
 unfolding figuresAt
-demand3-accepted s f ws hs room g e =
-    let a = given-allowed s f ws hs room g e .0 in
+demand3-accepted G f ws hs room g e =
+    let a = given-allowed G f ws hs room g e .0 in
     let b = given-building g ws hs a in
     demand3-reached (givenHazards g) (g .frame) _ (given-reached g _ _ b) (a .frame) (given-between g _ _ b .3) ws hs
     (standing ws hs (a .levels) .positive)
 
-module _ (s : GroundValues) (f : FrameValues) (ws hs : List ℕ) (b : Buffers) where
+module _ (G : GroundValues) (f : FrameValues) (ws hs : List ℕ) (b : Buffers) where
   -- at the period in use of the judged ground and frame, with square roots unrounded
   pub record Kept (n : Figures) (b′ : Buffers) : Type 0 where
     pub given : Given
-    pub judged : judgedJob s f ws hs (shortest b) ≡ accepted given
+    pub judged : judgedJob G f ws hs (shortest b) ≡ accepted given
     pub period : n .t ≡ periodOf (given .frame .kind) (given .frame .calculated) (topHeight hs)
     pub kept : Demand3 unit (givenHazards given) (given .frame) ws hs (n .t) (n .vd) (λ x. getD (b′ .shears) x 0)
 
-  pub demand-3 : (n : Figures) (b′ : Buffers) → Answers s f ws hs b (Taken n) b′ → Kept n b′
+  pub demand-3 : (n : Figures) (b′ : Buffers) → Answers G f ws hs b (Taken n) b′ → Kept n b′
   unfolding figuresAt
   demand-3 n b′ a =
-      let t = taken-accepted s f ws hs b n b′ a in
+      let t = taken-accepted G f ws hs b n b′ a in
       let g = t .given in
-      let exact = demand3-accepted s f ws hs (shortest b) g (t .judged) in
+      let exact = demand3-accepted G f ws hs (shortest b) g (t .judged) in
       let k = givenHazards g in
       record {
         given = g;
@@ -62,5 +62,5 @@ module _ (s : GroundValues) (f : FrameValues) (ws hs : List ℕ) (b : Buffers) w
         kept =
             of-cells unit k (g .frame) ws hs (n .t)
             (subst (λ (m : Figures). Demand3 unit k (g .frame) ws hs (m .t) (m .vd) (shearUnder (m .t) (m .vd) ws hs)) (sym (t .figures)) exact)
-            (λ x h. sym (shear-cell s f ws hs b n b′ a x h));
+            (λ x h. sym (shear-cell G f ws hs b n b′ a x h));
       }

@@ -14,9 +14,9 @@ use Rattle.job.specs.Job.{Answers}
 use Rattle.job.proofs.Answered.{taken-accepted}
 use Rattle.job.proofs.GivenReached.{Between, given-between}
 
-pub figures-between : (s : GroundValues) (f : FrameValues) (ws hs : List ℕ) (b : Buffers) (n : Figures) (b′ : Buffers)
-    → Answers s f ws hs b (Taken n) b′ → Between n
-figures-between s f ws hs b n b′ a =
-    let t = taken-accepted s f ws hs b n b′ a in
-    let all = given-allowed s f ws hs (shortest b) (t .given) (t .judged) .0 in
+pub figures-between : (G : GroundValues) (f : FrameValues) (ws hs : List ℕ) (b : Buffers) (n : Figures) (b′ : Buffers)
+    → Answers G f ws hs b (Taken n) b′ → Between n
+figures-between G f ws hs b n b′ a =
+    let t = taken-accepted G f ws hs b n b′ a in
+    let all = given-allowed G f ws hs (shortest b) (t .given) (t .judged) .0 in
     subst Between (sym (t .figures)) (given-between (t .given) _ _ (given-building (t .given) ws hs all))

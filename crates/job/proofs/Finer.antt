@@ -65,10 +65,10 @@ building-not-above g W h a =
 abbrev pub columnsInMillionths : Given → ℕ → List ℕ → List ℕ → Columns
 columnsInMillionths g T ws hs = columnsAt T (inMillionths g (sum ws) (topHeight hs) .vd) ws hs
 
-module _ (s : GroundValues) (f : FrameValues) (ws hs : List ℕ) (b : Buffers) where
+module _ (G : GroundValues) (f : FrameValues) (ws hs : List ℕ) (b : Buffers) where
   pub record AtMostMillionths (n : Figures) (b′ : Buffers) : Type 0 where
     pub given : Given
-    pub judged : judgedJob s f ws hs (shortest b) ≡ accepted given
+    pub judged : judgedJob G f ws hs (shortest b) ≡ accepted given
     pub figures : NotAbove n (inMillionths given (sum ws) (topHeight hs))
     pub shears : (x : ℕ) → x < length ws
         → getD (b′ .shears) x 0 ≤ shearUnder (n .t) (inMillionths given (sum ws) (topHeight hs) .vd) ws hs x
@@ -78,11 +78,11 @@ module _ (s : GroundValues) (f : FrameValues) (ws hs : List ℕ) (b : Buffers) w
     pub top-force : (x : ℕ) → x + 1 ≡ length ws → getD (b′ .forces) x 0 ≤ force (columnsInMillionths given (n .t) ws hs .shears) x
 
   -- the one premise is that it answered with figures
-  pub job-not-above : (n : Figures) (b′ : Buffers) → Answers s f ws hs b (Taken n) b′ → AtMostMillionths n b′
+  pub job-not-above : (n : Figures) (b′ : Buffers) → Answers G f ws hs b (Taken n) b′ → AtMostMillionths n b′
   job-not-above n b′ a =
-      let t = taken-accepted s f ws hs b n b′ a in
+      let t = taken-accepted G f ws hs b n b′ a in
       let g = t .given in
-      let all = given-allowed s f ws hs (shortest b) g (t .judged) .0 in
+      let all = given-allowed G f ws hs (shortest b) g (t .judged) .0 in
       let m = inMillionths g (sum ws) (topHeight hs) in
       let c = columnsInMillionths g (n .t) ws hs in
       let least = subst (λ (k : Figures). NotAbove k m) (sym (t .figures)) (building-not-above g _ _ (given-building g ws hs all)) in
@@ -94,18 +94,18 @@ module _ (s : GroundValues) (f : FrameValues) (ws hs : List ℕ) (b : Buffers) w
         figures = least;
         shears =
             λ x h.
-            subst (λ (u : ℕ). u ≤ shearUnder (n .t) (m .vd) ws hs x) (sym (shear-cell s f ws hs b n b′ a x h))
+            subst (λ (u : ℕ). u ≤ shearUnder (n .t) (m .vd) ws hs x) (sym (shear-cell G f ws hs b n b′ a x h))
             (shear-rises (n .t) (n .vd) (m .vd) ws hs x roof (stands .positive) (least .vd));
         overturnings =
             λ x h.
-            subst (λ (u : ℕ). u ≤ overturning (c .forces) hs x) (sym (overturning-cell s f ws hs b n b′ a x h))
-            (overturning-rises (n .t) (n .vd) (m .vd) ws hs x roof (stands .positive) (stands .paired .same) (stands .rising) (least .vd));
+            subst (λ (u : ℕ). u ≤ overturning (c .forces) hs x) (sym (overturning-cell G f ws hs b n b′ a x h))
+            (overturning-rises (n .t) (n .vd) (m .vd) ws hs x roof (stands .positive) (stands .weighing .same) (stands .rising) (least .vd));
         forces =
             λ x h.
-            subst (λ (u : ℕ). u ≤ force (c .shears) x + 1) (sym (force-cell s f ws hs b n b′ a x h))
+            subst (λ (u : ℕ). u ≤ force (c .shears) x + 1) (sym (force-cell G f ws hs b n b′ a x h))
             (force-rises-by-one (n .t) (n .vd) (m .vd) ws hs x roof (stands .positive) (least .vd));
         top-force =
             λ x e.
-            subst (λ (u : ℕ). u ≤ force (c .shears) x) (sym (force-cell s f ws hs b n b′ a x (omega arith)))
+            subst (λ (u : ℕ). u ≤ force (c .shears) x) (sym (force-cell G f ws hs b n b′ a x (omega arith)))
             (top-force-rises (n .t) (n .vd) (m .vd) ws hs x roof (stands .positive) (least .vd) (omega arith));
       }

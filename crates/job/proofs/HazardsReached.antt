@@ -11,11 +11,11 @@ use Rattle.site.specs.declared.hazard.Hazard.{Hazard}
 use Rattle.site.specs.declared.hazard.Hazards.{Hazards}
 use Rattle.response.specs.Period.{periodMost}
 use Rattle.response.specs.Ratio.{bent, modified}
-use Rattle.response.specs.Reach.{Shape, Ductile}
+use Rattle.response.specs.Reach.{Ductile}
 use Rattle.response.specs.Unit.{unit}
 use Rattle.response.proofs.Bent.{lines-meet}
 use Rattle.response.proofs.Reached.{unit-fine}
-use Rattle.base_shear.specs.Ready.{Ready, Shearing, Within, Bounded, Reached}
+use Rattle.base_shear.specs.Ready.{Ready, Within, Bounded, Reached}
 
 pub record Sized (h : Hazard) : Type 0 where
   pub a : (0 < h .a) × (h .a ≤ 150_000_000)

@@ -22,46 +22,46 @@ use Rattle.job.proofs.CallMoves.{same-period, never-lower, as-r-grows}
 use Rattle.job.proofs.InTurn.{job-parted}
 
 -- ---- two jobs on one ground at one T
-module _ (s : GroundValues) (f f′ : FrameValues) (ws hs ws′ hs′ : List ℕ) (b b′ c c′ : Buffers) (n n′ : Figures)
-    (p : Answers s f ws hs b (Taken n) b′) (q : Answers s f′ ws′ hs′ c (Taken n′) c′) where
-  abbrev first : Sheared s f (sum ws) (topHeight hs) (Taken n)
-  first = job-parted s f ws hs b n b′ p .0
+module _ (G : GroundValues) (f f′ : FrameValues) (ws hs ws′ hs′ : List ℕ) (b b′ c c′ : Buffers) (n n′ : Figures)
+    (p : Answers G f ws hs b (Taken n) b′) (q : Answers G f′ ws′ hs′ c (Taken n′) c′) where
+  abbrev first : Sheared G f (sum ws) (topHeight hs) (Taken n)
+  first = job-parted G f ws hs b n b′ p .0
 
-  abbrev second : Sheared s f′ (sum ws′) (topHeight hs′) (Taken n′)
-  second = job-parted s f′ ws′ hs′ c n′ c′ q .0
+  abbrev second : Sheared G f′ (sum ws′) (topHeight hs′) (Taken n′)
+  second = job-parted G f′ ws′ hs′ c n′ c′ q .0
 
   pub job-never-lower : n .t ≡ n′ .t → f .r ≡ f′ .r → f .i ≤ f′ .i → f′ .alpha ≤ f .alpha → sum ws ≤ sum ws′ → NoneLower n n′
-  job-never-lower same = never-lower s f f′ (sum ws) (topHeight hs) (sum ws′) (topHeight hs′) n n′ first second same
+  job-never-lower same = never-lower G f f′ (sum ws) (topHeight hs) (sum ws′) (topHeight hs′) n n′ first second same
 
   pub job-as-r-grows : n .t ≡ n′ .t → f .r ≤ f′ .r → f .i ≡ f′ .i → f .alpha ≡ f′ .alpha → sum ws ≡ sum ws′ → AsRGrows n n′
-  job-as-r-grows same = as-r-grows s f f′ (sum ws) (topHeight hs) (sum ws′) (topHeight hs′) n n′ first second same
+  job-as-r-grows same = as-r-grows G f f′ (sum ws) (topHeight hs) (sum ws′) (topHeight hs′) n n′ first second same
 
   pub job-same-period : f .kind ≡ f′ .kind → f .calculated ≡ f′ .calculated → topHeight hs ≡ topHeight hs′ → n .t ≡ n′ .t
-  job-same-period = same-period s f f′ (sum ws) (topHeight hs) (sum ws′) (topHeight hs′) n n′ first second
+  job-same-period = same-period G f f′ (sum ws) (topHeight hs) (sum ws′) (topHeight hs′) n n′ first second
 
 -- ---- one change
-module _ (s : GroundValues) (f : FrameValues) (ws hs : List ℕ) (b b′ c c′ : Buffers) (n n′ : Figures) (p : Answers s f ws hs b (Taken n) b′) where
+module _ (G : GroundValues) (f : FrameValues) (ws hs : List ℕ) (b b′ c c′ : Buffers) (n n′ : Figures) (p : Answers G f ws hs b (Taken n) b′) where
   -- a larger I
-  pub larger-i : (i : ℕ) → Answers s (withI f i) ws hs c (Taken n′) c′ → f .i ≤ i → (n .t ≡ n′ .t) × NoneLower n n′
+  pub larger-i : (i : ℕ) → Answers G (withI f i) ws hs c (Taken n′) c′ → f .i ≤ i → (n .t ≡ n′ .t) × NoneLower n n′
   larger-i i q h =
-      let same = job-same-period s f (withI f i) ws hs ws hs b b′ c c′ n n′ p q refl refl refl in
-      (same, job-never-lower s f (withI f i) ws hs ws hs b b′ c c′ n n′ p q same refl h (le-refl (f .alpha)) (le-refl (sum ws)))
+      let same = job-same-period G f (withI f i) ws hs ws hs b b′ c c′ n n′ p q refl refl refl in
+      (same, job-never-lower G f (withI f i) ws hs ws hs b b′ c c′ n n′ p q same refl h (le-refl (f .alpha)) (le-refl (sum ws)))
 
   -- a smaller alpha-y
-  pub smaller-alpha : (a : ℕ) → Answers s (withAlpha f a) ws hs c (Taken n′) c′ → a ≤ f .alpha → (n .t ≡ n′ .t) × NoneLower n n′
+  pub smaller-alpha : (a : ℕ) → Answers G (withAlpha f a) ws hs c (Taken n′) c′ → a ≤ f .alpha → (n .t ≡ n′ .t) × NoneLower n n′
   smaller-alpha a q h =
-      let same = job-same-period s f (withAlpha f a) ws hs ws hs b b′ c c′ n n′ p q refl refl refl in
-      (same, job-never-lower s f (withAlpha f a) ws hs ws hs b b′ c c′ n n′ p q same refl (le-refl (f .i)) h (le-refl (sum ws)))
+      let same = job-same-period G f (withAlpha f a) ws hs ws hs b b′ c c′ n n′ p q refl refl refl in
+      (same, job-never-lower G f (withAlpha f a) ws hs ws hs b b′ c c′ n n′ p q same refl (le-refl (f .i)) h (le-refl (sum ws)))
 
   -- a larger weight at one level
-  pub heavier-level : (x w : ℕ) → Answers s f (withWeight ws x w) hs c (Taken n′) c′ → getD ws x 0 ≤ w → (n .t ≡ n′ .t) × NoneLower n n′
+  pub heavier-level : (x w : ℕ) → Answers G f (withWeight ws x w) hs c (Taken n′) c′ → getD ws x 0 ≤ w → (n .t ≡ n′ .t) × NoneLower n n′
   heavier-level x w q h =
       let vs = withWeight ws x w in
-      let same = job-same-period s f f ws hs vs hs b b′ c c′ n n′ p q refl refl refl in
-      (same, job-never-lower s f f ws hs vs hs b b′ c c′ n n′ p q same refl (le-refl (f .i)) (le-refl (f .alpha)) (sum-rises ws x w h))
+      let same = job-same-period G f f ws hs vs hs b b′ c c′ n n′ p q refl refl refl in
+      (same, job-never-lower G f f ws hs vs hs b b′ c c′ n n′ p q same refl (le-refl (f .i)) (le-refl (f .alpha)) (sum-rises ws x w h))
 
   -- a larger R
-  pub larger-r : (r : ℕ) → Answers s (withR f r) ws hs c (Taken n′) c′ → f .r ≤ r → (n .t ≡ n′ .t) × AsRGrows n n′
+  pub larger-r : (r : ℕ) → Answers G (withR f r) ws hs c (Taken n′) c′ → f .r ≤ r → (n .t ≡ n′ .t) × AsRGrows n n′
   larger-r r q h =
-      let same = job-same-period s f (withR f r) ws hs ws hs b b′ c c′ n n′ p q refl refl refl in
-      (same, job-as-r-grows s f (withR f r) ws hs ws hs b b′ c c′ n n′ p q same h refl refl refl)
+      let same = job-same-period G f (withR f r) ws hs ws hs b b′ c c′ n n′ p q refl refl refl in
+      (same, job-as-r-grows G f (withR f r) ws hs ws hs b b′ c c′ n n′ p q same h refl refl refl)

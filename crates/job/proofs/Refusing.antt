@@ -20,38 +20,38 @@ use Rattle.job.specs.Distribution.{Buffers, shortest}
 use Rattle.job.specs.Job.{Answers}
 use Rattle.job.proofs.Answered.{taken-accepted, refused-judged}
 
-module _ (s : GroundValues) (f : FrameValues) (ws hs : List ℕ) (b : Buffers) where
+module _ (G : GroundValues) (f : FrameValues) (ws hs : List ℕ) (b : Buffers) where
   -- refusal n applies to the call, at place p
   abbrev pub Wrong : ℕ → ℕ → Type 0
-  Wrong = Applies s f ws hs (shortest b)
+  Wrong = Applies G f ws hs (shortest b)
 
   -- 'Data to which no refusal number applies is accepted'
-  pub accepted-unless-refused : (a : FiguresAnswer) (b′ : Buffers) → Answers s f ws hs b a b′ → ((n p : ℕ) → Wrong n p → ⊥)
+  pub accepted-unless-refused : (a : FiguresAnswer) (b′ : Buffers) → Answers G f ws hs b a b′ → ((n p : ℕ) → Wrong n p → ⊥)
       → (n : Figures) × (a ≡ Taken n)
   accepted-unless-refused (Taken n) b′ a none = (n, refl)
   accepted-unless-refused (Refused r) b′ a none =
       absurd (none (r .number) (r .place)
-      (judging.refused-applies s f ws hs (shortest b) (r .number) (r .place) (refused-judged s f ws hs b r b′ a)))
+      (judging.refused-applies G f ws hs (shortest b) (r .number) (r .place) (refused-judged G f ws hs b r b′ a)))
 
   -- and no other is
-  pub accepted-none : (n : Figures) (b′ : Buffers) → Answers s f ws hs b (Taken n) b′ → (m p : ℕ) → Wrong m p → ⊥
+  pub accepted-none : (n : Figures) (b′ : Buffers) → Answers G f ws hs b (Taken n) b′ → (m p : ℕ) → Wrong m p → ⊥
   accepted-none n b′ a m p w =
-      let t = taken-accepted s f ws hs b n b′ a in
-      order.accepted-none s f ws hs (shortest b) (t .given) m p (t .judged) w
+      let t = taken-accepted G f ws hs b n b′ a in
+      order.accepted-none G f ws hs (shortest b) (t .given) m p (t .judged) w
 
   -- 'Bad data gets the first refusal number that applies, with its place'
-  module _ (r : Refusal) (b′ : Buffers) (a : Answers s f ws hs b (Refused r) b′) where
+  module _ (r : Refusal) (b′ : Buffers) (a : Answers G f ws hs b (Refused r) b′) where
     pub refused-applies : Wrong (r .number) (r .place)
     refused-applies =
-        judging.refused-applies s f ws hs (shortest b) (r .number) (r .place) (refused-judged s f ws hs b r b′ a)
+        judging.refused-applies G f ws hs (shortest b) (r .number) (r .place) (refused-judged G f ws hs b r b′ a)
 
     pub first-number : (m q : ℕ) → Wrong m q → NoLater (r .number) m
     first-number m q w =
-        order.first-number s f ws hs (shortest b) (r .number) (r .place) m q (refused-judged s f ws hs b r b′ a) w
+        order.first-number G f ws hs (shortest b) (r .number) (r .place) m q (refused-judged G f ws hs b r b′ a) w
 
     pub lowest-place : (q : ℕ) → Wrong (r .number) q → r .place ≤ q
     lowest-place q w =
-        order.lowest-place s f ws hs (shortest b) (r .number) (r .place) q (refused-judged s f ws hs b r b′ a) w
+        order.lowest-place G f ws hs (shortest b) (r .number) (r .place) q (refused-judged G f ws hs b r b′ a) w
 
 -- on a site this is 'the lowest number that applies'; in the Basin it is the lowest, or 18 before 8 to 12
 pub lowest-number : (s : SiteValues) (f : FrameValues) (ws hs : List ℕ) (b : Buffers) (r : Refusal) (b′ : Buffers)

@@ -29,15 +29,15 @@ pub record Promised (g : Given) (ws hs : List ℕ) : Type 0 where
   pub kept : let n = givenFigures g ws hs in
       Demand3 unit (givenHazards g) (g .frame) ws hs (n .t) (n .vd) (λ x. getD (resultsOf g ws hs .shears) x 0)
 
-pub promised : (s : GroundValues) (f : FrameValues) (ws hs : List ℕ) (room : ℕ) (g : Given) → judgedJob s f ws hs room ≡ accepted g
+pub promised : (G : GroundValues) (f : FrameValues) (ws hs : List ℕ) (room : ℕ) (g : Given) → judgedJob G f ws hs room ≡ accepted g
     → Promised g ws hs
-promised s f ws hs room g e =
+promised G f ws hs room g e =
     let n = givenFigures g ws hs in
-    let a = given-allowed s f ws hs room g e .0 in
+    let a = given-allowed G f ws hs room g e .0 in
     let l = standing ws hs (a .levels) in
     record {
       adds-up = forces-sum (n .t) (n .vd) ws hs (l .some) (l .positive) (roof-at-most-one (n .t));
       kept =
-          of-cells unit (givenHazards g) (g .frame) ws hs (n .t) (demand3-accepted s f ws hs room g e)
+          of-cells unit (givenHazards g) (g .frame) ws hs (n .t) (demand3-accepted G f ws hs room g e)
           (λ x h. sym (cells-at (shearUnder (n .t) (n .vd) ws hs) (length ws) x h));
     }

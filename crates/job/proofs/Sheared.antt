@@ -23,55 +23,55 @@ use Rattle.job.specs.ShearCall.{givenHazards, buildingFigures, shearCall
 use Rattle.job.proofs.GivenReached.{Between, given-reached, given-between}
 use Rattle.job.proofs.Unique.{answer-unique}
 
-module _ (s : GroundValues) (f : FrameValues) (W h : ℕ) where
+module _ (G : GroundValues) (f : FrameValues) (W h : ℕ) where
   -- ---- once its judgments have answered: the lines of `shearCallOf`
-  pub call-refused : {n p : ℕ} → judgedShearCall s f W h ≡ refused n p → shearCallOf s f W h ≡ refused n p
+  pub call-refused : {n p : ℕ} → judgedShearCall G f W h ≡ refused n p → shearCallOf G f W h ≡ refused n p
   unfolding shearCallOf
   call-refused e = simp e
 
-  pub call-accepted : {g : Given} → judgedShearCall s f W h ≡ accepted g → shearCallOf s f W h ≡ accepted (buildingFigures g W h)
+  pub call-accepted : {g : Given} → judgedShearCall G f W h ≡ accepted g → shearCallOf G f W h ≡ accepted (buildingFigures g W h)
   unfolding shearCallOf
   call-accepted e = simp e
 
   -- ---- of a taken answer: the judgments accept, and n is what `buildingFigures` gives
   pub record Accepted (n : Figures) : Type 0 where
     pub given : Given
-    pub judged : judgedShearCall s f W h ≡ accepted given
+    pub judged : judgedShearCall G f W h ≡ accepted given
     pub figures : n ≡ buildingFigures given W h
 
-  pub taken-accepted : (n : Figures) → Sheared s f W h (Taken n) → Accepted n
+  pub taken-accepted : (n : Figures) → Sheared G f W h (Taken n) → Accepted n
   unfolding shearCallOf
   taken-accepted n a =
-      let g = bind-passed (judgedShearCall s f W h) (λ g. accepted (buildingFigures g W h)) (sym a) in
+      let g = bind-passed (judgedShearCall G f W h) (λ g. accepted (buildingFigures g W h)) (sym a) in
       record { given = g .0; judged = g .1; figures = sym (one-value (g .2)) }
 
-  pub refused-judged : (r : Refusal) → Sheared s f W h (Refused r) → judgedShearCall s f W h ≡ refused (r .number) (r .place)
+  pub refused-judged : (r : Refusal) → Sheared G f W h (Refused r) → judgedShearCall G f W h ≡ refused (r .number) (r .place)
   unfolding shearCallOf
-  refused-judged r a = only (judgedShearCall s f W h) (λ g. buildingFigures g W h) (sym a)
+  refused-judged r a = only (judgedShearCall G f W h) (λ g. buildingFigures g W h) (sym a)
 
   -- ---- no second answer
-  pub one-sheared : {a a′ : FiguresAnswer} → Sheared s f W h a → Sheared s f W h a′ → a ≡ a′
+  pub one-sheared : {a a′ : FiguresAnswer} → Sheared G f W h a → Sheared G f W h a′ → a ≡ a′
   one-sheared p q = answer-unique p q
 
   -- ---- how large the figures are
-  pub figures-between : (n : Figures) → Sheared s f W h (Taken n) → Between n
+  pub figures-between : (n : Figures) → Sheared G f W h (Taken n) → Between n
   figures-between n a =
       let t = taken-accepted n a in
-      subst Between (sym (t .figures)) (given-between (t .given) W h (shear-call-allowed s f W h (t .given) (t .judged)))
+      subst Between (sym (t .figures)) (given-between (t .given) W h (shear-call-allowed G f W h (t .given) (t .judged)))
 
   -- ---- demand 3: V_D is never below the exact figure, and exceeds it by less than the margin of the base shear
   pub record Kept (n : Figures) : Type 0 where
     pub given : Given
-    pub judged : judgedShearCall s f W h ≡ accepted given
+    pub judged : judgedShearCall G f W h ≡ accepted given
     pub period : n .t ≡ periodOf (given .frame .kind) (given .frame .calculated) h
     pub kept : BaseDemand3 unit (givenHazards given) (given .frame) W (n .t) (n .vd)
 
-  pub demand-3 : (n : Figures) → Sheared s f W h (Taken n) → Kept n
+  pub demand-3 : (n : Figures) → Sheared G f W h (Taken n) → Kept n
   unfolding figuresAt
   demand-3 n a =
       let t = taken-accepted n a in
       let g = t .given in
-      let all = shear-call-allowed s f W h g (t .judged) in
+      let all = shear-call-allowed G f W h g (t .judged) in
       let k = givenHazards g in
       record {
         given = g;

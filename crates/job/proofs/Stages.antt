@@ -12,7 +12,7 @@ use Rattle.limits.specs.declared.refusal.Refusal.{Refusal}
 use Rattle.limits.specs.Allowed.{AllowedGiven, AllowedShearCall}
 use Rattle.limits.specs.Judging.{judgedJob}
 use Rattle.limits.specs.Levels.{topHeight}
-use Rattle.limits.specs.Outcome.{Outcome, accepted, refused, _>>=_}
+use Rattle.limits.specs.Outcome.{Outcome, accepted, refused}
 use Rattle.limits.proofs.AcceptedCalls.{given-building}
 use Rattle.base_shear.specs.declared.Figures.{Figures}
 use Rattle.job.specs.declared.FiguresAnswer.the-variants.{Taken, Refused}
@@ -34,30 +34,30 @@ pub figures-of : (g : Given) (ws hs : List ℕ) (W h : ℕ) {n : Figures} → n 
     → n ≡ givenFigures g ws hs
 figures-of g ws hs W h e ew eh = e ∙ λ i. buildingFigures g (ew i) (eh i)
 
-module _ (s : GroundValues) (f : FrameValues) (ws hs : List ℕ) (room : ℕ) where
-  pub job-refused : {n p : ℕ} → judgedJob s f ws hs room ≡ refused n p → jobOf s f ws hs room ≡ refused n p
+module _ (G : GroundValues) (f : FrameValues) (ws hs : List ℕ) (room : ℕ) where
+  pub job-refused : {n p : ℕ} → judgedJob G f ws hs room ≡ refused n p → jobOf G f ws hs room ≡ refused n p
   unfolding jobOf
   job-refused e = simp e
 
-  pub job-accepted : {g : Given} → judgedJob s f ws hs room ≡ accepted g → jobOf s f ws hs room ≡ accepted (resultsOf g ws hs)
+  pub job-accepted : {g : Given} → judgedJob G f ws hs room ≡ accepted g → jobOf G f ws hs room ≡ accepted (resultsOf g ws hs)
   unfolding jobOf
   job-accepted e = simp e
 
   module _ (b : Buffers) (short : room ≡ shortest b) where
-    pub refused-answers : (r : Refusal) → judgedJob s f ws hs room ≡ refused (r .number) (r .place) → Answers s f ws hs b (Refused r) b
+    pub refused-answers : (r : Refusal) → judgedJob G f ws hs room ≡ refused (r .number) (r .place) → Answers G f ws hs b (Refused r) b
     refused-answers r e =
-        let o = ap (λ (n : ℕ). jobOf s f ws hs n) (sym short) ∙ job-refused e in
+        let o = ap (λ (n : ℕ). jobOf G f ws hs n) (sym short) ∙ job-refused e in
         (sym (ap figuresOnly o), sym (ap (λ (x : Outcome Results). written x b) o))
 
     -- what the storeys' code wrote, at the figures that it was handed
-    pub accepted-answers : (g : Given) (n : Figures) {ps us os : List ℕ} → judgedJob s f ws hs room ≡ accepted g
+    pub accepted-answers : (g : Given) (n : Figures) {ps us os : List ℕ} → judgedJob G f ws hs room ≡ accepted g
         → n ≡ givenFigures g ws hs
         → us ≡ laid (resultsAt n ws hs .shears) (b .shears)
         → ps ≡ laid (resultsAt n ws hs .forces) (b .forces)
         → os ≡ laid (resultsAt n ws hs .overturnings) (b .overturnings)
-        → Answers s f ws hs b (Taken n) (record { forces = ps; shears = us; overturnings = os })
+        → Answers G f ws hs b (Taken n) (record { forces = ps; shears = us; overturnings = os })
     accepted-answers g n {ps} {us} {os} e same eu ep em =
-        let o = ap (λ (n : ℕ). jobOf s f ws hs n) (sym short) ∙ job-accepted e in
+        let o = ap (λ (n : ℕ). jobOf G f ws hs n) (sym short) ∙ job-accepted e in
         let cells : record { forces = ps; shears = us; overturnings = os } ≡ written (accepted (resultsAt n ws hs)) b
         = λ i. record { forces = ep i; shears = eu i; overturnings = em i } in (
           ap accepted same ∙ sym (ap figuresOnly o),

@@ -19,7 +19,7 @@ use Rattle.job.proofs.Answered.{taken-accepted}
 use Rattle.job.proofs.Columns as columns
 use Rattle.job.proofs.GivenReached.{standing}
 
-module _ (s : GroundValues) (f : FrameValues) (ws hs : List ℕ) (b : Buffers) (n : Figures) (b′ : Buffers) (a : Answers s f ws hs b (Taken n) b′) where
+module _ (G : GroundValues) (f : FrameValues) (ws hs : List ℕ) (b : Buffers) (n : Figures) (b′ : Buffers) (a : Answers G f ws hs b (Taken n) b′) where
   -- the cells that were written
   abbrev pub forcesOut : List ℕ
   forcesOut = take (length ws) (b′ .forces)
@@ -29,11 +29,11 @@ module _ (s : GroundValues) (f : FrameValues) (ws hs : List ℕ) (b : Buffers) (
 
   stands : Standing ws hs
   stands =
-      let t = taken-accepted s f ws hs b n b′ a in
-      standing ws hs (given-allowed s f ws hs (shortest b) (t .given) (t .judged) .0 .levels)
+      let t = taken-accepted G f ws hs b n b′ a in
+      standing ws hs (given-allowed G f ws hs (shortest b) (t .given) (t .judged) .0 .levels)
 
   laid : b′ ≡ laidOver (columnsAt (n .t) (n .vd) ws hs) b
-  laid = taken-accepted s f ws hs b n b′ a .cells
+  laid = taken-accepted G f ws hs b n b′ a .cells
 
   pub forces-add-up : sum forcesOut ≡ n .vd
   forces-add-up = columns.forces-add-up (n .t) (n .vd) ws hs b b′ laid (stands .some) (stands .positive)

@@ -21,12 +21,12 @@ answer-unique = one-answer answerOutcome Taken Refused same
     same (Taken n) = refl
     same (Refused r) = refl
 
-module _ (s : GroundValues) (f : FrameValues) (ws hs : List ℕ) where
+module _ (G : GroundValues) (f : FrameValues) (ws hs : List ℕ) where
   -- `figures`
-  pub one-figured : {a a′ : FiguresAnswer} → Figured s f ws hs a → Figured s f ws hs a′ → a ≡ a′
+  pub one-figured : {a a′ : FiguresAnswer} → Figured G f ws hs a → Figured G f ws hs a′ → a ≡ a′
   one-figured p q = answer-unique p q
 
   -- `job`
-  pub one-outcome : (b : Buffers) {a a′ : FiguresAnswer} {c c′ : Buffers} → Answers s f ws hs b a c → Answers s f ws hs b a′ c′
+  pub one-outcome : (b : Buffers) {a a′ : FiguresAnswer} {c c′ : Buffers} → Answers G f ws hs b a c → Answers G f ws hs b a′ c′
       → (a ≡ a′) × (c ≡ c′)
   one-outcome b p q = (answer-unique (p .0) (q .0), p .1 ∙ sym (q .1))

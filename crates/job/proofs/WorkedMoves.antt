@@ -2,7 +2,7 @@
 -- building has a lower V_D, and a larger R a higher V. The definition, computed.
 -- Assumes nothing.
 use mathlib.Core.Path.{_≡_, refl}
-use mathlib.Core.List.{List, [], _∷_}
+use mathlib.Core.List.{[], _∷_}
 use Prim.Native.Nat.{ℕ, _≤_, _<_}
 use native.Mathlib.Omega.{arith}
 use lib.ListN.{getD}
@@ -87,15 +87,15 @@ heavier-roof = (worked, refl, omega arith, omega arith, omega arith)
 
 -- ---- with nothing said of T neither a heavier building nor a larger R moves the figures the one way
 -- 15,000 kN at 30 m have 1,194,458 N, and 16,000 kN at 35 m have 1,134,913 N
-pub heavier-at-any-period-false : ((s : GroundValues) (f : FrameValues) (W h W′ h′ : ℕ) (n n′ : Figures)
-    → Sheared s f W h (Taken n) → Sheared s f W′ h′ (Taken n′) → W ≤ W′ → n .vd ≤ n′ .vd) → ⊥
+pub heavier-at-any-period-false : ((G : GroundValues) (f : FrameValues) (W h W′ h′ : ℕ) (n n′ : Figures)
+    → Sheared G f W h (Taken n) → Sheared G f W′ h′ (Taken n′) → W ≤ W′ → n .vd ≤ n′ .vd) → ⊥
 heavier-at-any-period-false p =
     let h = p plain (frame 0 480) 15_000 300 16_000 350 of30 heavierOf35 (answered .0) (answered .1) (omega arith) in
     omega (arith, h)
 
 -- R = 4.80 at 35 m has V = 903,380 N, and R = 4.81 at 30 m has V = 1,012,253 N
-pub larger-r-at-any-period-false : ((s : GroundValues) (f : FrameValues) (W h r h′ : ℕ) (n n′ : Figures)
-    → Sheared s f W h (Taken n) → Sheared s (withR f r) W h′ (Taken n′) → f .r ≤ r → n′ .v ≤ n .v) → ⊥
+pub larger-r-at-any-period-false : ((G : GroundValues) (f : FrameValues) (W h r h′ : ℕ) (n n′ : Figures)
+    → Sheared G f W h (Taken n) → Sheared G (withR f r) W h′ (Taken n′) → f .r ≤ r → n′ .v ≤ n .v) → ⊥
 larger-r-at-any-period-false p =
     let h = p plain (frame 0 480) 15_000 350 481 300 of35 moreDuctileOf30 (answered .2) (answered .3) (omega arith) in
     omega (arith, h)

@@ -110,8 +110,8 @@ pub star-rises-in-basin : StarRises (Basin 3) (frame 1000 100) 400 zone100 zone4
 star-rises-in-basin = (answered .4, answered .5, omega arith, omega arith, omega arith, omega arith, omega arith)
 
 -- ---- V_D does not always fall: R = 4.80 and R = 6.00 have 1,071,429 N
-pub larger-r-always-lowers-false : ((s : GroundValues) (f : FrameValues) (ws hs : List ℕ) (r : ℕ) (n n′ : Figures)
-    → Figured s f ws hs (Taken n) → Figured s (withR f r) ws hs (Taken n′) → f .r < r → n′ .vd < n .vd) → ⊥
+pub larger-r-always-lowers-false : ((G : GroundValues) (f : FrameValues) (ws hs : List ℕ) (r : ℕ) (n n′ : Figures)
+    → Figured G f ws hs (Taken n) → Figured G (withR f r) ws hs (Taken n′) → f .r < r → n′ .vd < n .vd) → ⊥
 larger-r-always-lowers-false p =
     let h = p plain (frame 1000 480) weights heights 600 site480 site600 (answered .6) (answered .7) (omega arith) in
     omega (arith, h)

@@ -126,8 +126,8 @@ one-newton-more-in-basin = (in-basin .0, in-basin .2, refl, refl)
 -- ---- with nothing said of T neither end holds
 abbrev AtAnyPeriod : (ℕ → ℕ → ℕ → Type 0) → Type 0
 AtAnyPeriod P =
-    (s : GroundValues) (f : FrameValues) (W₁ W₂ h₁ h₂ h : ℕ) (n₁ n₂ n : Figures)
-    → Sheared s f W₁ h₁ (Taken n₁) → Sheared s f W₂ h₂ (Taken n₂) → Sheared s f (W₁ + W₂) h (Taken n)
+    (G : GroundValues) (f : FrameValues) (W₁ W₂ h₁ h₂ h : ℕ) (n₁ n₂ n : Figures)
+    → Sheared G f W₁ h₁ (Taken n₁) → Sheared G f W₂ h₂ (Taken n₂) → Sheared G f (W₁ + W₂) h (Taken n)
     → P (n₁ .vd) (n₂ .vd) (n .vd)
 
 -- 15 m and 30 m: 718,116 + 535,715 = 1,253,831 N, and the whole has 1,071,429 N at 30 m

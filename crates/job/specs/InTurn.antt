@@ -1,6 +1,6 @@
 -- 'The single call becomes two': the two entries one after the other, on one building. That a job is this: `job-in-turn`
 -- (proofs/InTurn.antt).
---   inTurn s f ws hs room    the levels are judged first, so that what a later level is refused for still comes before the ground and the
+--   inTurn G f ws hs room    the levels are judged first, so that what a later level is refused for still comes before the ground and the
 --                            frame; then the shear call of the sum of the weights and the last height; then the distribution of V_D at T
 use mathlib.Core.List.{List}
 use Prim.Native.Nat.{ℕ}
@@ -14,8 +14,8 @@ use Rattle.job.specs.Job.{Results, results}
 use Rattle.job.specs.ShearCall.{shearCallOf}
 
 unfoldable pub inTurn : GroundValues → FrameValues → List ℕ → List ℕ → ℕ → Outcome Results
-inTurn s f ws hs room = do
+inTurn G f ws hs room = do
   judgedLevels ws hs room
-  n ← shearCallOf s f (sum ws) (topHeight hs)
+  n ← shearCallOf G f (sum ws) (topHeight hs)
   c ← distributionOf (n .vd) (n .t) ws hs room
   accepted (results n c)

@@ -1,4 +1,4 @@
--- The job: one building, one horizontal direction. The ground s, the frame f, weights ws in kN and heights hs in dm, lowest level first. It is
+-- The job: one building, one horizontal direction. The ground G, the frame f, weights ws in kN and heights hs in dm, lowest level first. It is
 -- what the shear call and the distribution make together (InTurn.antt), judged once.
 --   Results                    V, V_M, V*, V_D and T; per level, lowest first, force, shear and overturning
 --   columns r                  the columns of these
@@ -6,12 +6,12 @@
 --   resultsAt n ws hs          those of five figures: the storeys at V_D and T
 --   givenFigures g ws hs       the five figures of a judged ground and frame: W is the sum of the weights, h the last height
 --   resultsOf g ws hs          the results of these
---   jobOf s f ws hs room       the results, or the first refusal; room is the length of the shortest result buffer
+--   jobOf G f ws hs room       the results, or the first refusal; room is the length of the shortest result buffer
 --   figuresOnly o, columnsOnly o    what is left of an outcome without the levels, and without the figures
 --   written o b                what three lent buffers hold after that held b: each level's cell written, the rest as it was; where data is refused,
 --                              all as it was
---   Figured s f ws hs a        a is the answer without buffers
---   Answers s f ws hs b a b′   a is the answer, and b′ what the buffers hold that held b
+--   Figured G f ws hs a        a is the answer without buffers
+--   Answers G f ws hs b a b′   a is the answer, and b′ what the buffers hold that held b
 use mathlib.Core.Path.{_≡_}
 use mathlib.Core.List.{List}
 use Prim.Native.Nat.{ℕ}
@@ -50,8 +50,8 @@ abbrev pub resultsOf : Given → List ℕ → List ℕ → Results
 resultsOf g ws hs = resultsAt (givenFigures g ws hs) ws hs
 
 unfoldable pub jobOf : GroundValues → FrameValues → List ℕ → List ℕ → ℕ → Outcome Results
-jobOf s f ws hs room = do
-  g ← judgedJob s f ws hs room
+jobOf G f ws hs room = do
+  g ← judgedJob G f ws hs room
   accepted (resultsOf g ws hs)
 
 abbrev pub figuresOnly : Outcome Results → Outcome Figures
@@ -68,9 +68,9 @@ abbrev pub written : Outcome Results → Buffers → Buffers
 written o b = filled (columnsOnly o) b
 
 abbrev pub Figured : GroundValues → FrameValues → List ℕ → List ℕ → FiguresAnswer → Type 0
-Figured s f ws hs a = answerOutcome a ≡ figuresOnly (jobOf s f ws hs (length ws))
+Figured G f ws hs a = answerOutcome a ≡ figuresOnly (jobOf G f ws hs (length ws))
 
 abbrev pub Answers : GroundValues → FrameValues → List ℕ → List ℕ → Buffers → FiguresAnswer → Buffers → Type 0
-Answers s f ws hs b a b′ =
-    let o = jobOf s f ws hs (shortest b) in
+Answers G f ws hs b a b′ =
+    let o = jobOf G f ws hs (shortest b) in
     (answerOutcome a ≡ figuresOnly o) × (b′ ≡ written o b)

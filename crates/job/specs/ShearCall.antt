@@ -1,10 +1,10 @@
--- The shear call: the base shear of a building without its storeys. The ground s, the frame f, a total weight W in kN, a top height h in dm.
+-- The shear call: the base shear of a building without its storeys. The ground G, the frame f, a total weight W in kN, a top height h in dm.
 --   givenHazards g           the hazards of a judged ground, with the R of the frame
 --   buildingFigures g W h    the five figures of a judged ground and frame: V, V_M, V*, V_D and T
---   shearCallOf s f W h      the five figures, or the first refusal
+--   shearCallOf G f W h      the five figures, or the first refusal
 --   five n                   the figures in the listing's order: the values of an answer
 --   answerOutcome a          what the code's answer a says
---   Sheared s f W h a        a is the answer
+--   Sheared G f W h a        a is the answer
 use mathlib.Core.Path.{_≡_}
 use mathlib.Core.List.{List, [], _∷_}
 use Prim.Native.Nat.{ℕ}
@@ -27,8 +27,8 @@ abbrev pub buildingFigures : Given → ℕ → ℕ → Figures
 buildingFigures g W h = baseFigures (givenHazards g) (g .frame) W h
 
 unfoldable pub shearCallOf : GroundValues → FrameValues → ℕ → ℕ → Outcome Figures
-shearCallOf s f W h = do
-  g ← judgedShearCall s f W h
+shearCallOf G f W h = do
+  g ← judgedShearCall G f W h
   accepted (buildingFigures g W h)
 
 abbrev pub five : Figures → List ℕ
@@ -39,4 +39,4 @@ answerOutcome (Taken n) = accepted n
 answerOutcome (Refused r) = refused (r .number) (r .place)
 
 abbrev pub Sheared : GroundValues → FrameValues → ℕ → ℕ → FiguresAnswer → Type 0
-Sheared s f W h a = answerOutcome a ≡ shearCallOf s f W h
+Sheared G f W h a = answerOutcome a ≡ shearCallOf G f W h

@@ -1,7 +1,7 @@
--- Towers on one podium: shear calls of one ground s and one frame f that were answered with figures, and whose period in use is the same.
+-- Towers on one podium: shear calls of one ground G and one frame f that were answered with figures, and whose period in use is the same.
 --   Tower              one of them: a total weight in kN, a top height in dm, the figures that were answered
---   Called s f t       its figures are what the shear call answers to its weight and height
---   CalledAt s f T ts  so it is of each of ts, and T is the period in use of each
+--   Called G f t       its figures are what the shear call answers to its weight and height
+--   CalledAt G f T ts  so it is of each of ts, and T is the period in use of each
 --   weightOf ts        their total weights, added
 --   baseOf ts          their V_D, added
 use mathlib.Core.Path.{_≡_}
@@ -19,11 +19,11 @@ pub record Tower : Type 0 where
   pub figures : Figures
 
 abbrev pub Called : GroundValues → FrameValues → Tower → Type 0
-Called s f t = Sheared s f (t .weight) (t .height) (Taken (t .figures))
+Called G f t = Sheared G f (t .weight) (t .height) (Taken (t .figures))
 
 abbrev pub CalledAt : GroundValues → FrameValues → ℕ → List Tower → Type 0
-CalledAt s f T [] = Unit {0}
-CalledAt s f T (t ∷ ts) = Called s f t × (t .figures .t ≡ T) × CalledAt s f T ts
+CalledAt G f T [] = Unit {0}
+CalledAt G f T (t ∷ ts) = Called G f t × (t .figures .t ≡ T) × CalledAt G f T ts
 
 abbrev pub weightOf : List Tower → ℕ
 weightOf [] = 0

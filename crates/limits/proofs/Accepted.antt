@@ -18,16 +18,16 @@ use Rattle.limits.specs.declared.ground.Ground.the-variants.{Site as OnS
 use Rattle.limits.specs.declared.ground.GroundValues.{GroundValues}
 use Rattle.limits.specs.declared.ground.GroundValues.the-variants.{Site as SiteOf, Basin}
 use Rattle.limits.specs.declared.judging.Given.{Given}
-use Rattle.limits.specs.declared.class.Class.{Class}
 use Rattle.limits.specs.declared.site.Site.{Site}
 use Rattle.limits.specs.declared.site.SiteValues.{SiteValues}
 use Rattle.limits.specs.Allowed.{AllowedSite, AllowedGround, AllowedFrame, AllowedLevels, AllowedGiven}
 use Rattle.limits.specs.Frame.{judgedPeriod, judgedFrame}
 use Rattle.limits.specs.Ground.{judgedGround}
 use Rattle.limits.specs.Judging.{judgedGiven, judgedJob}
-use Rattle.limits.specs.Levels.{counted, paired, roomy, judgedWeight, weighed, judgedHeight, raised, judgedLevels, topHeight}
-use Rattle.limits.specs.Outcome.{Outcome, accepted, refused, Done, require, _>>=_}
-use Rattle.limits.specs.Ranges.{inRange, among, within, listed}
+use Rattle.limits.specs.Lengths.{sameLength, roomy}
+use Rattle.limits.specs.Levels.{counted, judgedWeight, weighed, judgedHeight, raised, judgedLevels, topHeight}
+use Rattle.limits.specs.Outcome.{Outcome, accepted, Done}
+use Rattle.limits.specs.Ranges.{among, within, listed}
 use Rattle.limits.proofs.FramePassed.{frame-passed}
 use Rattle.limits.proofs.Passed.{differ, one-value, then-passed, bind-passed, require-passed, within-passed}
 use Rattle.limits.specs.Site.{judgedClass, siteOf, judgedMapped, judgedNearFault, judgedSite}
@@ -140,13 +140,13 @@ pub levels-allowed : (ws hs : List ℕ) (room : ℕ) → judgedLevels ws hs room
 unfolding judgedLevels
 levels-allowed ws hs room e =
     let count = then-passed (counted (length ws)) _ e in
-    let pair = then-passed (paired (length ws) (length hs)) _ (count .1) in
-    let cells = then-passed (roomy (length ws) room) _ (pair .1) in
+    let lengths = then-passed (sameLength (length ws) (length hs)) _ (count .1) in
+    let cells = then-passed (roomy (length ws) room) _ (lengths .1) in
     let weights = then-passed (weighed 1 ws) (raised 0 1 hs) (cells .1) in
     let n = within-passed 1 50 (length ws) 1 0 (count .0) in
     let up = heights-allowed 0 1 hs (weights .1) in (
       record {
-        same = eqb-true (length hs) (length ws) (require-passed (eqb (length hs) (length ws)) 2 0 (pair .0));
+        same = eqb-true (length hs) (length ws) (require-passed (eqb (length hs) (length ws)) 2 0 (lengths .0));
         some = n .0;
         few = n .1;
         weights = weights-allowed 1 ws (weights .0);
@@ -171,23 +171,23 @@ top-allowed ws hs l =
     omega (arith, top-last hs n, t)
 
 -- ---- ground and frame, after any first judgment
-pub given-parts : (o : Outcome Done) (s : GroundValues) (f : FrameValues) (g : Given) → judgedGiven o s f ≡ accepted g
+pub given-parts : (o : Outcome Done) (G : GroundValues) (f : FrameValues) (g : Given) → judgedGiven o G f ≡ accepted g
     → (o ≡ accepted tt) × AllowedGround (g .ground) × AllowedFrame (g .frame)
-given-parts o s f g e =
+given-parts o G f g e =
     let first = then-passed o _ e in
-    let ground = bind-passed (judgedGround s) _ (first .1) in
+    let ground = bind-passed (judgedGround G) _ (first .1) in
     let frame = bind-passed (judgedFrame f) (λ y. accepted (record { ground = ground .0; frame = y })) (ground .2) in
     let same : record { ground = ground .0; frame = frame .0 } ≡ g = one-value (frame .2) in (
       first .0,
-      subst (λ (x : Given). AllowedGround (x .ground)) same (ground-allowed s (ground .0) (ground .1)),
+      subst (λ (x : Given). AllowedGround (x .ground)) same (ground-allowed G (ground .0) (ground .1)),
       subst (λ (x : Given). AllowedFrame (x .frame)) same (frame-allowed f (frame .0) (frame .1)),
     )
 
 -- ---- the whole job
-pub given-allowed : (s : GroundValues) (f : FrameValues) (ws hs : List ℕ) (room : ℕ) (g : Given) → judgedJob s f ws hs room ≡ accepted g
+pub given-allowed : (G : GroundValues) (f : FrameValues) (ws hs : List ℕ) (room : ℕ) (g : Given) → judgedJob G f ws hs room ≡ accepted g
     → AllowedGiven g ws hs × (length ws ≤ room)
 unfolding judgedJob
-given-allowed s f ws hs room g e =
-    let parts = given-parts (judgedLevels ws hs room) s f g e in
+given-allowed G f ws hs room g e =
+    let parts = given-parts (judgedLevels ws hs room) G f g e in
     let l = levels-allowed ws hs room (parts .0) in
     (record { ground = parts .1; frame = parts .2; levels = l .0; top = top-allowed ws hs (l .0) }, l .1)

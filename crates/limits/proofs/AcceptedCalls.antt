@@ -28,18 +28,18 @@ building-allowed W h e =
     let b = then-passed (judgedTotal W) (judgedTop h) e in
     record { weight = within-passed 1 1_000_000 W 3 0 (b .0); top = within-passed 1 2_000 h 4 0 (b .1) }
 
-pub shear-call-allowed : (s : GroundValues) (f : FrameValues) (W h : ℕ) (g : Given) → judgedShearCall s f W h ≡ accepted g
+pub shear-call-allowed : (G : GroundValues) (f : FrameValues) (W h : ℕ) (g : Given) → judgedShearCall G f W h ≡ accepted g
     → AllowedShearCall g W h
 unfolding judgedShearCall
-shear-call-allowed s f W h g e =
-    let parts = given-parts (judgedBuilding W h) s f g e in
+shear-call-allowed G f W h g e =
+    let parts = given-parts (judgedBuilding W h) G f g e in
     record { ground = parts .1; frame = parts .2; building = building-allowed W h (parts .0) }
 
 -- what is judged of ground and frame is judged of them alone: the same, whatever weights and heights are called with them
-pub one-given : (s : GroundValues) (f : FrameValues) (W h W′ h′ : ℕ) (g g′ : Given) → judgedShearCall s f W h ≡ accepted g
-    → judgedShearCall s f W′ h′ ≡ accepted g′ → g ≡ g′
+pub one-given : (G : GroundValues) (f : FrameValues) (W h W′ h′ : ℕ) (g g′ : Given) → judgedShearCall G f W h ≡ accepted g
+    → judgedShearCall G f W′ h′ ≡ accepted g′ → g ≡ g′
 unfolding judgedShearCall
-one-given s f W h W′ h′ g g′ e e′ =
+one-given G f W h W′ h′ g g′ e e′ =
     one-value (sym (then-passed (judgedBuilding W h) _ e .1) ∙ then-passed (judgedBuilding W′ h′) _ e′ .1)
 
 pub distribution-allowed : (v t : ℕ) (ws hs : List ℕ) (room : ℕ) → judgedDistribution v t ws hs room ≡ accepted tt
@@ -79,21 +79,21 @@ unfolding judgedHanded
 handed-passes v t a = simp (range-passes 1 1_200_000_000 v 19 0 (a .shear), range-passes 0 9_999 t 20 0 (omega arith, a .period))
 
 -- ---- what the judgment of ground and frame says, after that of the levels and after that of the building
-pub judged-job : (s : GroundValues) (f : FrameValues) (ws hs : List ℕ) (room : ℕ) {o : Outcome Done} → o ≡ judgedLevels ws hs room
-    → judgedGiven o s f ≡ judgedJob s f ws hs room
+pub judged-job : (G : GroundValues) (f : FrameValues) (ws hs : List ℕ) (room : ℕ) {o : Outcome Done} → o ≡ judgedLevels ws hs room
+    → judgedGiven o G f ≡ judgedJob G f ws hs room
 unfolding judgedJob
-judged-job s f ws hs room e = ap (λ (x : Outcome Done). judgedGiven x s f) e
+judged-job G f ws hs room e = ap (λ (x : Outcome Done). judgedGiven x G f) e
 
-pub judged-call : (s : GroundValues) (f : FrameValues) (W h : ℕ) {o : Outcome Done} → o ≡ judgedBuilding W h
-    → judgedGiven o s f ≡ judgedShearCall s f W h
+pub judged-call : (G : GroundValues) (f : FrameValues) (W h : ℕ) {o : Outcome Done} → o ≡ judgedBuilding W h
+    → judgedGiven o G f ≡ judgedShearCall G f W h
 unfolding judgedShearCall
-judged-call s f W h e = ap (λ (x : Outcome Done). judgedGiven x s f) e
+judged-call G f W h e = ap (λ (x : Outcome Done). judgedGiven x G f) e
 
 -- ---- so a job is judged as the two calls are in turn: once its levels are accepted, as the shear call of their W and h
-pub judged-in-turn : (s : GroundValues) (f : FrameValues) (ws hs : List ℕ) (room : ℕ) → judgedLevels ws hs room ≡ accepted tt
-    → judgedJob s f ws hs room ≡ judgedShearCall s f (sum ws) (topHeight hs)
+pub judged-in-turn : (G : GroundValues) (f : FrameValues) (ws hs : List ℕ) (room : ℕ) → judgedLevels ws hs room ≡ accepted tt
+    → judgedJob G f ws hs room ≡ judgedShearCall G f (sum ws) (topHeight hs)
 unfolding judgedJob judgedShearCall
-judged-in-turn s f ws hs room e =
+judged-in-turn G f ws hs room e =
     simp (e, building-passes (sum ws) (topHeight hs) (levels-building ws hs (levels-allowed ws hs room e .0)))
 
 -- as the distribution, of a base shear and a period in range

@@ -1,7 +1,7 @@
 -- Weights and heights, judged level by level: which numbers they are refused with, and that a level to which 3 or 4 applies is refused,
 -- or one below it.
 -- Assumes nothing.
-use mathlib.Core.Path.{_≡_, refl, sym, subst}
+use mathlib.Core.Path.{_≡_, refl}
 use mathlib.Core.List.{List, [], _∷_}
 use mathlib.Core.Logic.{_⊎_, inr, ⊎-elim}
 use Prim.Native.Nat.{ℕ, zero, suc, _+_, _≤_, _<_}

@@ -26,29 +26,29 @@ use Rattle.limits.proofs.LevelsStage.{levels-up-to, levels-stop}
 use Rattle.limits.proofs.Places.{numbered, numbered-basin, named, one-pair-place}
 use Rattle.limits.proofs.Refusing.{job-told, refused-applies}
 
-module _ (s : GroundValues) (f : FrameValues) (ws hs : List ℕ) (room : ℕ) where
+module _ (G : GroundValues) (f : FrameValues) (ws hs : List ℕ) (room : ℕ) where
   -- where a refusal applies, the job is given it or one that comes no later: the stages before its own have numbers that are judged
   -- before it
-  stops : (n q : ℕ) → Applies s f ws hs room n q → Stops n q (judgedJob s f ws hs room)
+  stops : (n q : ℕ) → Applies G f ws hs room n q → Stops n q (judgedJob G f ws hs room)
   unfolding judgedJob
   stops n q (of-levels a) = first-stops n q (judgedLevels ws hs room) _ (levels-stop ws hs room n q a)
-  stops n q (of-ground a) = ground-after s f (judgedLevels ws hs room) (levels-up-to ws hs room) n q a
-  stops n q (of-frame a) = frame-after s f (judgedLevels ws hs room) (levels-up-to ws hs room) n q a
+  stops n q (of-ground a) = ground-after G f (judgedLevels ws hs room) (levels-up-to ws hs room) n q a
+  stops n q (of-frame a) = frame-after G f (judgedLevels ws hs room) (levels-up-to ws hs room) n q a
 
   abbrev A : ℕ → ℕ → Type 0
-  A = Applies s f ws hs room
+  A = Applies G f ws hs room
 
   -- the first number that applies is given
-  pub first-number : (n p m q : ℕ) → judgedJob s f ws hs room ≡ refused n p → A m q → NoLater n m
-  first-number = first.first-number A (judgedJob s f ws hs room) stops
+  pub first-number : (n p m q : ℕ) → judgedJob G f ws hs room ≡ refused n p → A m q → NoLater n m
+  first-number = first.first-number A (judgedJob G f ws hs room) stops
 
   -- at its lowest place
-  pub lowest-place : (n p q : ℕ) → judgedJob s f ws hs room ≡ refused n p → A n q → p ≤ q
-  lowest-place = first.lowest-place A (judgedJob s f ws hs room) stops 3 6 (λ n p. named) (job-told s f ws hs room)
+  pub lowest-place : (n p q : ℕ) → judgedJob G f ws hs room ≡ refused n p → A n q → p ≤ q
+  lowest-place = first.lowest-place A (judgedJob G f ws hs room) stops 3 6 (λ n p. named) (job-told G f ws hs room)
 
   -- nothing is accepted to which a refusal applies
-  pub accepted-none : (g : Given) (n p : ℕ) → judgedJob s f ws hs room ≡ accepted g → A n p → ⊥
-  accepted-none = first.accepted-none A (judgedJob s f ws hs room) stops
+  pub accepted-none : (g : Given) (n p : ℕ) → judgedJob G f ws hs room ≡ accepted g → A n p → ⊥
+  accepted-none = first.accepted-none A (judgedJob G f ws hs room) stops
 
 -- on a site with one pair of near-fault factors for both levels, 6 is given at place 1 or 2; where N_A is out of its range, at 1
 module _ (s : SiteValues) (f : FrameValues) (ws hs : List ℕ) (room p : ℕ) (e : judgedJob (Site s) f ws hs room ≡ refused 6 p) where
@@ -67,7 +67,7 @@ module _ (s : SiteValues) (f : FrameValues) (ws hs : List ℕ) (room p : ℕ) (e
   na-lowest o = omega (arith, near-fault-place, lowest-place (Site s) f ws hs room 6 p 1 e (of-ground (na-design o)))
 
 -- every number that applies stands in the order
-pub applies-in-order : (s : GroundValues) (f : FrameValues) (ws hs : List ℕ) (room n p : ℕ) → Applies s f ws hs room n p → InOrder n
+pub applies-in-order : (G : GroundValues) (f : FrameValues) (ws hs : List ℕ) (room n p : ℕ) → Applies G f ws hs room n p → InOrder n
 applies-in-order (Site s) f ws hs room n p a = in-order n (let h = numbered a in omega arith)
 applies-in-order (Basin z) f ws hs room n p a =
     ⊎-elim (λ h. in-order n (omega arith)) (λ h. ⊎-elim (λ e. in-order n (omega arith)) (λ k. in-order n (omega arith)) h)

@@ -26,38 +26,38 @@ use Rattle.limits.proofs.Places.{named-call, numbered-call, numbered-ba
 use Rattle.limits.proofs.Precedence.{Stops, first-stops}
 use Rattle.limits.proofs.Refusing.{given-told}
 
-module _ (s : GroundValues) (f : FrameValues) (W h : ℕ) where
+module _ (G : GroundValues) (f : FrameValues) (W h : ℕ) where
   abbrev A : ℕ → ℕ → Type 0
-  A = ShearCallApplies s f W h
+  A = ShearCallApplies G f W h
 
-  stops : (n q : ℕ) → A n q → Stops n q (judgedShearCall s f W h)
+  stops : (n q : ℕ) → A n q → Stops n q (judgedShearCall G f W h)
   unfolding judgedShearCall
   stops n q (of-building a) = first-stops n q (judgedBuilding W h) _ (building-stops W h n q a)
-  stops n q (of-ground a) = ground-after s f (judgedBuilding W h) (building-up-to W h) n q a
-  stops n q (of-frame a) = frame-after s f (judgedBuilding W h) (building-up-to W h) n q a
+  stops n q (of-ground a) = ground-after G f (judgedBuilding W h) (building-up-to W h) n q a
+  stops n q (of-frame a) = frame-after G f (judgedBuilding W h) (building-up-to W h) n q a
 
-  told : Told A (judgedShearCall s f W h)
+  told : Told A (judgedShearCall G f W h)
   unfolding judgedShearCall
   told =
-      given-told s f A (judgedBuilding W h) (told-as (BuildingApplies W h) A (λ n p. of-building) (judgedBuilding W h) (building-told W h))
+      given-told G f A (judgedBuilding W h) (told-as (BuildingApplies W h) A (λ n p. of-building) (judgedBuilding W h) (building-told W h))
       (λ n p. of-ground) (λ n p. of-frame)
 
-  pub refused-applies : (n p : ℕ) → judgedShearCall s f W h ≡ refused n p → A n p
-  refused-applies = given-applies A (judgedShearCall s f W h) told
+  pub refused-applies : (n p : ℕ) → judgedShearCall G f W h ≡ refused n p → A n p
+  refused-applies = given-applies A (judgedShearCall G f W h) told
 
-  pub accepted-unless-refused : ((n p : ℕ) → A n p → ⊥) → (g : Given) × (judgedShearCall s f W h ≡ accepted g)
-  accepted-unless-refused = accepted-unless A (judgedShearCall s f W h) told
+  pub accepted-unless-refused : ((n p : ℕ) → A n p → ⊥) → (g : Given) × (judgedShearCall G f W h ≡ accepted g)
+  accepted-unless-refused = accepted-unless A (judgedShearCall G f W h) told
 
-  pub first-number : (n p m q : ℕ) → judgedShearCall s f W h ≡ refused n p → A m q → NoLater n m
-  first-number = first.first-number A (judgedShearCall s f W h) stops
+  pub first-number : (n p m q : ℕ) → judgedShearCall G f W h ≡ refused n p → A m q → NoLater n m
+  first-number = first.first-number A (judgedShearCall G f W h) stops
 
-  pub lowest-place : (n p q : ℕ) → judgedShearCall s f W h ≡ refused n p → A n q → p ≤ q
-  lowest-place = first.lowest-place A (judgedShearCall s f W h) stops 5 6 (λ n p. named-call) told
+  pub lowest-place : (n p q : ℕ) → judgedShearCall G f W h ≡ refused n p → A n q → p ≤ q
+  lowest-place = first.lowest-place A (judgedShearCall G f W h) stops 5 6 (λ n p. named-call) told
 
-  pub accepted-none : (g : Given) (n p : ℕ) → judgedShearCall s f W h ≡ accepted g → A n p → ⊥
-  accepted-none = first.accepted-none A (judgedShearCall s f W h) stops
+  pub accepted-none : (g : Given) (n p : ℕ) → judgedShearCall G f W h ≡ accepted g → A n p → ⊥
+  accepted-none = first.accepted-none A (judgedShearCall G f W h) stops
 
-pub applies-in-order : (s : GroundValues) (f : FrameValues) (W h n p : ℕ) → ShearCallApplies s f W h n p → InOrder n
+pub applies-in-order : (G : GroundValues) (f : FrameValues) (W h n p : ℕ) → ShearCallApplies G f W h n p → InOrder n
 applies-in-order (Site s) f W h n p a = in-order n (let k = numbered-call a in omega arith)
 applies-in-order (Basin z) f W h n p a =
     ⊎-elim (λ k. in-order n (omega arith)) (λ k. ⊎-elim (λ e. in-order n (omega arith)) (λ l. in-order n (omega arith)) k)

@@ -16,18 +16,18 @@ use Rattle.limits.specs.Outcome.{accepted}
 use Rattle.limits.proofs.FramePassed.{frame-passed}
 use Rattle.limits.proofs.Passed.{one-value, then-passed, bind-passed}
 
-pub record GivenIs (s : GroundValues) (f : FrameValues) (g : Given) : Type 0 where
-  pub ground : judgedGround s ≡ accepted (g .ground)
+pub record GivenIs (G : GroundValues) (f : FrameValues) (g : Given) : Type 0 where
+  pub ground : judgedGround G ≡ accepted (g .ground)
   pub kind : judgedKind (f .kind) ≡ accepted (g .frame .kind)
   pub calculated : g .frame .calculated ≡ f .calculated
   pub r : g .frame .r ≡ f .r
   pub i : g .frame .i ≡ f .i
   pub alpha : g .frame .alpha ≡ f .alpha
 
-pub given-is : (s : GroundValues) (f : FrameValues) (W h : ℕ) (g : Given) → judgedShearCall s f W h ≡ accepted g → GivenIs s f g
+pub given-is : (G : GroundValues) (f : FrameValues) (W h : ℕ) (g : Given) → judgedShearCall G f W h ≡ accepted g → GivenIs G f g
 unfolding judgedShearCall
-given-is s f W h g e =
-    let ground = bind-passed (judgedGround s) _ (then-passed (judgedBuilding W h) _ e .1) in
+given-is G f W h g e =
+    let ground = bind-passed (judgedGround G) _ (then-passed (judgedBuilding W h) _ e .1) in
     let frame = bind-passed (judgedFrame f) (λ y. accepted (record { ground = ground .0; frame = y })) (ground .2) in
     let same : record { ground = ground .0; frame = frame .0 } ≡ g = one-value (frame .2) in
     let x = frame-passed f (frame .0) (frame .1) in

@@ -33,15 +33,15 @@ module _ (z : ℕ) where
   zone-stops o =
       rw (ne-eqb z 1 (o .0), ne-eqb z 2 (o .1 .0), ne-eqb z 3 (o .1 .1 .0), ne-eqb z 4 (o .1 .1 .1 .0)) (inr (refl, inl refl))
 
-pub ground-up-to : (s : GroundValues) → UpTo 7 (judgedGround s)
+pub ground-up-to : (G : GroundValues) → UpTo 7 (judgedGround G)
 ground-up-to (Site s) = bound-up-to 7 (judgedSite s) _ (site-up-to s) (λ _. tt)
 ground-up-to (Basin z) = bound-up-to 7 (judgedZone z) _ (zone-up-to z) (λ _. tt)
 
 -- where one applies, and which numbers they are
-pub ground-stops : (s : GroundValues) (n q : ℕ) → GroundApplies s n q → Stops n q (judgedGround s)
+pub ground-stops : (G : GroundValues) (n q : ℕ) → GroundApplies G n q → Stops n q (judgedGround G)
 ground-stops (Site s) n q a = bound-stops n q (judgedSite s) _ (site-stops s n q a)
 ground-stops (Basin z) n q (zone o) = bound-stops 18 0 (judgedZone z) _ (zone-stops z o)
 
-pub ground-later : (s : GroundValues) (n q : ℕ) → GroundApplies s n q → Before 4 n
+pub ground-later : (G : GroundValues) (n q : ℕ) → GroundApplies G n q → Before 4 n
 ground-later (Site s) n q a = site-later s n q a
 ground-later (Basin z) n q (zone o) = omega arith

@@ -10,7 +10,8 @@ use lib.ListN.{length, getD}
 use borrow.Author.Tests.{ne-eqb, lt-leb}
 use Rattle.whole.specs.Cells.{below}
 use Rattle.limits.specs.Applies.{OutOf, count, lists, buffer, weight, height, rising, LevelsApply, of-count, of-lengths, of-weights, of-heights}
-use Rattle.limits.specs.Levels.{counted, paired, roomy, weighed, raised, judgedLevels}
+use Rattle.limits.specs.Lengths.{sameLength, roomy}
+use Rattle.limits.specs.Levels.{counted, weighed, raised, judgedLevels}
 use Rattle.limits.specs.Order.{Before}
 use Rattle.limits.specs.Outcome.{_>>_}
 use Rattle.limits.proofs.Precedence.{Ahead, Stops, Yields, UpTo, up-to-yields, both-up-to, require-up-to, within-up-to, first-stops, later-stops, require-yields, require-stops, within-yields}
@@ -22,22 +23,22 @@ module _ (ws hs : List ℕ) (room : ℕ) where
   unfolding judgedLevels
   levels-up-to =
       both-up-to 4 (counted (length ws)) _ (within-up-to 4 1 50 (length ws) 1 0 (omega arith))
-      (both-up-to 4 (paired (length ws) (length hs)) _ (require-up-to 4 (eqb (length hs) (length ws)) 2 0 (omega arith))
+      (both-up-to 4 (sameLength (length ws) (length hs)) _ (require-up-to 4 (eqb (length hs) (length ws)) 2 0 (omega arith))
       (both-up-to 4 (roomy (length ws) room) _ (require-up-to 4 (leb (length ws) room) 2 0 (omega arith))
       (both-up-to 4 (weighed 1 ws) (raised 0 1 hs) (weighed-up-to 4 (omega arith) 1 ws) (raised-up-to 0 1 hs))))
 
   counted-yields : (n q : ℕ) → Before 1 n → Yields n q (counted (length ws))
   counted-yields n q h = within-yields n q 1 50 (length ws) 1 0 (inl h)
 
-  paired-yields : (n q : ℕ) → Ahead n q 2 0 → Yields n q (paired (length ws) (length hs))
-  paired-yields n q a = require-yields n q (eqb (length hs) (length ws)) 2 0 a
+  lengths-yields : (n q : ℕ) → Ahead n q 2 0 → Yields n q (sameLength (length ws) (length hs))
+  lengths-yields n q a = require-yields n q (eqb (length hs) (length ws)) 2 0 a
 
   -- after 1 and 2
   later : (n q : ℕ) → Before 2 n → Stops n q (weighed 1 ws >> raised 0 1 hs) → Stops n q (judgedLevels ws hs room)
   unfolding judgedLevels
   later n q h t =
       later-stops n q (counted (length ws)) _ (counted-yields n q (omega arith))
-      (λ _. later-stops n q (paired (length ws) (length hs)) _ (paired-yields n q (inl h))
+      (λ _. later-stops n q (sameLength (length ws) (length hs)) _ (lengths-yields n q (inl h))
       (λ _. later-stops n q (roomy (length ws) room) _ (require-yields n q (leb (length ws) room) 2 0 (inl h)) (λ _. t)))
 
   count-stops : OutOf 1 50 (length ws) → Stops 1 0 (judgedLevels ws hs room)
@@ -48,14 +49,14 @@ module _ (ws hs : List ℕ) (room : ℕ) where
   unfolding judgedLevels
   lists-stop o =
       later-stops 2 0 (counted (length ws)) _ (counted-yields 2 0 (omega arith))
-      (λ _. first-stops 2 0 (paired (length ws) (length hs)) _
+      (λ _. first-stops 2 0 (sameLength (length ws) (length hs)) _
       (require-stops 2 0 (eqb (length hs) (length ws)) 2 0 (ne-eqb _ _ o) (inr (refl, inl refl))))
 
   buffer-stops : room < length ws → Stops 2 0 (judgedLevels ws hs room)
   unfolding judgedLevels
   buffer-stops o =
       later-stops 2 0 (counted (length ws)) _ (counted-yields 2 0 (omega arith))
-      (λ _. later-stops 2 0 (paired (length ws) (length hs)) _ (paired-yields 2 0 (inr (refl, inl refl)))
+      (λ _. later-stops 2 0 (sameLength (length ws) (length hs)) _ (lengths-yields 2 0 (inr (refl, inl refl)))
       (λ _. first-stops 2 0 (roomy (length ws) room) _
       (require-stops 2 0 (leb (length ws) room) 2 0 (lt-leb _ _ o) (inr (refl, inl refl)))))
 

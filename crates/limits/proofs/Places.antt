@@ -11,7 +11,7 @@ use Rattle.limits.specs.declared.frame.FrameValues.{FrameValues}
 use Rattle.limits.specs.declared.ground.GroundValues.{GroundValues}
 use Rattle.limits.specs.declared.ground.GroundValues.the-variants.{Site, Basin}
 use Rattle.limits.specs.declared.site.SiteValues.{SiteValues}
-use Rattle.limits.specs.Applies.{OutOf, count, lists, buffer, weight, height, rising, LevelsApply, of-count, of-lengths, of-weights, of-heights, SiteApplies, ss-design, s1-design, ss-mce, s1-mce, na-design, nv-design, na-mce, nv-mce, class, ZoneApplies, zone, GroundApplies, FrameApplies, r, i, alpha, kind, period, BuildingApplies, total, top, HandedApplies, base-shear, handed-period, Applies, of-levels, of-ground, of-frame}
+use Rattle.limits.specs.Applies.{OutOf, count, lists, buffer, weight, height, rising, LevelsApply, of-count, of-lengths, of-weights, of-heights, SiteApplies, ss-design, s1-design, ss-mce, s1-mce, na-design, nv-design, na-mce, nv-mce, class, zone, GroundApplies, FrameApplies, r, i, alpha, kind, period, BuildingApplies, total, top, HandedApplies, base-shear, handed-period, Applies, of-levels, of-ground, of-frame}
 use Rattle.limits.specs.DistributionApplies.{DistributionApplies, of-levels as on-levels, of-handed as on-handed}
 use Rattle.limits.specs.ShearCallApplies.{ShearCallApplies, of-building, of-ground as call-ground, of-frame as call-frame}
 use Rattle.limits.proofs.Ascending.{OfBasin, OfDistribution}
@@ -42,7 +42,7 @@ named-site (na-mce o) = inl (omega arith)
 named-site (nv-mce o) = inl (omega arith)
 named-site (class o) = inr (inr (omega arith), refl)
 
-named-ground : (s : GroundValues) {n p : ℕ} → GroundApplies s n p → Named n p
+named-ground : (G : GroundValues) {n p : ℕ} → GroundApplies G n p → Named n p
 named-ground (Site s) a = named-site a
 named-ground (Basin z) (zone o) = inr (inr (omega arith), refl)
 
@@ -53,9 +53,9 @@ named-frame (alpha o) = inr (inr (omega arith), refl)
 named-frame (kind o) = inr (inr (omega arith), refl)
 named-frame (period z o) = inr (inr (omega arith), refl)
 
-pub named : {s : GroundValues} {f : FrameValues} {ws hs : List ℕ} {room n p : ℕ} → Applies s f ws hs room n p → Named n p
+pub named : {G : GroundValues} {f : FrameValues} {ws hs : List ℕ} {room n p : ℕ} → Applies G f ws hs room n p → Named n p
 named (of-levels a) = named-levels a
-named {s = s} (of-ground a) = named-ground s a
+named {G = G} (of-ground a) = named-ground G a
 named (of-frame a) = named-frame a
 
 pub numbered-levels : {ws hs : List ℕ} {room n p : ℕ} → LevelsApply ws hs room n p → (1 ≤ n) × (n ≤ 4)
@@ -97,7 +97,7 @@ numbered-basin (of-ground (zone o)) = inr (inl refl)
 numbered-basin (of-frame a) = inr (inr (numbered-frame a))
 
 -- of any job: none is above 18
-pub at-most-18 : (s : GroundValues) (f : FrameValues) (ws hs : List ℕ) (room n p : ℕ) → Applies s f ws hs room n p → n ≤ 18
+pub at-most-18 : (G : GroundValues) (f : FrameValues) (ws hs : List ℕ) (room n p : ℕ) → Applies G f ws hs room n p → n ≤ 18
 at-most-18 (Site s) f ws hs room n p a = let h = numbered a in omega arith
 at-most-18 (Basin z) f ws hs room n p a =
     ⊎-elim (λ h. let k : n ≤ 18 = omega arith in k) (λ h. ⊎-elim (λ e. let k : n ≤ 18 = omega arith in k) (λ l. let k : n ≤ 18 = omega arith in k) h)
@@ -113,13 +113,13 @@ from-five n p (inl h) l = inl (omega arith)
 from-five n p (inr (inl h, e)) l = absurd (let z : ⊥ = omega arith in z)
 from-five n p (inr (inr h, e)) l = inr (inr h, e)
 
-five-ground : (s : GroundValues) (n p : ℕ) → GroundApplies s n p → 5 ≤ n
+five-ground : (G : GroundValues) (n p : ℕ) → GroundApplies G n p → 5 ≤ n
 five-ground (Site s) n p a = numbered-site a .0
 five-ground (Basin z) n p (zone o) = omega arith
 
-pub named-call : {s : GroundValues} {f : FrameValues} {W h n p : ℕ} → ShearCallApplies s f W h n p → NamedIn 5 6 n p
+pub named-call : {G : GroundValues} {f : FrameValues} {W h n p : ℕ} → ShearCallApplies G f W h n p → NamedIn 5 6 n p
 named-call (of-building a) = let h = numbered-building a in inr (inl (omega arith), h .2)
-named-call {s = s} (call-ground a) = from-five _ _ (named-ground s a) (five-ground s _ _ a)
+named-call {G = G} (call-ground a) = from-five _ _ (named-ground G a) (five-ground G _ _ a)
 named-call (call-frame a) = from-five _ _ (named-frame a) (let h = numbered-frame a in omega arith)
 
 pub numbered-call : {s : SiteValues} {f : FrameValues} {W h n p : ℕ} → ShearCallApplies (Site s) f W h n p → (3 ≤ n) × (n ≤ 12)

@@ -3,7 +3,7 @@
 use mathlib.Core.Path.{_≡_, refl}
 use mathlib.Core.List.{List, [], _∷_}
 use Prim.Native.Nat.{ℕ}
-use Rattle.limits.specs.Outcome.{Outcome, accepted, refused, number, place, values}
+use Rattle.limits.specs.Outcome.{accepted, refused, number, place, values}
 
 pub success : {A : Type 0} (a : A) (f : A → List ℕ) (k : ℕ)
     → (number (accepted a) ≡ 0) × (place (accepted a) ≡ 0) × (values f k (accepted a) ≡ f a)

@@ -20,8 +20,9 @@ use Rattle.limits.specs.Applies.{OutOf, NotListed, count, lists, buffer,
 use Rattle.limits.specs.Frame.{judgedKind, judgedPeriod, judgedFrame}
 use Rattle.limits.specs.Ground.{judgedGround}
 use Rattle.limits.specs.Judging.{judgedGiven, judgedJob}
-use Rattle.limits.specs.Levels.{counted, paired, roomy, judgedWeight, weighed, judgedHeight, raised, judgedLevels}
-use Rattle.limits.specs.Outcome.{Outcome, accepted, refused, Done, require, _>>=_, _>>_}
+use Rattle.limits.specs.Lengths.{sameLength, roomy}
+use Rattle.limits.specs.Levels.{counted, judgedWeight, weighed, judgedHeight, raised, judgedLevels}
+use Rattle.limits.specs.Outcome.{Outcome, accepted, refused, Done, require}
 use Rattle.limits.specs.Ranges.{among, within, listed}
 use Rattle.limits.specs.Site.{judgedClass, judgedMapped, judgedNearFault, judgedSite}
 use Rattle.limits.specs.Zone.{judgedZone}
@@ -76,7 +77,7 @@ module _ (ws hs : List ℕ) (room : ℕ) where
   unfolding judgedLevels
   levels-told =
       then-told A (counted (length ws)) _ (within-told A 1 50 (length ws) 1 0 (λ o. of-count (count o)))
-      (λ _. then-told A (paired (length ws) (length hs)) _
+      (λ _. then-told A (sameLength (length ws) (length hs)) _
       (require-told A (eqb (length hs) (length ws)) 2 0 (λ e. of-lengths (lists (eqb-false _ _ e))))
       (λ _. then-told A (roomy (length ws) room) _
       (require-told A (leb (length ws) room) 2 0 (λ e. of-lengths (buffer (leb-false _ _ e))))
@@ -120,7 +121,7 @@ zone-told z =
     (λ e₃. by-test Z (eqb z 4) _ _ (λ _. tt)
     (λ e₄. zone (eqb-false _ _ e₁, (eqb-false _ _ e₂, (eqb-false _ _ e₃, (eqb-false _ _ e₄, tt))))))))
 
-pub ground-told : (s : GroundValues) → Told (GroundApplies s) (judgedGround s)
+pub ground-told : (G : GroundValues) → Told (GroundApplies G) (judgedGround G)
 ground-told (Site s) = bind-told (SiteApplies s) (judgedSite s) _ (site-told s) (λ _. tt)
 ground-told (Basin z) = bind-told (ZoneApplies z) (judgedZone z) _ (zone-told z) (λ _. tt)
 
@@ -150,30 +151,30 @@ module _ (f : FrameValues) where
       (λ k. then-told F (judgedPeriod (f .calculated)) _ period-told (λ _. tt)))))
 
 -- ---- ground and frame, after any first judgment o of which A says when it refuses
-module _ (s : GroundValues) (f : FrameValues) where
-  pub given-told : (A : ℕ → ℕ → Type 0) (o : Outcome Done) → Told A o → ((n p : ℕ) → GroundApplies s n p → A n p)
-      → ((n p : ℕ) → FrameApplies f n p → A n p) → Told A (judgedGiven o s f)
+module _ (G : GroundValues) (f : FrameValues) where
+  pub given-told : (A : ℕ → ℕ → Type 0) (o : Outcome Done) → Told A o → ((n p : ℕ) → GroundApplies G n p → A n p)
+      → ((n p : ℕ) → FrameApplies f n p → A n p) → Told A (judgedGiven o G f)
   given-told A o first ground frame =
       then-told A o _ first
-      (λ _. bind-told A (judgedGround s) _ (told-as (GroundApplies s) A ground (judgedGround s) (ground-told s))
+      (λ _. bind-told A (judgedGround G) _ (told-as (GroundApplies G) A ground (judgedGround G) (ground-told G))
       (λ _. bind-told A (judgedFrame f) _ (told-as (FrameApplies f) A frame (judgedFrame f) (frame-told f)) (λ _. tt)))
 
 -- ---- the job
-module _ (s : GroundValues) (f : FrameValues) (ws hs : List ℕ) (room : ℕ) where
+module _ (G : GroundValues) (f : FrameValues) (ws hs : List ℕ) (room : ℕ) where
   abbrev J : ℕ → ℕ → Type 0
-  J = Applies s f ws hs room
+  J = Applies G f ws hs room
 
-  pub job-told : Told J (judgedJob s f ws hs room)
+  pub job-told : Told J (judgedJob G f ws hs room)
   unfolding judgedJob
   job-told =
-      given-told s f J (judgedLevels ws hs room)
+      given-told G f J (judgedLevels ws hs room)
       (told-as (LevelsApply ws hs room) J (λ n p. of-levels) (judgedLevels ws hs room) (levels-told ws hs room))
       (λ n p. of-ground) (λ n p. of-frame)
 
   -- a refusal that is given applies
-  pub refused-applies : (n p : ℕ) → judgedJob s f ws hs room ≡ refused n p → Applies s f ws hs room n p
-  refused-applies = given-applies J (judgedJob s f ws hs room) job-told
+  pub refused-applies : (n p : ℕ) → judgedJob G f ws hs room ≡ refused n p → Applies G f ws hs room n p
+  refused-applies = given-applies J (judgedJob G f ws hs room) job-told
 
   -- data to which no refusal applies is accepted
-  pub accepted-unless-refused : ((n p : ℕ) → Applies s f ws hs room n p → ⊥) → (g : Given) × (judgedJob s f ws hs room ≡ accepted g)
-  accepted-unless-refused = accepted-unless J (judgedJob s f ws hs room) job-told
+  pub accepted-unless-refused : ((n p : ℕ) → Applies G f ws hs room n p → ⊥) → (g : Given) × (judgedJob G f ws hs room ≡ accepted g)
+  accepted-unless-refused = accepted-unless J (judgedJob G f ws hs room) job-told

@@ -15,7 +15,7 @@ pub room-for-levels : (ws hs : List ℕ) (room room′ : ℕ) → length ws ≤ 
 unfolding judgedLevels
 room-for-levels ws hs room room′ h h′ = rw (le-leb _ _ h, le-leb _ _ h′)
 
-pub room-enough : (s : GroundValues) (f : FrameValues) (ws hs : List ℕ) (room room′ : ℕ) → length ws ≤ room → length ws ≤ room′
-    → judgedJob s f ws hs room ≡ judgedJob s f ws hs room′
+pub room-enough : (G : GroundValues) (f : FrameValues) (ws hs : List ℕ) (room room′ : ℕ) → length ws ≤ room → length ws ≤ room′
+    → judgedJob G f ws hs room ≡ judgedJob G f ws hs room′
 unfolding judgedJob
-room-enough s f ws hs room room′ h h′ = rw (room-for-levels ws hs room room′ h h′)
+room-enough G f ws hs room room′ h h′ = rw (room-for-levels ws hs room room′ h h′)

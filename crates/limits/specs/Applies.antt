@@ -10,11 +10,11 @@
 --   LevelsApply ws hs room n p   1 to 4: any of these
 --   SiteApplies s n p            5 to 7: of a site
 --   ZoneApplies z n p            18: of a zone of the Taipei Basin
---   GroundApplies s n p          of a ground s: 5 to 7 of a site, 18 of a zone
+--   GroundApplies G n p          of a ground G: 5 to 7 of a site, 18 of a zone
 --   FrameApplies f n p           8 to 12: of a frame
 --   BuildingApplies W h n p      3 and 4 of the shear call: a total weight, a top height
 --   HandedApplies v t n p        19 and 20: a base shear and a period that are handed in
---   Applies s f ws hs room n p   of a job: of its levels, its ground or its frame
+--   Applies G f ws hs room n p   of a job: of its levels, its ground or its frame
 use mathlib.Core.Path.{_≡_}
 use mathlib.Core.List.{List, [], _∷_}
 use mathlib.Core.Logic.{_⊎_}
@@ -86,7 +86,7 @@ pub data HandedApplies (v t : ℕ) : ℕ → ℕ → Type 0 where
   base-shear : OutOf 1 1_200_000_000 v → HandedApplies v t 19 0
   handed-period : OutOf 0 9_999 t → HandedApplies v t 20 0
 
-pub data Applies (s : GroundValues) (f : FrameValues) (ws hs : List ℕ) (room n p : ℕ) : Type 0 where
-  of-levels : LevelsApply ws hs room n p → Applies s f ws hs room n p
-  of-ground : GroundApplies s n p → Applies s f ws hs room n p
-  of-frame : FrameApplies f n p → Applies s f ws hs room n p
+pub data Applies (G : GroundValues) (f : FrameValues) (ws hs : List ℕ) (room n p : ℕ) : Type 0 where
+  of-levels : LevelsApply ws hs room n p → Applies G f ws hs room n p
+  of-ground : GroundApplies G n p → Applies G f ws hs room n p
+  of-frame : FrameApplies f n p → Applies G f ws hs room n p

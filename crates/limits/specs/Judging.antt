@@ -1,8 +1,8 @@
 -- All that is judged of a job and of the two calls that it is parted into, in order. room is the length of the shortest result buffer.
---   judgedGiven o s f                    after a first judgment o: ground (5 to 7 of a site, 18 of a zone), frame (8 to 12); the judged ones, or
+--   judgedGiven o G f                    after a first judgment o: ground (5 to 7 of a site, 18 of a zone), frame (8 to 12); the judged ones, or
 --                                        the first refusal
---   judgedJob s f ws hs room             of a job: levels (1 to 4), ground, frame
---   judgedShearCall s f W h              of the shear call: total weight (3), top height (4), ground, frame
+--   judgedJob G f ws hs room             of a job: levels (1 to 4), ground, frame
+--   judgedShearCall G f W h              of the shear call: total weight (3), top height (4), ground, frame
 --   judgedDistribution v t ws hs room    of the distribution: levels (1 to 4), base shear (19), period (20)
 --   givenOutcome a                       what the code's answer a says
 use mathlib.Core.List.{List}
@@ -20,17 +20,17 @@ use Rattle.limits.specs.Levels.{judgedLevels}
 use Rattle.limits.specs.Outcome.{Outcome, accepted, refused, Done, _>>=_, _>>_}
 
 abbrev pub judgedGiven : Outcome Done → GroundValues → FrameValues → Outcome Given
-judgedGiven o s f = do
+judgedGiven o G f = do
   o
-  ground ← judgedGround s
+  ground ← judgedGround G
   frame ← judgedFrame f
   accepted (record { ground = ground; frame = frame })
 
 unfoldable pub judgedJob : GroundValues → FrameValues → List ℕ → List ℕ → ℕ → Outcome Given
-judgedJob s f ws hs room = judgedGiven (judgedLevels ws hs room) s f
+judgedJob G f ws hs room = judgedGiven (judgedLevels ws hs room) G f
 
 unfoldable pub judgedShearCall : GroundValues → FrameValues → ℕ → ℕ → Outcome Given
-judgedShearCall s f W h = judgedGiven (judgedBuilding W h) s f
+judgedShearCall G f W h = judgedGiven (judgedBuilding W h) G f
 
 unfoldable pub judgedDistribution : ℕ → ℕ → List ℕ → List ℕ → ℕ → Outcome Done
 judgedDistribution v t ws hs room = do

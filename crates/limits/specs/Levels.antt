@@ -1,7 +1,5 @@
 -- Numbers 1 to 4: the levels of a job.
 --   counted n          1: no level, or over 50, at 0; judged on the weight list
---   paired n m         2: a list of m beside one of n, at 0: heights beside weights; in a soil log kinds and values beside thicknesses
---   roomy n cells      2: a result buffer of fewer cells than levels, at 0
 --   judgedWeight w p, judgedHeight b h p    3 and 4 of one level, at p
 --   judgedLevel b w h p    3, then 4, of the level above the height b, and the level
 --   weighed p ws       3: the first weight that is not 1 to 20,000 kN; the first of the list stands at place p
@@ -12,22 +10,17 @@
 --   levelOutcome a     what the code's answer a says
 use mathlib.Core.List.{List, [], _∷_}
 use Prim.Native.Nat.{ℕ, _+_, _*_}
-use lib.Dec.{leb, ltb, eqb}
+use lib.Dec.{ltb}
 use lib.ListN.{length}
 use Rattle.limits.specs.declared.level.Level.{Level}
 use Rattle.limits.specs.declared.level.LevelAnswer.{LevelAnswer}
 use Rattle.limits.specs.declared.level.LevelAnswer.the-variants.{Taken, Refused}
+use Rattle.limits.specs.Lengths.{sameLength, roomy}
 use Rattle.limits.specs.Ranges.{within}
 use Rattle.limits.specs.Outcome.{Outcome, accepted, refused, Done, require, _>>_}
 
 abbrev pub counted : ℕ → Outcome Done
 counted n = within 1 50 n 1 0
-
-abbrev pub paired : ℕ → ℕ → Outcome Done
-paired n m = require (eqb m n) 2 0
-
-abbrev pub roomy : ℕ → ℕ → Outcome Done
-roomy n cells = require (leb n cells) 2 0
 
 abbrev pub judgedWeight : ℕ → ℕ → Outcome Done
 judgedWeight w p = within 1 20_000 w 3 p
@@ -58,7 +51,7 @@ raised b p (h ∷ hs) = do
 unfoldable pub judgedLevels : List ℕ → List ℕ → ℕ → Outcome Done
 judgedLevels ws hs room = do
   counted (length ws)
-  paired (length ws) (length hs)
+  sameLength (length ws) (length hs)
   roomy (length ws) room
   weighed 1 ws
   raised 0 1 hs

@@ -1,6 +1,7 @@
 pub mod Outcome
 pub mod Order
 pub mod Ranges
+pub mod Lengths
 pub mod Levels
 pub mod Building
 pub mod Handed

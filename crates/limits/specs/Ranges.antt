@@ -3,7 +3,7 @@
 --   among values x              one of the values
 --   within least most x n p     passes where x is from least to most, else refused with number n at place p
 --   listed values x n p         passes where x is one of the values, else refused
-use mathlib.Core.Bool.{Bool, true, false, _&&_, _||_}
+use mathlib.Core.Bool.{Bool, false, _&&_, _||_}
 use mathlib.Core.List.{List, [], _∷_}
 use Prim.Native.Nat.{ℕ}
 use lib.Dec.{leb, eqb}

@@ -4,7 +4,7 @@ use Rattle.limits.specs.declared.frame.FrameValues.{FrameValues}
 use Rattle.limits.specs.declared.ground.GroundValues.{GroundValues}
 use Rattle.limits.specs.Applies.{BuildingApplies, GroundApplies, FrameApplies}
 
-pub data ShearCallApplies (s : GroundValues) (f : FrameValues) (W h n p : ℕ) : Type 0 where
-  of-building : BuildingApplies W h n p → ShearCallApplies s f W h n p
-  of-ground : GroundApplies s n p → ShearCallApplies s f W h n p
-  of-frame : FrameApplies f n p → ShearCallApplies s f W h n p
+pub data ShearCallApplies (G : GroundValues) (f : FrameValues) (W h n p : ℕ) : Type 0 where
+  of-building : BuildingApplies W h n p → ShearCallApplies G f W h n p
+  of-ground : GroundApplies G n p → ShearCallApplies G f W h n p
+  of-frame : FrameApplies f n p → ShearCallApplies G f W h n p

@@ -5,7 +5,7 @@
 --   siteOf v c           the judged site of values v and class c
 --   judgedSite v         5, 6, 7 in turn
 --   classOutcome a, siteOutcome a    what the code's answer a says
-use mathlib.Core.List.{List, [], _∷_}
+use mathlib.Core.List.{[], _∷_}
 use Prim.Native.Nat.{ℕ}
 use lib.Dec.{eqb}
 use Rattle.whole.specs.Choice.{pick}

@@ -1,11 +1,12 @@
 // The levels of a job, judged together: 1 to 4.
+use crate::lengths::roomy;
+use crate::lengths::same_length;
 use crate::level::Level;
 use crate::ranges::within;
 use crate::refusal::Refusal;
 use crate::refusal::Verdict;
 ghost use mathlib.Core.Path.{_≡_};
-ghost use lib.ListN.{length};
-ghost use Rattle.limits.specs.Levels.{counted, paired, roomy, weighed, raised, judgedLevels};
+ghost use Rattle.limits.specs.Levels.{counted, weighed, raised, judgedLevels};
 ghost use Rattle.limits.specs.Outcome.{verdictOutcome};
 
 // 1: the number of levels.
@@ -19,32 +20,6 @@ pub fn counted(levels: usize) -> Verdict
         Refusal::LEVELS,
         Refusal::NOWHERE,
     )
-}
-
-// 2: two lists of one length.
-pub fn paired(levels: usize, heights: usize) -> Verdict
-    ensures { λ v. ⌜ verdictOutcome v ≡ paired levels heights ⌝ }
-{
-    if heights == levels {
-        return Verdict::Passed;
-    }
-    Verdict::Refused(Refusal {
-        number: Refusal::LENGTHS,
-        place: Refusal::NOWHERE,
-    })
-}
-
-// 2: a cell of a result buffer for each level.
-pub fn roomy(levels: usize, cells: usize) -> Verdict
-    ensures { λ v. ⌜ verdictOutcome v ≡ roomy levels cells ⌝ }
-{
-    if levels <= cells {
-        return Verdict::Passed;
-    }
-    Verdict::Refused(Refusal {
-        number: Refusal::LENGTHS,
-        place: Refusal::NOWHERE,
-    })
 }
 
 // 3: the weights.
@@ -88,9 +63,9 @@ pub fn judged_levels(weights: &[u64], heights: &[u64], room: usize) -> Verdict
     let Verdict::Passed = count else {
         return count;
     };
-    let pair = paired(weights.len(), heights.len());
-    let Verdict::Passed = pair else {
-        return pair;
+    let lengths = same_length(weights.len(), heights.len());
+    let Verdict::Passed = lengths else {
+        return lengths;
     };
     let cells = roomy(weights.len(), room);
     let Verdict::Passed = cells else {

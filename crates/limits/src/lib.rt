@@ -8,6 +8,7 @@ pub mod handed;
 pub mod judging;
 pub mod kind;
 pub mod layer;
+pub mod lengths;
 pub mod level;
 pub mod levels;
 pub mod ranges;

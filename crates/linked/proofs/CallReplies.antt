@@ -27,10 +27,10 @@ use Rattle.linked.specs.Linked.{FiguresReply, ShearCallReplies, Distribu
 
 -- `rukeshomaji_shear_call`, and that of the Basin
 module _ (g : GroundValues) (m : List ℕ) (W h : ℕ) where
-  pub shear-call-replies : (s : GroundValues) (f : FrameValues) (a : FiguresAnswer) {n : ℕ} {r : List ℕ} → s ≡ g → f ≡ frameValues m
-      → Sheared s f W h a → FiguresReply (answerOutcome a) n r → ShearCallReplies g m W h n r
-  shear-call-replies s f a es ef t p =
-      replies-as (t ∙ ap₂ (λ (s : GroundValues) (f : FrameValues). shearCallOf s f W h) es ef) p
+  pub shear-call-replies : (G : GroundValues) (f : FrameValues) (a : FiguresAnswer) {n : ℕ} {r : List ℕ} → G ≡ g → f ≡ frameValues m
+      → Sheared G f W h a → FiguresReply (answerOutcome a) n r → ShearCallReplies g m W h n r
+  shear-call-replies G f a es ef t p =
+      replies-as (t ∙ ap₂ (λ (G : GroundValues) (f : FrameValues). shearCallOf G f W h) es ef) p
 
   pub replied-sheared : (n : ℕ) (r : List ℕ) → ShearCallReplies g m W h n r
       → (a : FiguresAnswer) × Sheared g (frameValues m) W h a × FiguresReply (answerOutcome a) n r

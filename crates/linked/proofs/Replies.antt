@@ -50,17 +50,17 @@ pub never-zero : (n : ℕ) → n ≡ 0 → InOrder n → ⊥
 never-zero n e h = let stands : InOrder 0 = subst InOrder e h in omega (arith, stands)
 
 module _ (g : GroundValues) (m ws hs : List ℕ) where
-  pub job-replies : (s : GroundValues) (f : FrameValues) (b : Buffers) (a : FiguresAnswer) (b′ : Buffers) {n : ℕ} {r : List ℕ}
-      → s ≡ g → f ≡ frameValues m → Answers s f ws hs b a b′ → FiguresReply (answerOutcome a) n r
+  pub job-replies : (G : GroundValues) (f : FrameValues) (b : Buffers) (a : FiguresAnswer) (b′ : Buffers) {n : ℕ} {r : List ℕ}
+      → G ≡ g → f ≡ frameValues m → Answers G f ws hs b a b′ → FiguresReply (answerOutcome a) n r
       → JobReplies g m ws hs b n r b′
-  job-replies s f b a b′ es ef t p =
-      let o = ap₂ (λ (s : GroundValues) (f : FrameValues). jobOf s f ws hs (shortest b)) es ef in
+  job-replies G f b a b′ es ef t p =
+      let o = ap₂ (λ (G : GroundValues) (f : FrameValues). jobOf G f ws hs (shortest b)) es ef in
       (replies-as (t .0 ∙ ap figuresOnly o) p, t .1 ∙ ap (λ x. written x b) o)
 
-  pub figures-replies : (s : GroundValues) (f : FrameValues) (a : FiguresAnswer) {n : ℕ} {r : List ℕ} → s ≡ g
-      → f ≡ frameValues m → Figured s f ws hs a → FiguresReply (answerOutcome a) n r → FiguresReplies g m ws hs n r
-  figures-replies s f a es ef t p =
-      replies-as (t ∙ ap figuresOnly (ap₂ (λ (s : GroundValues) (f : FrameValues). jobOf s f ws hs (length ws)) es ef)) p
+  pub figures-replies : (G : GroundValues) (f : FrameValues) (a : FiguresAnswer) {n : ℕ} {r : List ℕ} → G ≡ g
+      → f ≡ frameValues m → Figured G f ws hs a → FiguresReply (answerOutcome a) n r → FiguresReplies g m ws hs n r
+  figures-replies G f a es ef t p =
+      replies-as (t ∙ ap figuresOnly (ap₂ (λ (G : GroundValues) (f : FrameValues). jobOf G f ws hs (length ws)) es ef)) p
 
   -- and the other way: what is proved of an answer of the core holds of the reply that says it
   pub replied-answers : (b : Buffers) (n : ℕ) (r : List ℕ) (b′ : Buffers) → JobReplies g m ws hs b n r b′

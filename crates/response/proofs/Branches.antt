@@ -1,19 +1,15 @@
 -- The printed factors are the mean, rounded; what 1, the root and the capacity weigh, by where T lies.
 -- Assumes nothing.
-use mathlib.Core.Path.{_≡_, refl, sym, ap, ap₂, subst, _∙_}
-use mathlib.Core.Bool.{Bool, true, false}
-use Prim.Native.Nat.{ℕ, _+_, _-_, _*_, _≤_, _<_}
+use mathlib.Core.Path.{_≡_, ap}
+use Prim.Native.Nat.{ℕ, _-_, _*_, _≤_, _<_}
 use native.Mathlib.Nat.{mul-pos}
 use native.Mathlib.Omega.{arith}
 use borrow.Author.Tests.{le-leb, lt-leb}
-use lib.IntN.{ℤ, pos}
 use Rattle.whole.specs.declared.Fraction.{Fraction}
 use Rattle.whole.specs.Fraction.{over, upIn, downIn}
 use Rattle.whole.specs.Root.{lowerRoot, upperRoot}
-use Rattle.whole.specs.Rounding.{up, down}
-use Rattle.whole.specs.Signed.{Signed, natural, floorIn, ceilingIn}
+use Rattle.whole.specs.Signed.{Signed, natural}
 use Rattle.whole.proofs.Choice.{by-leb}
-use Rattle.whole.proofs.Rounding.{up-same, down-same, up-whole, down-whole, up-exact, down-exact}
 use Rattle.whole.proofs.SignedSame.{floor-stands, ceiling-stands}
 use Rattle.response.specs.Factor.{factor, lowerFactor, upperFactor}
 use Rattle.response.proofs.Mean.{Weights, total, mean, weights, factor-stands}

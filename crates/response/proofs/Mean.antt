@@ -7,8 +7,7 @@
 -- Assumes nothing.
 use mathlib.Core.Path.{_≡_, refl, ap, ap₂, subst₂, subst₃, _∙_}
 use mathlib.Core.Bool.{Bool, true, false}
-use Prim.Native.Nat.{ℕ, _+_, _-_, _*_, _≤_, _<_}
-use native.Mathlib.Nat.{mul-pos}
+use Prim.Native.Nat.{ℕ, _+_, _-_, _*_}
 use native.Mathlib.Omega.{arith}
 use lib.IntN.{ℤ, pos, _+ℤ_, _*ℤ_}
 use borrow.Author.Tests.{leb-true, leb-false}
@@ -19,7 +18,7 @@ use Rattle.whole.specs.Signed.{Signed, signed, _⊕_, _⊖_, _⊗_}
 use Rattle.whole.proofs.Difference.{_⊝_, from-zero, plus-difference, times-whole, times-difference}
 use Rattle.whole.proofs.SignedSame.{Stands}
 use Rattle.response.specs.Corner.{corner, part, ms}
-use Rattle.response.specs.Factor.{x, y, one, factor}
+use Rattle.response.specs.Factor.{one, factor}
 
 pub record Weights : Type 0 where
   pub one : ℕ

@@ -1,7 +1,7 @@
 -- How large the printed stages come: the spectrum at most 2 g, the factors 1 to 6, the ratio at most the spectrum.
 -- Assumes nothing.
 use mathlib.Core.Path.{refl, sym, subst}
-use Prim.Native.Nat.{ℕ, _+_, _-_, _*_, _≤_, _<_}
+use Prim.Native.Nat.{ℕ, _+_, _*_, _≤_, _<_}
 use native.Mathlib.Nat.{le-refl, mul-le-mul-left, mul-le-mul-right, mul-pos, le-of-mul-le-mul-right}
 use native.Mathlib.Omega.{arith}
 use Rattle.whole.specs.declared.Fraction.{Fraction}

@@ -1,7 +1,7 @@
 -- The approximate period is the largest whole t with 1000·t⁴ ≤ c⁴·h³; the period in use is 1 ms to `periodMost`.
 -- Assumes nothing.
 use mathlib.Core.Path.{_≡_, refl}
-use Prim.Native.Nat.{ℕ, zero, suc, _*_, _/_, _^_, _≤_, _<_, min}
+use Prim.Native.Nat.{ℕ, zero, suc, _*_, _/_, _^_, _≤_, min}
 use native.Mathlib.Nat.{mul-le-mul, pow-le-pow-left, lt-of-le-of-lt, le-trans, le-of-suc-le-suc}
 use native.Mathlib.Omega.{arith}
 use lib.Dec.{eqb, lit<, lit≤}

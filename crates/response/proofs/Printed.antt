@@ -1,7 +1,7 @@
 -- The lower and the upper factor in each of their four branches, as the code works them out. k is the whole root, c3 the
 -- capacity in thirds of the unit.
 -- Assumes nothing.
-use mathlib.Core.Path.{_≡_, sym, ap, ap₂, _∙_}
+use mathlib.Core.Path.{_≡_, sym, ap, _∙_}
 use Prim.Native.Nat.{ℕ, _+_, _-_, _*_, _≤_, _<_}
 use native.Mathlib.Nat.{mul-le-mul}
 use native.Mathlib.Omega.{arith}
@@ -13,7 +13,7 @@ use Rattle.whole.proofs.Rounding.{up-whole, down-whole, up-less, down-less, up-
 use Rattle.response.specs.Factor.{lowerFactor, upperFactor}
 use Rattle.response.proofs.Mean.{Weights, mean, weights}
 use Rattle.response.proofs.Branches.{lower-is-mean, upper-is-mean, beyond, rising, level, below}
-use Rattle.response.proofs.Values.{Is, down-is, up-is, capacity-is, root-is, rise-is, fall-is}
+use Rattle.response.proofs.Values.{down-is, up-is, capacity-is, root-is, rise-is, fall-is}
 
 module _ (s A B T : ℕ) (c ρ : Fraction) (ps : 0 < s) (pa : 0 < A) (pb : 0 < B) (pc : 0 < c .den) where
   lower : Weights → ℕ

@@ -1,6 +1,6 @@
 -- The spectrum in each of its four branches, as the code works it out; d is what a unit holds of 10⁻⁸ g.
 -- Assumes nothing.
-use mathlib.Core.Path.{_≡_, sym, ap, ap₂, _∙_}
+use mathlib.Core.Path.{_≡_, ap, ap₂, _∙_}
 use Prim.Native.Nat.{ℕ, zero, suc, _+_, _*_, _/_, _%_, _≤_, _<_}
 use native.Mathlib.Nat.{mul-pos, zero-mul, div-add-mod', div-le-of-le-mul, mod-lt, mul-le-mul-right}
 use native.Mathlib.Omega.{arith}

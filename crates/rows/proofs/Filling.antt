@@ -10,7 +10,6 @@ use borrow.Author.Count.{below-more}
 use lib.ListN.{length, getD, set, replicate, length-set, length-replicate, getD-replicate}
 use lib.Seq.{getD-set-same, getD-set-other}
 use Rattle.rows.specs.declared.Read.{Read}
-use Rattle.rows.specs.declared.ReadRow.{ReadRow}
 use Rattle.rows.specs.Numbers.{numberAt, start, Row}
 
 pub record Filled (s : List ℕ) (at : ℕ) (values : List ℕ) (i k : ℕ) : Type 0 where

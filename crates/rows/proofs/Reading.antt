@@ -8,7 +8,6 @@ use native.Mathlib.Omega.{arith}
 use lib.ListN.{length, drop, getD, drop-of-length-le}
 use lib.Seq.{drop-cons}
 use borrow.Author.Tests.{le-leb, lt-leb}
-use Rattle.rows.specs.declared.Read.{Read}
 use Rattle.rows.specs.Numbers.{goesOn, numberFrom}
 
 module _ (s : List ℕ) (i v : ℕ) where

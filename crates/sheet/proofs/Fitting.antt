@@ -1,7 +1,7 @@
 -- A line at a cursor, layout by layout: the first fits; it does not, and the others are left; none is left.
 --   front k ns s    a line of the layout k with the numbers ns, and the bytes s after it
 -- Assumes nothing.
-use mathlib.Core.Path.{_≡_, refl, ap, _∙_}
+use mathlib.Core.Path.{_≡_, refl, ap}
 use mathlib.Core.List.{List, [], _∷_}
 use Prim.Native.Nat.{ℕ}
 use lib.ListN.{drop}

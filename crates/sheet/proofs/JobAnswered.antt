@@ -32,40 +32,40 @@ use Rattle.sheet.specs.Listing.{Levelled}
 abbrev pub lent : Buffers
 lent = record { forces = zeros 50; shears = zeros 50; overturnings = zeros 50 }
 
-pub too-many : (s : GroundValues) (f : FrameValues) (ws hs : List ℕ) (room : ℕ) → 50 < length ws
-    → judgedJob s f ws hs room ≡ refused 1 0
+pub too-many : (G : GroundValues) (f : FrameValues) (ws hs : List ℕ) (room : ℕ) → 50 < length ws
+    → judgedJob G f ws hs room ≡ refused 1 0
 unfolding judgedJob judgedLevels within inRange
-too-many s f ws hs room h = simp (le-leb 1 (length ws) (omega arith), lt-leb (length ws) 50 h)
+too-many G f ws hs room h = simp (le-leb 1 (length ws) (omega arith), lt-leb (length ws) 50 h)
 
-module _ (s : GroundValues) (f : FrameValues) (ws hs : List ℕ) where
-  room : judgedJob s f ws hs (length ws) ≡ judgedJob s f ws hs 50
+module _ (G : GroundValues) (f : FrameValues) (ws hs : List ℕ) where
+  room : judgedJob G f ws hs (length ws) ≡ judgedJob G f ws hs 50
   room = go (leb (length ws) 50) refl
     where
-      go : (t : Bool) → leb (length ws) 50 ≡ t → judgedJob s f ws hs (length ws) ≡ judgedJob s f ws hs 50
-      go true e = room-enough s f ws hs (length ws) 50 (le-refl (length ws)) (leb-true (length ws) 50 e)
+      go : (t : Bool) → leb (length ws) 50 ≡ t → judgedJob G f ws hs (length ws) ≡ judgedJob G f ws hs 50
+      go true e = room-enough G f ws hs (length ws) 50 (le-refl (length ws)) (leb-true (length ws) 50 e)
       go false e =
           let many = leb-false (length ws) 50 e in
-          too-many s f ws hs (length ws) many ∙ sym (too-many s f ws hs 50 many)
+          too-many G f ws hs (length ws) many ∙ sym (too-many G f ws hs 50 many)
 
-  pub refused-outcome : (r : Refusal) (b′ : Buffers) → Answers s f ws hs lent (Refused r) b′
-      → jobOf s f ws hs (length ws) ≡ refused (r .number) (r .place)
-  refused-outcome r b′ a = job-refused s f ws hs (length ws) (room ∙ refused-judged s f ws hs lent r b′ a)
+  pub refused-outcome : (r : Refusal) (b′ : Buffers) → Answers G f ws hs lent (Refused r) b′
+      → jobOf G f ws hs (length ws) ≡ refused (r .number) (r .place)
+  refused-outcome r b′ a = job-refused G f ws hs (length ws) (room ∙ refused-judged G f ws hs lent r b′ a)
 
-  module _ (n : Figures) (b′ : Buffers) (a : Answers s f ws hs lent (Taken n) b′) where
+  module _ (n : Figures) (b′ : Buffers) (a : Answers G f ws hs lent (Taken n) b′) where
     pub few : length ws ≤ 50
     few =
-        let t = taken-accepted s f ws hs lent n b′ a in
-        given-allowed s f ws hs 50 (t .given) (t .judged) .0 .levels .few
+        let t = taken-accepted G f ws hs lent n b′ a in
+        given-allowed G f ws hs 50 (t .given) (t .judged) .0 .levels .few
 
     -- the cells of the levels, and how many they are
     pub forces-cut : length (take (length ws) (b′ .forces)) ≡ length ws
-    forces-cut = ap length (taken-written s f ws hs lent n b′ a .forces) ∙ forces-cells (n .t) (n .vd) ws hs
+    forces-cut = ap length (taken-written G f ws hs lent n b′ a .forces) ∙ forces-cells (n .t) (n .vd) ws hs
 
     pub shears-cut : length (take (length ws) (b′ .shears)) ≡ length ws
-    shears-cut = ap length (taken-written s f ws hs lent n b′ a .shears) ∙ shears-cells (n .t) (n .vd) ws hs
+    shears-cut = ap length (taken-written G f ws hs lent n b′ a .shears) ∙ shears-cells (n .t) (n .vd) ws hs
 
     pub overturnings-cut : length (take (length ws) (b′ .overturnings)) ≡ length ws
-    overturnings-cut = ap length (taken-written s f ws hs lent n b′ a .overturnings) ∙ overturnings-cells (n .t) (n .vd) ws hs
+    overturnings-cut = ap length (taken-written G f ws hs lent n b′ a .overturnings) ∙ overturnings-cells (n .t) (n .vd) ws hs
 
     pub cut-levelled : Levelled (take (length ws) (b′ .forces)) (take (length ws) (b′ .shears))
         (take (length ws) (b′ .overturnings))
@@ -86,9 +86,9 @@ module _ (s : GroundValues) (f : FrameValues) (ws hs : List ℕ) where
           overturnings = take (length ws) (b′ .overturnings);
         }
 
-    pub taken-outcome : jobOf s f ws hs (length ws) ≡ accepted cut
+    pub taken-outcome : jobOf G f ws hs (length ws) ≡ accepted cut
     taken-outcome =
-        let w = taken-written s f ws hs lent n b′ a in
-        let t = taken-accepted s f ws hs lent n b′ a in
-        job-accepted s f ws hs (length ws) (room ∙ t .judged)
+        let w = taken-written G f ws hs lent n b′ a in
+        let t = taken-accepted G f ws hs lent n b′ a in
+        job-accepted G f ws hs (length ws) (room ∙ t .judged)
         ∙ sym (rw (w .forces, w .shears, w .overturnings) (ap (λ (m : Figures). accepted (resultsAt m ws hs)) (t .figures)))

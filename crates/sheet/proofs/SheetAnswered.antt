@@ -13,12 +13,11 @@ use Rattle.whole.proofs.Cells.{laid-part}
 use Rattle.limits.specs.declared.frame.FrameValues.{FrameValues}
 use Rattle.limits.specs.declared.ground.GroundValues.{GroundValues}
 use Rattle.limits.specs.declared.refusal.Refusal.{Refusal}
-use Rattle.limits.specs.Outcome.{Outcome, accepted, refused, zeros, Done, _>>=_}
+use Rattle.limits.specs.Outcome.{Outcome, accepted, refused, zeros, _>>=_}
 use Rattle.limits.proofs.Passed.{never}
 use Rattle.job.specs.Job.{jobOf}
 use Rattle.job.proofs.Stages.{job-refused}
 use Rattle.text.proofs.Stored.{kept-length}
-use Rattle.sheet.specs.declared.reader.SheetAnswer.{SheetAnswer}
 use Rattle.sheet.specs.declared.reader.SheetAnswer.the-variants.{Taken, Refused}
 use Rattle.sheet.specs.declared.reader.SheetRead.{SheetRead}
 use Rattle.sheet.specs.Listing.{jobOfSheet, outcomeOf}

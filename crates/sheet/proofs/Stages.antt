@@ -8,14 +8,13 @@ use Rattle.whole.specs.Cells.{laid}
 use Rattle.limits.specs.declared.frame.FrameValues.{FrameValues}
 use Rattle.limits.specs.declared.ground.GroundValues.{GroundValues}
 use Rattle.limits.specs.declared.refusal.Refusal.{Refusal}
-use Rattle.limits.specs.Outcome.{Outcome, accepted, refused, Done, _>>=_}
+use Rattle.limits.specs.Outcome.{Outcome, accepted, refused, _>>=_}
 use Rattle.limits.proofs.Passed.{never, only}
 use Rattle.text.specs.declared.reading.Cursor.{Cursor}
 use Rattle.text.specs.Line.{line, blank}
 use Rattle.text.specs.Reading.{otherwise}
 use Rattle.text.proofs.Readings.{LineWent}
 use Rattle.text.proofs.Stored.{in-cells}
-use Rattle.sheet.specs.declared.levels.LevelsAnswer.{LevelsAnswer}
 use Rattle.sheet.specs.declared.levels.LevelsAnswer.the-variants.{Taken as TakenLevels, Refused as RefusedLevels}
 use Rattle.sheet.specs.declared.levels.LevelsRead.{LevelsRead}
 use Rattle.sheet.specs.declared.reader.SheetAnswer.the-variants.{Taken}

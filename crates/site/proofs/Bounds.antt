@@ -1,7 +1,7 @@
 -- What A and B come to: 0.5 g to 1.5 g, and 0.3 g to 1.54 g. Up to the last column of Table 2 the coefficients are at most 1.2
 -- and 1.8; from it on they are those of the last column.
 -- Assumes nothing.
-use Prim.Native.Nat.{ℕ, _+_, _*_, _≤_, _<_}
+use Prim.Native.Nat.{ℕ, _*_, _≤_, _<_}
 use native.Mathlib.Nat.{mul-le-mul}
 use native.Mathlib.Omega.{arith}
 use lib.Dec.{T}

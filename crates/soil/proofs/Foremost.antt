@@ -13,7 +13,7 @@ use borrow.Author.Tests.{eqb-true, ne-eqb, eq-eqb}
 use Rattle.whole.specs.Cells.{sum}
 use Rattle.whole.proofs.Choice.{by-test}
 use Rattle.limits.specs.declared.class.Class.{Class}
-use Rattle.limits.specs.Levels.{paired}
+use Rattle.limits.specs.Lengths.{sameLength}
 use Rattle.limits.specs.Order.{InOrder, Before, NoLater}
 use Rattle.limits.specs.Outcome.{accepted, refused, require, _>>=_, _>>_}
 use Rattle.limits.specs.Ranges.{within}
@@ -89,14 +89,14 @@ velocities-stops q p (k ∷ ls) (x ∷ ys) (suc j) h e l s w =
 
 -- ---- all stages
 module _ (ds ks xs : List ℕ) where
-  two : (n q : ℕ) → Before 2 n → (r : ℕ) → Yields n q (paired (length ds) r)
+  two : (n q : ℕ) → Before 2 n → (r : ℕ) → Yields n q (sameLength (length ds) r)
   two n q h r = require-yields n q (eqb r (length ds)) 2 0 (inl h)
 
   log-yields : (q : ℕ) → Yields 15 q (judgedLog ds (length ks) (length xs))
   unfolding judgedLog deep
   log-yields q =
-      both-yield 15 q (paired (length ds) (length ks)) _ (two 15 q (omega arith) (length ks))
-      (both-yield 15 q (paired (length ds) (length xs)) _ (two 15 q (omega arith) (length xs))
+      both-yield 15 q (sameLength (length ds) (length ks)) _ (two 15 q (omega arith) (length ks))
+      (both-yield 15 q (sameLength (length ds) (length xs)) _ (two 15 q (omega arith) (length xs))
       (both-yield 15 q (counted (length ds)) _ (within-yields 15 q 1 40 (length ds) 13 0 (inl (omega arith)))
       (both-yield 15 q (thick 1 ds) _ (thick-yields 15 q 1 ds (λ _. inl (omega arith)))
       (require-yields 15 q (eqb (sum ds) 3_000) 14 0 (inl (omega arith))))))
@@ -105,22 +105,22 @@ module _ (ds ks xs : List ℕ) where
   counted-stops : (q : ℕ) → Stops 14 q (thick 1 ds >> deep ds) → Stops 14 q (judgedLog ds (length ks) (length xs))
   unfolding judgedLog
   counted-stops q s =
-      later-stops 14 q (paired (length ds) (length ks)) _ (two 14 q (omega arith) (length ks))
-      (λ _. later-stops 14 q (paired (length ds) (length xs)) _ (two 14 q (omega arith) (length xs))
+      later-stops 14 q (sameLength (length ds) (length ks)) _ (two 14 q (omega arith) (length ks))
+      (λ _. later-stops 14 q (sameLength (length ds) (length xs)) _ (two 14 q (omega arith) (length xs))
       (λ _. later-stops 14 q (counted (length ds)) _ (within-yields 14 q 1 40 (length ds) 13 0 (inl (omega arith))) (λ _. s)))
 
   stops : (l : ClassLimits) (n q : ℕ) → Applies ds ks xs n q → Stops n q (siteClass l ds ks xs)
   unfolding siteClass judgedLog deep judgedTimes
   stops l n q (lists f) =
       first-stops 2 0 (judgedLog ds (length ks) (length xs)) _
-      (later-stops 2 0 (paired (length ds) (length ks)) _ (require-yields 2 0 (eqb (length ks) (length ds)) 2 0 (inr (refl, inl refl)))
-      (λ e. first-stops 2 0 (paired (length ds) (length xs)) _
+      (later-stops 2 0 (sameLength (length ds) (length ks)) _ (require-yields 2 0 (eqb (length ks) (length ds)) 2 0 (inr (refl, inl refl)))
+      (λ e. first-stops 2 0 (sameLength (length ds) (length xs)) _
       (require-stops 2 0 (eqb (length xs) (length ds)) 2 0
       (ne-eqb _ _ (λ h. f (eqb-true _ _ (require-passed _ 2 0 e), h))) (inr (refl, inl refl)))))
   stops l n q (layers o) =
       first-stops 13 0 (judgedLog ds (length ks) (length xs)) _
-      (later-stops 13 0 (paired (length ds) (length ks)) _ (two 13 0 (omega arith) (length ks))
-      (λ _. later-stops 13 0 (paired (length ds) (length xs)) _ (two 13 0 (omega arith) (length xs))
+      (later-stops 13 0 (sameLength (length ds) (length ks)) _ (two 13 0 (omega arith) (length ks))
+      (λ _. later-stops 13 0 (sameLength (length ds) (length xs)) _ (two 13 0 (omega arith) (length xs))
       (λ _. first-stops 13 0 (counted (length ds)) _
       (within-stops 13 0 1 40 (length ds) 13 0 (λ r. ⊎-elim (λ e. omega arith) (λ e. omega arith) o) (inr (refl, inl refl))))))
   stops l n q (thickness i h z) =

@@ -1,6 +1,6 @@
 -- A refusal that is given to a log does apply, and a log to which none applies is accepted.
 -- Assumes nothing.
-use mathlib.Core.Path.{_≡_, refl, subst}
+use mathlib.Core.Path.{_≡_, subst}
 use mathlib.Core.Bool.{true, not}
 use mathlib.Core.List.{List, [], _∷_}
 use mathlib.Core.Logic.{_⊎_, inl, inr, ⊎-elim}
@@ -12,7 +12,7 @@ use lib.ListN.{length, getD}
 use borrow.Author.Tests.{eqb-true, eqb-false, not-false}
 use Rattle.whole.proofs.Choice.{by-test}
 use Rattle.limits.specs.declared.class.Class.{Class}
-use Rattle.limits.specs.Levels.{paired}
+use Rattle.limits.specs.Lengths.{sameLength}
 use Rattle.limits.specs.Outcome.{accepted, refused, require, _>>=_, _>>_}
 use Rattle.limits.specs.Ranges.{within}
 use Rattle.soil.specs.declared.class.ClassLimits.{ClassLimits}
@@ -90,8 +90,8 @@ module _ (ds ks xs : List ℕ) where
   log-told : Told A (judgedLog ds (length ks) (length xs))
   unfolding judgedLog deep
   log-told =
-      then-told A (paired (length ds) (length ks)) _ (require-told A _ 2 0 (λ e. lists (λ s. eqb-false _ _ e (s .0))))
-      (λ _. then-told A (paired (length ds) (length xs)) _ (require-told A _ 2 0 (λ e. lists (λ s. eqb-false _ _ e (s .1))))
+      then-told A (sameLength (length ds) (length ks)) _ (require-told A _ 2 0 (λ e. lists (λ s. eqb-false _ _ e (s .0))))
+      (λ _. then-told A (sameLength (length ds) (length xs)) _ (require-told A _ 2 0 (λ e. lists (λ s. eqb-false _ _ e (s .1))))
       (λ _. then-told A (counted (length ds)) _ (within-told A 1 40 (length ds) 13 0 (λ o. layers (⊎-elim (λ l. inl (omega arith)) inr o)))
       (λ _. then-told A (thick 1 ds) _ (thick-told 1 ds thickness)
       (λ _. require-told A _ 14 0 (λ e. depth (eqb-false _ _ e))))))

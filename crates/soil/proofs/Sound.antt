@@ -7,7 +7,7 @@ use lib.ListN.{length}
 use borrow.Author.Tests.{eqb-true}
 use Rattle.whole.specs.Cells.{sum}
 use Rattle.whole.specs.Rounding.{up, down}
-use Rattle.limits.specs.Levels.{paired}
+use Rattle.limits.specs.Lengths.{sameLength}
 use Rattle.limits.specs.Outcome.{accepted}
 use Rattle.limits.specs.declared.class.Class.{Class}
 use Rattle.soil.specs.declared.class.ClassLimits.{ClassLimits}
@@ -31,8 +31,8 @@ pub record Sound (ds : List ℕ) (k x : ℕ) : Type 0 where
 pub log-sound : (ds : List ℕ) (k x : ℕ) → judgedLog ds k x ≡ accepted tt → Sound ds k x
 unfolding judgedLog deep
 log-sound ds k x e =
-    let a = then-passed (paired (length ds) k) _ e in
-    let b = then-passed (paired (length ds) x) _ (a .1) in
+    let a = then-passed (sameLength (length ds) k) _ e in
+    let b = then-passed (sameLength (length ds) x) _ (a .1) in
     let c = then-passed (counted (length ds)) _ (b .1) in
     let t = then-passed (thick 1 ds) (deep ds) (c .1) in
     let n = within-passed 1 40 (length ds) 13 0 (c .0) in

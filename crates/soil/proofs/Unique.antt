@@ -7,7 +7,7 @@ use mathlib.Core.List.{List}
 use Prim.Native.Nat.{ℕ}
 use Rattle.limits.specs.declared.class.ClassAnswer.{ClassAnswer}
 use Rattle.limits.specs.Outcome.{Outcome}
-use Rattle.limits.proofs.Unique.{back, one-answer, class-unique}
+use Rattle.limits.proofs.Unique.{one-answer, class-unique}
 use Rattle.soil.specs.declared.times.Times.{Times}
 use Rattle.soil.specs.declared.times.TimesAnswer.{TimesAnswer}
 use Rattle.soil.specs.declared.times.TimesAnswer.the-variants.{Taken as TakenTimes, Refused as RefusedTimes}

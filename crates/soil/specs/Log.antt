@@ -14,7 +14,7 @@ use lib.ListN.{length}
 use Rattle.whole.specs.Cells.{sum}
 use Rattle.limits.specs.declared.class.Class.{Class}
 use Rattle.limits.specs.declared.class.ClassAnswer.{ClassAnswer}
-use Rattle.limits.specs.Levels.{paired}
+use Rattle.limits.specs.Lengths.{sameLength}
 use Rattle.limits.specs.Outcome.{Outcome, accepted, Done, require, _>>=_, _>>_}
 use Rattle.limits.specs.Ranges.{within}
 use Rattle.limits.specs.Site.{classOutcome}
@@ -36,8 +36,8 @@ deep ds = require (eqb (sum ds) 3_000) 14 0
 
 unfoldable pub judgedLog : List ℕ → ℕ → ℕ → Outcome Done
 judgedLog ds k x = do
-  paired (length ds) k
-  paired (length ds) x
+  sameLength (length ds) k
+  sameLength (length ds) x
   counted (length ds)
   thick 1 ds
   deep ds

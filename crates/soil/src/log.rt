@@ -5,7 +5,7 @@ use crate::times::TimesAnswer;
 use crate::times::timed;
 use limits::class::ClassAnswer;
 use limits::layer::Layer;
-use limits::levels::paired;
+use limits::lengths::same_length;
 use limits::ranges::within;
 use limits::refusal::Refusal;
 use limits::refusal::Verdict;
@@ -73,11 +73,11 @@ pub fn deep(thicknesses: &[u64]) -> Verdict
 pub fn judged_log(thicknesses: &[u64], kinds: usize, values: usize) -> Verdict
     ensures { λ v. ⌜ verdictOutcome v ≡ judgedLog (now (thicknesses .entry)) kinds values ⌝ }
 {
-    let kind = paired(thicknesses.len(), kinds);
+    let kind = same_length(thicknesses.len(), kinds);
     let Verdict::Passed = kind else {
         return kind;
     };
-    let value = paired(thicknesses.len(), values);
+    let value = same_length(thicknesses.len(), values);
     let Verdict::Passed = value else {
         return value;
     };

@@ -7,7 +7,7 @@ use native.Mathlib.Nat.{mul-le-mul-right}
 use native.Mathlib.Omega.{arith}
 use lib.ListN.{length, getD}
 use Rattle.whole.proofs.Cells.{cells-length}
-use Rattle.storeys.specs.Reach.{Load, PairedLevels, Rising, Turning, Standing}
+use Rattle.storeys.specs.Reach.{Load, Weighing, Rising, Turning, Standing}
 use Rattle.storeys.specs.Storeys.{shearUnder, shears, force, forces}
 use Rattle.storeys.proofs.Roof.{roof-at-most-one}
 use Rattle.storeys.proofs.Sums.{sum-most, sum-positive}
@@ -16,9 +16,9 @@ use Rattle.storeys.proofs.Telescope.{forces-sum}
 pub load-of : (T v : ℕ) → T ≤ 9_999 → v ≤ 1_400_000_000 → Load T v
 load-of T v t s = record { part = roof-at-most-one T; shear = s }
 
-pub paired-of : (ws hs : List ℕ) → length ws ≡ length hs → length ws ≤ 50
-    → ((x : ℕ) → x < length ws → (getD ws x 0 ≤ 20_000) × (getD hs x 0 ≤ 2_000)) → PairedLevels ws hs
-paired-of ws hs e n b =
+pub weighing-of : (ws hs : List ℕ) → length ws ≡ length hs → length ws ≤ 50
+    → ((x : ℕ) → x < length ws → (getD ws x 0 ≤ 20_000) × (getD hs x 0 ≤ 2_000)) → Weighing ws hs
+weighing-of ws hs e n b =
     record { same = e; most = omega (arith, sum-most ws hs 20_000 2_000 b, mul-le-mul-right 40_000_000 n) }
 
 pub shears-length : (T v : ℕ) (ws hs : List ℕ) → length (shears T v ws hs) ≡ length ws
@@ -30,7 +30,7 @@ forces-length us = cells-length (force us) (length us)
 pub turning-of : (T v : ℕ) (ws hs : List ℕ) → Load T v → Standing ws hs → Turning (forces (shears T v ws hs)) hs
 turning-of T v ws hs l s =
     record {
-      same = forces-length (shears T v ws hs) ∙ shears-length T v ws hs ∙ s .paired .same;
+      same = forces-length (shears T v ws hs) ∙ shears-length T v ws hs ∙ s .weighing .same;
       rising = s .rising;
       tall = s .tall;
       load = omega (arith, forces-sum T v ws hs (s .some) (s .positive) (l .part), l .shear);
@@ -41,7 +41,7 @@ pub standing-of : (ws hs : List ℕ) → length ws ≡ length hs → 0 < length 
     → Standing ws hs
 standing-of ws hs e s n r b =
     record {
-      paired = paired-of ws hs e n (λ x l. (b x l .1, b x l .3));
+      weighing = weighing-of ws hs e n (λ x l. (b x l .1, b x l .3));
       some = s;
       positive = sum-positive ws hs (b 0 s .0) (b 0 s .2);
       rising = r;

@@ -8,7 +8,7 @@ use native.Mathlib.Numerals.{add-one}
 use native.Mathlib.Omega.{arith}
 use lib.ListN.{length, getD, drop, length-drop}
 use lib.Seq.{drop-cons, drop-length, drop-drop}
-use Rattle.storeys.specs.Reach.{PairedLevels}
+use Rattle.storeys.specs.Reach.{Weighing}
 use Rattle.storeys.specs.Storeys.{weightHeight}
 
 -- ---- the definition, level by level
@@ -64,6 +64,6 @@ sum-most (a ∷ ws) (c ∷ hs) w h b =
     omega arith
 
 -- ---- the levels from x on are levels too
-pub paired-from : (ws hs : List ℕ) (x : ℕ) → PairedLevels ws hs → PairedLevels (drop x ws) (drop x hs)
-paired-from ws hs x l =
+pub weighing-from : (ws hs : List ℕ) (x : ℕ) → Weighing ws hs → Weighing (drop x ws) (drop x hs)
+weighing-from ws hs x l =
     record { same = simp length-drop (omega (arith, l .same)); most = omega (arith, part-sum ws hs x, l .most) }

@@ -1,7 +1,7 @@
 -- What the functions of this crate ask of their callers: T, V and the levels in the ranges of document 01, as far as 64 bits
 -- need them.
 --   Load T v              V of at most 1,400,000,000 N, and an F_t that is a part of V
---   PairedLevels ws hs    as many heights as weights; 50 levels of at most 20,000 kN and 2,000 dm make P at most 2,000,000,000
+--   Weighing ws hs        as many heights as weights; 50 levels of at most 20,000 kN and 2,000 dm make P at most 2,000,000,000
 --   Falling us            no shear is above the one below it: what `shears-fall` (proofs/Telescope.antt) says of the shears
 --   Rising hs             no height is below the one before it
 --   Turning fs hs         as many heights as forces; heights that rise to at most 2,000 dm; forces of 1,400,000,000 N in all
@@ -17,7 +17,7 @@ pub record Load (T v : ℕ) : Type 0 where
   pub part : RoofAtMostOne T
   pub shear : v ≤ 1_400_000_000
 
-pub record PairedLevels (ws hs : List ℕ) : Type 0 where
+pub record Weighing (ws hs : List ℕ) : Type 0 where
   pub same : length ws ≡ length hs
   pub most : weightHeight ws hs ≤ 2_000_000_000
 
@@ -34,7 +34,7 @@ pub record Turning (fs hs : List ℕ) : Type 0 where
   pub load : sum fs ≤ 1_400_000_000
 
 pub record Standing (ws hs : List ℕ) : Type 0 where
-  pub paired : PairedLevels ws hs
+  pub weighing : Weighing ws hs
   pub some : 0 < length ws
   pub positive : 0 < weightHeight ws hs
   pub rising : Rising hs

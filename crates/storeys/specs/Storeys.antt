@@ -17,7 +17,7 @@
 -- ℕ's subtraction stops at 0; that no difference here goes below it: `roof-most`, `force-whole`, `bottom-below` of proofs/.
 use mathlib.Core.Path.{_≡_}
 use mathlib.Core.List.{List, [], _∷_}
-use Prim.Native.Nat.{ℕ, zero, suc, _+_, _-_, _*_, _≤_, min}
+use Prim.Native.Nat.{ℕ, _+_, _-_, _*_, _≤_, min}
 use lib.Dec.{leb}
 use lib.ListN.{length, drop, getD}
 use Rattle.whole.specs.declared.Fraction.{Fraction}

@@ -8,7 +8,7 @@ ghost use Prim.Native.Nat.{_+_, _-_, _*_, _≤_, _<_};
 ghost use lib.ListN.{length};
 ghost use Rattle.whole.specs.Cells.{laid};
 ghost use Rattle.whole.specs.Rounding.{up};
-ghost use Rattle.storeys.specs.Reach.{Load, PairedLevels};
+ghost use Rattle.storeys.specs.Reach.{Load, Weighing};
 ghost use Rattle.storeys.specs.Storeys.{weightHeight, shears};
 
 // F_t + (V - F_t) P_x / P, quotient up.
@@ -21,7 +21,7 @@ pub fn shared(ft: u64, v: u64, px: u64, p: u64) -> u64
 
 // The shear under every level, into the first cells of out: P_x is that of the parts from level x on, which P_(x+1) is made of.
 pub fn fill_shears(t: u64, v: u64, weights: &[u64], heights: &[u64], out: &mut [u64])
-    requires { ⌜ Load t v × PairedLevels (now weights) (now heights) × (0 < weightHeight (now weights) (now heights)) × (length (now weights) ≤ length (now out)) ⌝ }
+    requires { ⌜ Load t v × Weighing (now weights) (now heights) × (0 < weightHeight (now weights) (now heights)) × (length (now weights) ≤ length (now out)) ⌝ }
     ensures { λ _. ⌜ now (out .exit) ≡ laid (shears t v (now (weights .entry)) (now (heights .entry))) (now (out .entry)) ⌝ }
 {
     let ft = roof_force(t, v);

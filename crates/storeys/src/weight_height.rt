@@ -2,12 +2,12 @@
 ghost use mathlib.Core.Path.{_≡_};
 ghost use Prim.Native.Nat.{_<_};
 ghost use lib.ListN.{length, drop};
-ghost use Rattle.storeys.specs.Reach.{PairedLevels};
+ghost use Rattle.storeys.specs.Reach.{Weighing};
 ghost use Rattle.storeys.specs.Storeys.{weightHeight};
 
 // P: weight times height, added over the levels.
 pub fn weight_height(weights: &[u64], heights: &[u64]) -> u64
-    requires { ⌜ PairedLevels (now weights) (now heights) ⌝ }
+    requires { ⌜ Weighing (now weights) (now heights) ⌝ }
     ensures { λ r. ⌜ r ≡ weightHeight (now (weights .entry)) (now (heights .entry)) ⌝ }
 {
     let mut p = 0;
@@ -21,7 +21,7 @@ pub fn weight_height(weights: &[u64], heights: &[u64]) -> u64
 
 // P of the levels handed on but the lowest, with that of all at hand.
 pub fn above_lowest(p: u64, weights: &[u64], heights: &[u64]) -> u64
-    requires { ⌜ PairedLevels (now weights) (now heights) × (0 < length (now weights)) × (p ≡ weightHeight (now weights) (now heights)) ⌝ }
+    requires { ⌜ Weighing (now weights) (now heights) × (0 < length (now weights)) × (p ≡ weightHeight (now weights) (now heights)) ⌝ }
     ensures { λ r. ⌜ r ≡ weightHeight (drop 1 (now (weights .entry))) (drop 1 (now (heights .entry))) ⌝ }
 {
     p - weights[0] * heights[0]

@@ -15,7 +15,6 @@ use Rattle.whole.specs.Choice.{pick}
 use Rattle.limits.specs.Ranges.{inRange}
 use Rattle.text.proofs.Decimal.{digits-small, digits-big, digits-enough}
 use Rattle.text.specs.Number.{digits, value, valueFrom, leadingZero, wellMade}
-use Rattle.text.specs.Reading.{_>>=_}
 use Rattle.text.specs.Writing.{digitsOf, decimal, Short}
 use Rattle.limits.proofs.Passed.{differ}
 

@@ -8,7 +8,6 @@ use native.Mathlib.Decide.{decLe}
 use native.Mathlib.Omega.{arith}
 use Rattle.whole.specs.declared.Fraction.{Fraction}
 use Rattle.whole.specs.Extreme.{Largest}
-use Rattle.whole.specs.Fraction.{over}
 use Rattle.whole.specs.Root.{LowerRoot, UpperRoot, lowerRoot, upperRoot}
 use Rattle.whole.specs.Digits.{Left, Found, taken, Digit, Place}
 use Rattle.whole.proofs.Extreme.{largest-same, largest-past, smallest-next}

@@ -4,7 +4,7 @@
 // takes no more than is left: at the place p it takes d (k + c p)² - d k². Where s is a power of ten, what is left ends, from the place s
 // on, in two zeros for each digit still to come. On paper they are not written: two of them are brought down for each digit.
 ghost use mathlib.Core.Path.{_≡_};
-ghost use Prim.Native.Nat.{ℕ, _*_, _≤_, _<_};
+ghost use Prim.Native.Nat.{_*_, _≤_, _<_};
 ghost use Rattle.whole.specs.Fraction.{over};
 ghost use Rattle.whole.specs.Digits.{Left, Found, taken, Digit, Place};
 

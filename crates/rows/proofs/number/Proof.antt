@@ -2,9 +2,9 @@
 -- Assumes nothing.
 use borrow.Author.Needs.{needs}
 use mathlib.Core.Path.{_≡_, refl, sym, _∙_}
-use Prim.Native.Nat.{_-_, _*_, _+_, _≤_}
+use Prim.Native.Nat.{_-_, _≤_}
 use native.Mathlib.Omega.{arith}
-use lib.ListN.{length, drop, getD}
+use lib.ListN.{length, drop}
 use Rattle.rows.specs.Numbers.{numberAt, numberFrom}
 use Rattle.rows.proofs.Reading.{number-end, number-low, number-high, number-large, number-more}
 use Rattle.rows.proofs.number.Statement.{statement}

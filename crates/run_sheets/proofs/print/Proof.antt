@@ -1,6 +1,6 @@
 -- `run_sheets::print` is safe: the bytes of a listing are among those that `sheet_listing` hands on. Assumes nothing.
 use borrow.Author.Needs.{needs}
-use mathlib.Core.Path.{_≡_, sym}
+use mathlib.Core.Path.{sym}
 use lib.Seq.{length-take-le}
 use Rattle.sheet.proofs.Length.{listing-part}
 use Rattle.run_sheets.proofs.print.Statement.{statement}

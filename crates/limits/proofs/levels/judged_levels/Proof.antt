@@ -3,7 +3,8 @@ use borrow.Author.Needs.{needs}
 use mathlib.Core.Path.{_≡_, ap}
 use lib.ListN.{length}
 use Rattle.limits.proofs.Stages.{says}
-use Rattle.limits.specs.Levels.{counted, paired, roomy, weighed, judgedLevels}
+use Rattle.limits.specs.Lengths.{sameLength, roomy}
+use Rattle.limits.specs.Levels.{counted, weighed, judgedLevels}
 use Rattle.limits.specs.Outcome.{accepted, verdictOutcome}
 use Rattle.limits.proofs.levels.judged_levels.Statement.{statement}
 use Rattle.limits.proofs.levels.judged_levels.Tie as tie
@@ -12,8 +13,8 @@ use Rattle.limits.proofs.levels.judged_levels.Tie as tie
 counted-passed : (c : tie.After-enum-told) → let a = c .before .before .before .before .before .args in counted (length (a .weights .now)) ≡ accepted tt
 counted-passed c = says verdictOutcome (c .before .before .counted .ensures) (c .enum-told .given .1)
 
-paired-passed : (c : tie.After-enum-told3) → let a = c .before .before .before .before .before .before .before .before .args in paired (length (a .weights .now)) (length (a .heights .now)) ≡ accepted tt
-paired-passed c = says verdictOutcome (c .before .before .paired .ensures) (c .enum-told3 .given .1)
+lengths-passed : (c : tie.After-enum-told3) → let a = c .before .before .before .before .before .before .before .before .args in sameLength (length (a .weights .now)) (length (a .heights .now)) ≡ accepted tt
+lengths-passed c = says verdictOutcome (c .before .before .same-length .ensures) (c .enum-told3 .given .1)
 
 roomy-passed : (c : tie.After-enum-told5) → let a = c .before .before .before .before .before .before .before .before .before .before .before .args in roomy (length (a .weights .now)) (a .room) ≡ accepted tt
 roomy-passed c = says verdictOutcome (c .before .before .roomy .ensures) (c .enum-told5 .given .1)
@@ -35,8 +36,8 @@ unfolding judgedLevels
 returns c =
     simp (says verdictOutcome (c .before .before .counted .ensures) (c .enum-told2 .given .1)) (ap verdictOutcome (c .enum-told2 .given .1))
 
-paired-requires : tie.Need-paired-requires
-paired-requires c κs = search needs
+same-length-requires : tie.Need-same-length-requires
+same-length-requires c κs = search needs
 
 enum-told-3 : tie.Need-enum-told-3
 enum-told-3 c = search needs
@@ -47,7 +48,7 @@ enum-told-4 c = search needs
 returns-2 : tie.Need-returns-2
 unfolding judgedLevels
 returns-2 c =
-    simp (counted-passed (c .before .before .before), says verdictOutcome (c .before .before .paired .ensures) (c .enum-told4 .given .1))
+    simp (counted-passed (c .before .before .before), says verdictOutcome (c .before .before .same-length .ensures) (c .enum-told4 .given .1))
     (ap verdictOutcome (c .enum-told4 .given .1))
 
 roomy-requires : tie.Need-roomy-requires
@@ -62,7 +63,7 @@ enum-told-6 c = search needs
 returns-3 : tie.Need-returns-3
 unfolding judgedLevels
 returns-3 c =
-    simp (counted-passed (c .before .before .before .before .before .before), paired-passed (c .before .before .before), says verdictOutcome (c .before .before .roomy .ensures) (c .enum-told6 .given .1))
+    simp (counted-passed (c .before .before .before .before .before .before), lengths-passed (c .before .before .before), says verdictOutcome (c .before .before .roomy .ensures) (c .enum-told6 .given .1))
     (ap verdictOutcome (c .enum-told6 .given .1))
 
 weighed-requires : tie.Need-weighed-requires
@@ -77,7 +78,7 @@ enum-told-8 c = search needs
 returns-4 : tie.Need-returns-4
 unfolding judgedLevels
 returns-4 c =
-    simp (counted-passed (c .before .before .before .before .before .before .before .before .before), paired-passed (c .before .before .before .before .before .before), roomy-passed (c .before .before .before), says verdictOutcome (c .before .before .weighed .ensures) (c .enum-told8 .given .1))
+    simp (counted-passed (c .before .before .before .before .before .before .before .before .before), lengths-passed (c .before .before .before .before .before .before), roomy-passed (c .before .before .before), says verdictOutcome (c .before .before .weighed .ensures) (c .enum-told8 .given .1))
     (ap verdictOutcome (c .enum-told8 .given .1))
 
 raised-requires : tie.Need-raised-requires
@@ -86,7 +87,7 @@ raised-requires c κs = search needs
 returns-5 : tie.Need-returns-5
 unfolding judgedLevels
 returns-5 c =
-    simp (counted-passed (c .before .before .before .before .before .before .before .before .before .before), paired-passed (c .before .before .before .before .before .before .before), roomy-passed (c .before .before .before .before), weighed-passed (c .before)) (c .raised .ensures)
+    simp (counted-passed (c .before .before .before .before .before .before .before .before .before .before), lengths-passed (c .before .before .before .before .before .before .before), roomy-passed (c .before .before .before .before), weighed-passed (c .before)) (c .raised .ensures)
 
 pub judged-levels-spec : {M : Type 1} → statement M
 judged-levels-spec =
@@ -96,7 +97,7 @@ judged-levels-spec =
     enum-told
     enum-told-2
     returns
-    paired-requires
+    same-length-requires
     enum-told-3
     enum-told-4
     returns-2

@@ -1,7 +1,7 @@
 -- `response::factor::thirds` meets its contract. Assumes nothing.
 use borrow.Author.Needs.{needs}
 use Prim.Native.Nat.{_*_, _/_}
-use native.Mathlib.Nat.{mul-le-mul, div-mul-le-self, mul-le-mul-left}
+use native.Mathlib.Nat.{div-mul-le-self, mul-le-mul-left}
 use native.Mathlib.Omega.{arith}
 use Rattle.response.proofs.factor.thirds.Statement.{statement}
 use Rattle.response.proofs.factor.thirds.Tie as tie

@@ -1,7 +1,7 @@
 -- `response::spectrum::spectrum` meets its contract: each branch is that of `proofs/Spectra.antt`. Assumes nothing.
 use borrow.Author.Needs.{needs}
 use mathlib.Core.Path.{refl, sym, _∙_}
-use Prim.Native.Nat.{ℕ, zero, suc, _*_, _/_, _≤_, _<_}
+use Prim.Native.Nat.{ℕ, _*_, _/_, _<_}
 use native.Mathlib.Nat.{mul-le-mul, mul-pos}
 use native.Mathlib.Omega.{arith}
 use Rattle.response.proofs.Reached.{parts-positive, parts-most, ta-most}

@@ -7,7 +7,7 @@ use native.Mathlib.Omega.{arith}
 use lib.ListN.{length, drop, length-drop}
 use lib.Seq.{drop-drop}
 use Rattle.storeys.proofs.Roof.{roof-most}
-use Rattle.storeys.proofs.Sums.{part-sum, paired-from}
+use Rattle.storeys.proofs.Sums.{part-sum, weighing-from}
 use Rattle.storeys.specs.Storeys.{weightHeight, shearUnder}
 use Rattle.whole.proofs.Cells.{part-tail, Filling, filling-none, filling-more, filling-all}
 use Rattle.whole.specs.Rounding.{up}
@@ -83,7 +83,7 @@ above-lowest-requires c κs =
     let hs = b .args .heights .now in
     let l = c .before .before .before .before .loop in
     let some : 0 < length (drop (l .x) ws) = simp length-drop (omega arith) in
-    simp part-tail (paired-from ws hs (l .x) (b .pre .1), some, l .inv .1)
+    simp part-tail (weighing-from ws hs (l .x) (b .pre .1), some, l .inv .1)
 
 add-x : tie.Need-add-x Inv-loop μ-loop
 add-x c = search needs

@@ -1,6 +1,6 @@
 -- `limits::level::Level::judged` meets its contract. Assumes nothing.
 use borrow.Author.Needs.{needs}
-use mathlib.Core.Path.{_≡_, refl}
+use mathlib.Core.Path.{refl}
 use Rattle.limits.proofs.Stages.{says, stopped}
 use Rattle.limits.specs.Outcome.{verdictOutcome}
 use Rattle.limits.proofs.level.Level.judged.Statement.{statement}

@@ -1,7 +1,7 @@
--- `limits::levels::roomy` meets its contract. Assumes nothing.
+-- `limits::lengths::roomy` meets its contract. Assumes nothing.
 use borrow.Author.Tests.{le-leb, lt-leb}
-use Rattle.limits.proofs.levels.roomy.Statement.{statement}
-use Rattle.limits.proofs.levels.roomy.Tie as tie
+use Rattle.limits.proofs.lengths.roomy.Statement.{statement}
+use Rattle.limits.proofs.lengths.roomy.Tie as tie
 
 returns : tie.Need-returns
 returns c = simp (le-leb _ _ (c .if1 .taken))
