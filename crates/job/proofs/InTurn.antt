@@ -19,9 +19,9 @@ use Rattle.limits.specs.Judging.{judgedJob, judgedShearCall}
 use Rattle.limits.specs.Levels.{judgedLevels, topHeight}
 use Rattle.limits.specs.Outcome.{Outcome, accepted, refused, Done}
 use Rattle.limits.proofs.AcceptedCalls.{shear-call-allowed, judged-in-turn, judged-handed}
-use Rattle.limits.proofs.GivenApplies.{given-applies}
+use Rattle.limits.proofs.Told.{given-applies}
 use Rattle.limits.proofs.Passed.{then-passed}
-use Rattle.limits.proofs.Places.{numbered-levels, at-most-18}
+use Rattle.limits.proofs.Numbers.{numbered-levels, at-most-18}
 use Rattle.limits.proofs.Refusing.{levels-told}
 use Rattle.response.specs.Period.{periodOf}
 use Rattle.response.specs.Unit.{unit}
@@ -37,7 +37,7 @@ use Rattle.job.specs.ShearCall.{givenHazards, buildingFigures, Sheared}
 use Rattle.job.proofs.Answered as job
 use Rattle.job.proofs.Distributed.{distribution-accepted, passed-judged, passed-cells, refused-judged, refused-untouched, passed-distributed, stands, handed-kept}
 use Rattle.job.proofs.GivenReached.{given-between, between-handed}
-use Rattle.job.proofs.Refusing.{refused-applies}
+use Rattle.job.proofs.FirstRefusal.{job-first}
 use Rattle.job.proofs.Sheared as call
 use Rattle.job.proofs.Stages.{job-refused, job-accepted}
 use Rattle.job.proofs.Unique.{one-outcome}
@@ -166,7 +166,9 @@ never-19-nor-20 G f W h n c ws hs b r b′ d =
 
 pub job-at-most-18 : (G : GroundValues) (f : FrameValues) (ws hs : List ℕ) (b : Buffers) (r : Refusal) (b′ : Buffers)
     → Answers G f ws hs b (Refused r) b′ → r .number ≤ 18
-job-at-most-18 G f ws hs b r b′ a = at-most-18 G f ws hs (shortest b) (r .number) (r .place) (refused-applies G f ws hs b r b′ a)
+job-at-most-18 G f ws hs b r b′ a =
+    let w = job-first G f ws hs b (Refused r) b′ a .refused-applies (r .number) (r .place) refl in
+    at-most-18 (LevelsApply ws hs (shortest b)) (λ n p. numbered-levels) f G w .1
 
 -- ---- demand 3 of the two together: of any shear call, and the distribution of its V_D at its T over any levels
 module _ (G : GroundValues) (f : FrameValues) (W h : ℕ) (ws hs : List ℕ) (b : Buffers) where

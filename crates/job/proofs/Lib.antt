@@ -11,14 +11,12 @@ pub mod Stages
 pub mod Unique
 pub mod Columns
 pub mod Sheared
-pub mod ShearedRefusing
 pub mod Towers
 pub mod CallMoves
 pub mod Distributed
-pub mod DistributedRefusing
 pub mod Answered
 pub mod FigureBounds
-pub mod Refusing
+pub mod FirstRefusal
 pub mod InTurn
 pub mod JobMoves
 pub mod Independent

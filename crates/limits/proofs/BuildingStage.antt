@@ -7,7 +7,7 @@ use Prim.Native.Nat.{ℕ}
 use native.Mathlib.Omega.{arith}
 use Rattle.limits.specs.Applies.{BuildingApplies, total, top}
 use Rattle.limits.specs.Building.{judgedTotal, judgedTop, judgedBuilding}
-use Rattle.limits.proofs.GivenApplies.{Told, then-told, within-told}
+use Rattle.limits.proofs.Told.{Told, then-told, within-told}
 use Rattle.limits.proofs.NotAllowed.{range-stops}
 use Rattle.limits.proofs.Precedence.{Stops, UpTo, both-up-to, within-up-to, first-stops, later-stops, within-yields}
 

@@ -1,90 +1,100 @@
--- The refusal that a job is given is the first that applies, in the order in which they are judged (`order`), and so 'the lowest number
--- that applies .., at its lowest place'. An accepted job is one to which none applies. Where both levels have one pair of near-fault
--- factors, 6 is at place 1 or 2.
+-- A job, a shear call and a distribution are given the first refusal that applies, in the order in which they are judged (`order`), and so 'the lowest
+-- number that applies .., at its lowest place': on a site the first number is the lowest; in the Basin it is, but for 18, which is given before 8 to 12; of
+-- the distribution it is. Where both hazard levels have one pair of near-fault factors, 6 is at place 1 or 2.
 -- Assumes nothing.
 use mathlib.Core.Path.{_≡_}
 use mathlib.Core.List.{List}
-use mathlib.Core.Logic.{_⊎_, ⊎-elim}
+use mathlib.Core.Logic.{_⊎_}
 use Prim.Native.Nat.{ℕ, _≤_}
 use native.Mathlib.Omega.{arith}
 use Rattle.limits.specs.declared.frame.FrameValues.{FrameValues}
-use Rattle.limits.specs.declared.judging.Given.{Given}
 use Rattle.limits.specs.declared.ground.GroundValues.{GroundValues}
 use Rattle.limits.specs.declared.ground.GroundValues.the-variants.{Site, Basin}
 use Rattle.limits.specs.declared.site.SiteValues.{SiteValues}
-use Rattle.limits.specs.Applies.{OutOf, na-design, Applies, of-levels, of-ground, of-frame}
-use Rattle.limits.specs.Judging.{judgedJob}
+use Rattle.limits.specs.Applies.{OutOf, na-design, LevelsApply, BuildingApplies, HandedApplies, GivenApplies, of-ground}
+use Rattle.limits.specs.Applies.{JobApplies, ShearCallApplies, DistributionApplies, of-levels, of-handed}
+use Rattle.limits.specs.Building.{judgedBuilding}
+use Rattle.limits.specs.FirstRefusal.{FirstRefusal}
+use Rattle.limits.specs.Handed.{judgedHanded}
+use Rattle.limits.specs.Judging.{judgedJob, judgedShearCall, judgedDistribution}
 use Rattle.limits.specs.Levels.{judgedLevels}
-use Rattle.limits.specs.Order.{InOrder, NoLater}
-use Rattle.limits.specs.Outcome.{accepted, refused}
-use Rattle.limits.proofs.Precedence.{Stops, first-stops}
-use Rattle.limits.proofs.Ascending.{lowest-first, lowest-or-zone}
-use Rattle.limits.proofs.First as first
-use Rattle.limits.proofs.GivenStage.{ground-after, frame-after}
-use Rattle.limits.proofs.InOrder.{in-order}
+use Rattle.limits.specs.Outcome.{Outcome, refused}
+use Rattle.limits.proofs.Ascending.{lowest-first, lowest-or-zone, lowest-handed}
+use Rattle.limits.proofs.BuildingStage.{building-up-to, building-stops, building-told}
+use Rattle.limits.proofs.First.{first-refusal}
+use Rattle.limits.proofs.GivenStage.{given-first}
+use Rattle.limits.proofs.HandedStage.{handed-later, handed-stops, handed-told}
 use Rattle.limits.proofs.LevelsStage.{levels-up-to, levels-stop}
-use Rattle.limits.proofs.Places.{numbered, numbered-basin, named, one-pair-place}
-use Rattle.limits.proofs.Refusing.{job-told, refused-applies}
+use Rattle.limits.proofs.Numbers.{numbered, numbered-basin, numbered-distribution}
+use Rattle.limits.proofs.Places.{one-pair-place}
+use Rattle.limits.proofs.Precedence.{Stops, up-to-yields, first-stops, later-stops}
+use Rattle.limits.proofs.Refusing.{levels-told}
+use Rattle.limits.proofs.Told.{Told, then-told, told-as}
 
-module _ (G : GroundValues) (f : FrameValues) (ws hs : List ℕ) (room : ℕ) where
-  -- where a refusal applies, the job is given it or one that comes no later: the stages before its own have numbers that are judged
-  -- before it
-  stops : (n q : ℕ) → Applies G f ws hs room n q → Stops n q (judgedJob G f ws hs room)
-  unfolding judgedJob
-  stops n q (of-levels a) = first-stops n q (judgedLevels ws hs room) _ (levels-stop ws hs room n q a)
-  stops n q (of-ground a) = ground-after G f (judgedLevels ws hs room) (levels-up-to ws hs room) n q a
-  stops n q (of-frame a) = frame-after G f (judgedLevels ws hs room) (levels-up-to ws hs room) n q a
+-- ---- each call
+pub job-first : (G : GroundValues) (f : FrameValues) (ws hs : List ℕ) (room : ℕ)
+    → FirstRefusal (JobApplies G f ws hs room) (judgedJob G f ws hs room)
+unfolding judgedJob
+job-first G f ws hs room =
+    given-first (LevelsApply ws hs room) (judgedLevels ws hs room) (levels-up-to ws hs room) (levels-stop ws hs room) (levels-told ws hs room) G f
 
+pub shear-call-first : (G : GroundValues) (f : FrameValues) (W h : ℕ) → FirstRefusal (ShearCallApplies G f W h) (judgedShearCall G f W h)
+unfolding judgedShearCall
+shear-call-first G f W h =
+    given-first (BuildingApplies W h) (judgedBuilding W h) (building-up-to W h) (building-stops W h) (building-told W h) G f
+
+module _ (v t : ℕ) (ws hs : List ℕ) (room : ℕ) where
   abbrev A : ℕ → ℕ → Type 0
-  A = Applies G f ws hs room
+  A = DistributionApplies v t ws hs room
 
-  -- the first number that applies is given
-  pub first-number : (n p m q : ℕ) → judgedJob G f ws hs room ≡ refused n p → A m q → NoLater n m
-  first-number = first.first-number A (judgedJob G f ws hs room) stops
+  stops : (n q : ℕ) → A n q → Stops n q (judgedDistribution v t ws hs room)
+  unfolding judgedDistribution
+  stops n q (of-levels a) = first-stops n q (judgedLevels ws hs room) (judgedHanded v t) (levels-stop ws hs room n q a)
+  stops n q (of-handed a) =
+      later-stops n q (judgedLevels ws hs room) (judgedHanded v t)
+      (up-to-yields 4 n q (judgedLevels ws hs room) (levels-up-to ws hs room) (handed-later v t n q a))
+      (λ _. handed-stops v t n q a)
 
-  -- at its lowest place
-  pub lowest-place : (n p q : ℕ) → judgedJob G f ws hs room ≡ refused n p → A n q → p ≤ q
-  lowest-place = first.lowest-place A (judgedJob G f ws hs room) stops 3 6 (λ n p. named) (job-told G f ws hs room)
+  told : Told A (judgedDistribution v t ws hs room)
+  unfolding judgedDistribution
+  told =
+      then-told A (judgedLevels ws hs room) (judgedHanded v t)
+      (told-as (LevelsApply ws hs room) A (λ n p. of-levels) (judgedLevels ws hs room) (levels-told ws hs room))
+      (λ _. told-as (HandedApplies v t) A (λ n p. of-handed) (judgedHanded v t) (handed-told v t))
 
-  -- nothing is accepted to which a refusal applies
-  pub accepted-none : (g : Given) (n p : ℕ) → judgedJob G f ws hs room ≡ accepted g → A n p → ⊥
-  accepted-none = first.accepted-none A (judgedJob G f ws hs room) stops
+  pub distribution-first : FirstRefusal A (judgedDistribution v t ws hs room)
+  distribution-first = first-refusal A (judgedDistribution v t ws hs room) stops told
 
--- on a site with one pair of near-fault factors for both levels, 6 is given at place 1 or 2; where N_A is out of its range, at 1
+-- ---- which number that is, of any outcome that gives the first refusal: of a ground and a frame after a first judgment of numbers 1 to 4
+module _
+    (F : ℕ → ℕ → Type 0) (low : (n p : ℕ) → F n p → (1 ≤ n) × (n ≤ 4)) (f : FrameValues)
+    {X : Type 0} (o : Outcome X) (n p m q : ℕ) (e : o ≡ refused n p)
+    where
+  pub lowest-number : (s : SiteValues) → FirstRefusal (GivenApplies F (Site s) f) o → GivenApplies F (Site s) f m q → n ≤ m
+  lowest-number s h a =
+      let given = numbered F low f (h .refused-applies n p e) in
+      let other = numbered F low f a in
+      lowest-first n m (omega arith) (omega arith) (h .first-number n p m q e a)
+
+  pub lowest-in-basin : (z : ℕ) → FirstRefusal (GivenApplies F (Basin z) f) o → GivenApplies F (Basin z) f m q
+      → (n ≤ m) ⊎ ((n ≡ 18) × (8 ≤ m))
+  lowest-in-basin z h a =
+      lowest-or-zone n m (h .first-number n p m q e a) (numbered-basin F low f (h .refused-applies n p e)) (numbered-basin F low f a)
+
+-- and of the distribution
+pub lowest-distributed : (v t : ℕ) (ws hs : List ℕ) (room : ℕ) {X : Type 0} (o : Outcome X) (n p m q : ℕ) → o ≡ refused n p
+    → FirstRefusal (DistributionApplies v t ws hs room) o → DistributionApplies v t ws hs room m q → n ≤ m
+lowest-distributed v t ws hs room o n p m q e h a =
+    lowest-handed n m (h .first-number n p m q e a) (numbered-distribution (h .refused-applies n p e)) (numbered-distribution a)
+
+-- ---- on a site with one pair of near-fault factors for both hazard levels, 6 is given at place 1 or 2; where N_A is out of its range, at 1
 module _ (s : SiteValues) (f : FrameValues) (ws hs : List ℕ) (room p : ℕ) (e : judgedJob (Site s) f ws hs room ≡ refused 6 p) where
-  near-fault-place : 1 ≤ p
-  near-fault-place =
-      ⊎-elim (λ h. h .2) (λ h. absurd (⊎-elim (λ l. let z : ⊥ = omega arith in z) (λ l. let z : ⊥ = omega arith in z) (h .0)))
-      (named (refused-applies (Site s) f ws hs room 6 p e))
-
   pub one-pair-lowest : s .nam ≡ s .nad → s .nvm ≡ s .nvd → (1 ≤ p) × (p ≤ 2)
   one-pair-lowest a b =
-      let q = one-pair-place s a b (refused-applies (Site s) f ws hs room 6 p e) in
-      let l = lowest-place (Site s) f ws hs room 6 p (q .0) e (q .1 .1) in
-      (near-fault-place, omega (arith, l, q .1 .0))
+      let h = job-first (Site s) f ws hs room in
+      let q = one-pair-place s a b (h .refused-applies 6 p e) in
+      let l = h .lowest-place 6 p (q .0) e (q .1 .1) in
+      (l .0, omega (arith, l .1, q .1 .0))
 
   pub na-lowest : OutOf 100 150 (s .nad) → p ≡ 1
-  na-lowest o = omega (arith, near-fault-place, lowest-place (Site s) f ws hs room 6 p 1 e (of-ground (na-design o)))
-
--- every number that applies stands in the order
-pub applies-in-order : (G : GroundValues) (f : FrameValues) (ws hs : List ℕ) (room n p : ℕ) → Applies G f ws hs room n p → InOrder n
-applies-in-order (Site s) f ws hs room n p a = in-order n (let h = numbered a in omega arith)
-applies-in-order (Basin z) f ws hs room n p a =
-    ⊎-elim (λ h. in-order n (omega arith)) (λ h. ⊎-elim (λ e. in-order n (omega arith)) (λ k. in-order n (omega arith)) h)
-    (numbered-basin a)
-
--- on a site the first number is the lowest
-pub lowest-number : (s : SiteValues) (f : FrameValues) (ws hs : List ℕ) (room n p m q : ℕ) → judgedJob (Site s) f ws hs room ≡ refused n p
-    → Applies (Site s) f ws hs room m q → n ≤ m
-lowest-number s f ws hs room n p m q e a =
-    let given = numbered (refused-applies (Site s) f ws hs room n p e) in
-    let other = numbered a in
-    lowest-first n m (omega arith) (omega arith) (first-number (Site s) f ws hs room n p m q e a)
-
--- in the Basin it is the lowest, but for 18, which is given before 8 to 12
-module _ (z : ℕ) (f : FrameValues) (ws hs : List ℕ) (room n p m q : ℕ) where
-  pub lowest-in-basin : judgedJob (Basin z) f ws hs room ≡ refused n p → Applies (Basin z) f ws hs room m q
-      → (n ≤ m) ⊎ ((n ≡ 18) × (8 ≤ m))
-  lowest-in-basin e a =
-      let h = first-number (Basin z) f ws hs room n p m q e a in
-      lowest-or-zone n m h (numbered-basin (refused-applies (Basin z) f ws hs room n p e)) (numbered-basin a)
+  na-lowest o = let l = job-first (Site s) f ws hs room .lowest-place 6 p 0 e (of-ground (na-design o)) in omega arith

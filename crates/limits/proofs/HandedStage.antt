@@ -8,7 +8,7 @@ use native.Mathlib.Omega.{arith}
 use Rattle.limits.specs.Applies.{HandedApplies, base-shear, handed-period}
 use Rattle.limits.specs.Handed.{judgedBaseShear, judgedHandedPeriod, judgedHanded}
 use Rattle.limits.specs.Order.{Before}
-use Rattle.limits.proofs.GivenApplies.{Told, then-told, within-told}
+use Rattle.limits.proofs.Told.{Told, then-told, within-told}
 use Rattle.limits.proofs.NotAllowed.{range-stops}
 use Rattle.limits.proofs.Precedence.{Stops, first-stops, later-stops, within-yields}
 

@@ -9,11 +9,13 @@ pub mod Built
 pub mod AcceptedCalls
 pub mod GivenIs
 pub mod Reading
-pub mod GivenApplies
+pub mod Told
 pub mod Precedence
+pub mod First
 pub mod Ascending
 pub mod InOrder
 pub mod Refusing
+pub mod Numbers
 pub mod Places
 pub mod NotAllowed
 pub mod EachLevel
@@ -21,11 +23,8 @@ pub mod LevelsStage
 pub mod SiteStage
 pub mod GroundStage
 pub mod FrameStage
-pub mod First
 pub mod GivenStage
-pub mod Foremost
 pub mod BuildingStage
 pub mod HandedStage
-pub mod ForemostShearCall
-pub mod ForemostDistribution
+pub mod Foremost
 pub mod Room

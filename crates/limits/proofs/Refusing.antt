@@ -1,4 +1,4 @@
--- A refusal that is given to a job does apply, and a job to which none applies is accepted.
+-- A refusal that is given to levels, to a site or a zone, or to a frame does apply.
 -- Assumes nothing.
 use mathlib.Core.Path.{_≡_, refl, sym, subst}
 use mathlib.Core.Bool.{Bool, true, false, _||_}
@@ -11,23 +11,21 @@ use lib.ListN.{length, getD}
 use borrow.Author.Tests.{leb-false, ltb-false, eqb-false}
 use Rattle.whole.proofs.Choice.{by-test}
 use Rattle.limits.specs.declared.frame.FrameValues.{FrameValues}
-use Rattle.limits.specs.declared.judging.Given.{Given}
 use Rattle.limits.specs.declared.ground.GroundValues.{GroundValues}
 use Rattle.limits.specs.declared.ground.GroundValues.the-variants.{Site, Basin}
 use Rattle.limits.specs.declared.site.SiteValues.{SiteValues}
 use Rattle.whole.specs.Cells.{below}
-use Rattle.limits.specs.Applies.{OutOf, NotListed, count, lists, buffer, weight, height, rising, LevelsApply, of-count, of-lengths, of-weights, of-heights, SiteApplies, ss-design, s1-design, ss-mce, s1-mce, na-design, nv-design, na-mce, nv-mce, class, ZoneApplies, zone, GroundApplies, FrameApplies, r, i, alpha, kind, period, Applies, of-levels, of-ground, of-frame}
+use Rattle.limits.specs.Applies.{OutOf, NotListed, count, lists, buffer, weight, height, rising, LevelsApply, of-count, of-lengths, of-weights, of-heights, SiteApplies, ss-design, s1-design, ss-mce, s1-mce, na-design, nv-design, na-mce, nv-mce, class, ZoneApplies, zone, GroundApplies, FrameApplies, r, i, alpha, kind, period}
 use Rattle.limits.specs.Frame.{judgedKind, judgedPeriod, judgedFrame}
 use Rattle.limits.specs.Ground.{judgedGround}
-use Rattle.limits.specs.Judging.{judgedGiven, judgedJob}
 use Rattle.limits.specs.Lengths.{sameLength, roomy}
 use Rattle.limits.specs.Levels.{counted, judgedWeight, weighed, judgedHeight, raised, judgedLevels}
-use Rattle.limits.specs.Outcome.{Outcome, accepted, refused, Done, require}
+use Rattle.limits.specs.Outcome.{require}
 use Rattle.limits.specs.Ranges.{among, within, listed}
 use Rattle.limits.specs.Site.{judgedClass, judgedMapped, judgedNearFault, judgedSite}
 use Rattle.limits.specs.Zone.{judgedZone}
 use Rattle.limits.proofs.Passed.{differ}
-use Rattle.limits.proofs.GivenApplies.{Told, then-told, bind-told, require-told, within-told, given-applies, accepted-unless, told-as}
+use Rattle.limits.proofs.Told.{Told, then-told, bind-told, require-told, within-told}
 
 -- ---- values that are not listed
 not-among : (vs : List ℕ) (x : ℕ) → among vs x ≡ false → NotListed vs x
@@ -149,32 +147,3 @@ module _ (f : FrameValues) where
       (λ e₃. by-test (Told F) (eqb (f .kind) 4) _ _ (λ _. tt)
       (λ e₄. kind (eqb-false _ _ e₁, (eqb-false _ _ e₂, (eqb-false _ _ e₃, (eqb-false _ _ e₄, tt)))))))))
       (λ k. then-told F (judgedPeriod (f .calculated)) _ period-told (λ _. tt)))))
-
--- ---- ground and frame, after any first judgment o of which A says when it refuses
-module _ (G : GroundValues) (f : FrameValues) where
-  pub given-told : (A : ℕ → ℕ → Type 0) (o : Outcome Done) → Told A o → ((n p : ℕ) → GroundApplies G n p → A n p)
-      → ((n p : ℕ) → FrameApplies f n p → A n p) → Told A (judgedGiven o G f)
-  given-told A o first ground frame =
-      then-told A o _ first
-      (λ _. bind-told A (judgedGround G) _ (told-as (GroundApplies G) A ground (judgedGround G) (ground-told G))
-      (λ _. bind-told A (judgedFrame f) _ (told-as (FrameApplies f) A frame (judgedFrame f) (frame-told f)) (λ _. tt)))
-
--- ---- the job
-module _ (G : GroundValues) (f : FrameValues) (ws hs : List ℕ) (room : ℕ) where
-  abbrev J : ℕ → ℕ → Type 0
-  J = Applies G f ws hs room
-
-  pub job-told : Told J (judgedJob G f ws hs room)
-  unfolding judgedJob
-  job-told =
-      given-told G f J (judgedLevels ws hs room)
-      (told-as (LevelsApply ws hs room) J (λ n p. of-levels) (judgedLevels ws hs room) (levels-told ws hs room))
-      (λ n p. of-ground) (λ n p. of-frame)
-
-  -- a refusal that is given applies
-  pub refused-applies : (n p : ℕ) → judgedJob G f ws hs room ≡ refused n p → Applies G f ws hs room n p
-  refused-applies = given-applies J (judgedJob G f ws hs room) job-told
-
-  -- data to which no refusal applies is accepted
-  pub accepted-unless-refused : ((n p : ℕ) → Applies G f ws hs room n p → ⊥) → (g : Given) × (judgedJob G f ws hs room ≡ accepted g)
-  accepted-unless-refused = accepted-unless J (judgedJob G f ws hs room) job-told

@@ -1,6 +1,5 @@
 -- When each refusal of a job, of the shear call and of the distribution applies: 'What comes back when data is bad', 1 to 12 and 18 to 20,
--- part by part, and of a job as a whole; of the two calls in ShearCallApplies.antt and DistributionApplies.antt. In each part refusal n
--- applies at place p. Level x, from 0, has place 1 + x.
+-- part by part, then of each call. Refusal n applies at place p. Level x, from 0, has place 1 + x.
 --   OutOf least most x           x is not from least to most
 --   NotListed vs x               x is none of the values
 --   CountApplies ws n p          1: the list has no level, or over 50
@@ -14,7 +13,10 @@
 --   FrameApplies f n p           8 to 12: of a frame
 --   BuildingApplies W h n p      3 and 4 of the shear call: a total weight, a top height
 --   HandedApplies v t n p        19 and 20: a base shear and a period that are handed in
---   Applies G f ws hs room n p   of a job: of its levels, its ground or its frame
+--   GivenApplies F G f n p       of a ground and a frame after a first judgment, which refuses where F says: of that, of the ground or of the frame
+--   JobApplies G f ws hs room n p           of a job, which judges its levels first
+--   ShearCallApplies G f W h n p            of the shear call, which judges its building first
+--   DistributionApplies v t ws hs room n p  of the distribution: of its levels, or of the base shear and the period that are handed in
 use mathlib.Core.Path.{_≡_}
 use mathlib.Core.List.{List, [], _∷_}
 use mathlib.Core.Logic.{_⊎_}
@@ -86,7 +88,17 @@ pub data HandedApplies (v t : ℕ) : ℕ → ℕ → Type 0 where
   base-shear : OutOf 1 1_200_000_000 v → HandedApplies v t 19 0
   handed-period : OutOf 0 9_999 t → HandedApplies v t 20 0
 
-pub data Applies (G : GroundValues) (f : FrameValues) (ws hs : List ℕ) (room n p : ℕ) : Type 0 where
-  of-levels : LevelsApply ws hs room n p → Applies G f ws hs room n p
-  of-ground : GroundApplies G n p → Applies G f ws hs room n p
-  of-frame : FrameApplies f n p → Applies G f ws hs room n p
+pub data GivenApplies (F : ℕ → ℕ → Type 0) (G : GroundValues) (f : FrameValues) (n p : ℕ) : Type 0 where
+  of-first : F n p → GivenApplies F G f n p
+  of-ground : GroundApplies G n p → GivenApplies F G f n p
+  of-frame : FrameApplies f n p → GivenApplies F G f n p
+
+abbrev pub JobApplies : GroundValues → FrameValues → List ℕ → List ℕ → ℕ → ℕ → ℕ → Type 0
+JobApplies G f ws hs room = GivenApplies (LevelsApply ws hs room) G f
+
+abbrev pub ShearCallApplies : GroundValues → FrameValues → ℕ → ℕ → ℕ → ℕ → Type 0
+ShearCallApplies G f W h = GivenApplies (BuildingApplies W h) G f
+
+pub data DistributionApplies (v t : ℕ) (ws hs : List ℕ) (room n p : ℕ) : Type 0 where
+  of-levels : LevelsApply ws hs room n p → DistributionApplies v t ws hs room n p
+  of-handed : HandedApplies v t n p → DistributionApplies v t ws hs room n p

@@ -12,5 +12,4 @@ pub mod Frame
 pub mod Judging
 pub mod Allowed
 pub mod Applies
-pub mod ShearCallApplies
-pub mod DistributionApplies
+pub mod FirstRefusal

@@ -11,44 +11,44 @@ use Rattle.limits.specs.declared.refusal.Refusal.{Refusal}
 use Rattle.limits.specs.declared.refusal.Verdict.{Verdict}
 use Rattle.limits.specs.declared.refusal.Verdict.the-variants.{Passed, Refused as RefusedVerdict}
 use Rattle.limits.specs.Outcome.{Outcome, accepted, refused, number, place, refusalOf, verdictOutcome}
-use Rattle.limits.proofs.ForemostDistribution.{applies-in-order as distribution-in-order}
-use Rattle.limits.proofs.ForemostShearCall.{applies-in-order as call-in-order}
+use Rattle.limits.specs.Applies.{BuildingApplies}
+use Rattle.limits.proofs.Numbers.{numbered-building, applies-in-order as given-in-order, distribution-in-order}
 use Rattle.base_shear.specs.declared.Figures.{Figures}
 use Rattle.job.specs.declared.FiguresAnswer.{FiguresAnswer}
 use Rattle.job.specs.declared.FiguresAnswer.the-variants.{Taken, Refused}
 use Rattle.job.specs.Distribution.{Columns, distributionOf, doneOnly, Buffers, shortest, Distributed}
 use Rattle.job.specs.ShearCall.{shearCallOf, five, answerOutcome, Sheared}
 use Rattle.job.proofs.Calls.{answerOf, says-outcome}
-use Rattle.job.proofs.DistributedRefusing.{refused-applies as distribution-applies}
-use Rattle.job.proofs.ShearedRefusing.{refused-applies as call-applies}
+use Rattle.job.proofs.FirstRefusal.{shear-call-first, distribution-first}
 use Rattle.sheet.specs.Sheet.{frameValues}
 use Rattle.linked.proofs.Replies.{replies-as, replies-unique, refused-number, never-zero}
 use Rattle.linked.specs.Linked.{FiguresReply, ShearCallReplies, DistributionReplies}
 
 -- `rukeshomaji_shear_call`, and that of the Basin
-module _ (g : GroundValues) (m : List ℕ) (W h : ℕ) where
-  pub shear-call-replies : (G : GroundValues) (f : FrameValues) (a : FiguresAnswer) {n : ℕ} {r : List ℕ} → G ≡ g → f ≡ frameValues m
-      → Sheared G f W h a → FiguresReply (answerOutcome a) n r → ShearCallReplies g m W h n r
-  shear-call-replies G f a es ef t p =
-      replies-as (t ∙ ap₂ (λ (G : GroundValues) (f : FrameValues). shearCallOf G f W h) es ef) p
+module _ (G : GroundValues) (m : List ℕ) (W h : ℕ) where
+  pub shear-call-replies : (made : GroundValues) (f : FrameValues) (a : FiguresAnswer) {n : ℕ} {r : List ℕ} → made ≡ G → f ≡ frameValues m
+      → Sheared made f W h a → FiguresReply (answerOutcome a) n r → ShearCallReplies G m W h n r
+  shear-call-replies made f a es ef t p =
+      replies-as (t ∙ ap₂ (λ (made : GroundValues) (f : FrameValues). shearCallOf made f W h) es ef) p
 
-  pub replied-sheared : (n : ℕ) (r : List ℕ) → ShearCallReplies g m W h n r
-      → (a : FiguresAnswer) × Sheared g (frameValues m) W h a × FiguresReply (answerOutcome a) n r
+  pub replied-sheared : (n : ℕ) (r : List ℕ) → ShearCallReplies G m W h n r
+      → (a : FiguresAnswer) × Sheared G (frameValues m) W h a × FiguresReply (answerOutcome a) n r
   replied-sheared n r p =
-      let o = shearCallOf g (frameValues m) W h in
+      let o = shearCallOf G (frameValues m) W h in
       (answerOf o, says-outcome o, replies-as (sym (says-outcome o)) p)
 
-  pub zero-sheared : (r : List ℕ) → ShearCallReplies g m W h 0 r → (n : Figures) × Sheared g (frameValues m) W h (Taken n) × (r ≡ 0 ∷ five n)
+  pub zero-sheared : (r : List ℕ) → ShearCallReplies G m W h 0 r → (n : Figures) × Sheared G (frameValues m) W h (Taken n) × (r ≡ 0 ∷ five n)
   zero-sheared r p = go (replied-sheared 0 r p .0) (replied-sheared 0 r p .1) (replied-sheared 0 r p .2)
     where
-      go : (a : FiguresAnswer) → Sheared g (frameValues m) W h a → FiguresReply (answerOutcome a) 0 r
-          → (n : Figures) × Sheared g (frameValues m) W h (Taken n) × (r ≡ 0 ∷ five n)
+      go : (a : FiguresAnswer) → Sheared G (frameValues m) W h a → FiguresReply (answerOutcome a) 0 r
+          → (n : Figures) × Sheared G (frameValues m) W h (Taken n) × (r ≡ 0 ∷ five n)
       go (Taken n) t q = (n, t, q .replied)
       go (Refused k) t q =
           absurd (never-zero (k .number) (sym (q .returned))
-          (call-in-order g (frameValues m) W h (k .number) (k .place) (call-applies g (frameValues m) W h k t)))
+          (given-in-order (BuildingApplies W h) (λ n p. numbered-building) (frameValues m) G
+          (shear-call-first G (frameValues m) W h (Refused k) t .refused-applies (k .number) (k .place) refl)))
 
-  pub one-shear-call-reply : {n n′ : ℕ} {r r′ : List ℕ} → ShearCallReplies g m W h n r → ShearCallReplies g m W h n′ r′
+  pub one-shear-call-reply : {n n′ : ℕ} {r r′ : List ℕ} → ShearCallReplies G m W h n r → ShearCallReplies G m W h n′ r′
       → (n ≡ n′) × (r ≡ r′)
   one-shear-call-reply p q = replies-unique p q
 
@@ -90,7 +90,8 @@ module _ (v T : ℕ) (ws hs : List ℕ) (b : Buffers) where
       go Passed d n q = (d, q)
       go (RefusedVerdict k) d n q =
           absurd (never-zero (k .number) (sym n)
-          (distribution-in-order v T ws hs (shortest b) (k .number) (k .place) (distribution-applies v T ws hs b k b′ d)))
+          (distribution-in-order
+          (distribution-first v T ws hs b b′ (RefusedVerdict k) d .refused-applies (k .number) (k .place) refl)))
 
   pub one-distribution-reply : {n n′ p p′ : ℕ} {c c′ : Buffers} → DistributionReplies v T ws hs b n p c
       → DistributionReplies v T ws hs b n′ p′ c′ → (n ≡ n′) × (p ≡ p′) × (c ≡ c′)

@@ -13,7 +13,8 @@ use Rattle.limits.specs.declared.ground.GroundValues.{GroundValues}
 use Rattle.limits.specs.declared.refusal.Refusal.{Refusal}
 use Rattle.limits.specs.Order.{InOrder}
 use Rattle.limits.specs.Outcome.{Outcome, accepted, refused, number, place, refusalOf}
-use Rattle.limits.proofs.Foremost.{applies-in-order as job-in-order}
+use Rattle.limits.specs.Applies.{LevelsApply}
+use Rattle.limits.proofs.Numbers.{numbered-levels, applies-in-order as given-in-order}
 use Rattle.base_shear.specs.declared.Figures.{Figures}
 use Rattle.job.specs.declared.FiguresAnswer.{FiguresAnswer}
 use Rattle.job.specs.declared.FiguresAnswer.the-variants.{Taken, Refused}
@@ -21,8 +22,8 @@ use Rattle.job.specs.Distribution.{Buffers, shortest}
 use Rattle.job.specs.Job.{Results, jobOf, figuresOnly, written, Figured, Answers}
 use Rattle.job.specs.ShearCall.{five, answerOutcome}
 use Rattle.job.proofs.Calls.{answerOf, says-outcome}
-use Rattle.job.proofs.Refusing.{refused-applies as job-applies}
-use Rattle.sheet.proofs.Foremost.{applies-in-order, refused-applies}
+use Rattle.job.proofs.FirstRefusal.{job-first}
+use Rattle.sheet.proofs.Foremost.{applies-in-order, sheet-first}
 use Rattle.sheet.proofs.OnePair.{siteSheet, accepted-repeated}
 use Rattle.sheet.specs.declared.Put.{Put}
 use Rattle.sheet.specs.Laid.{siteLine}
@@ -49,50 +50,51 @@ refused-number (refused n p) = (refl, refl)
 pub never-zero : (n : ℕ) → n ≡ 0 → InOrder n → ⊥
 never-zero n e h = let stands : InOrder 0 = subst InOrder e h in omega (arith, stands)
 
-module _ (g : GroundValues) (m ws hs : List ℕ) where
-  pub job-replies : (G : GroundValues) (f : FrameValues) (b : Buffers) (a : FiguresAnswer) (b′ : Buffers) {n : ℕ} {r : List ℕ}
-      → G ≡ g → f ≡ frameValues m → Answers G f ws hs b a b′ → FiguresReply (answerOutcome a) n r
-      → JobReplies g m ws hs b n r b′
-  job-replies G f b a b′ es ef t p =
-      let o = ap₂ (λ (G : GroundValues) (f : FrameValues). jobOf G f ws hs (shortest b)) es ef in
+module _ (G : GroundValues) (m ws hs : List ℕ) where
+  pub job-replies : (made : GroundValues) (f : FrameValues) (b : Buffers) (a : FiguresAnswer) (b′ : Buffers) {n : ℕ} {r : List ℕ}
+      → made ≡ G → f ≡ frameValues m → Answers made f ws hs b a b′ → FiguresReply (answerOutcome a) n r
+      → JobReplies G m ws hs b n r b′
+  job-replies made f b a b′ es ef t p =
+      let o = ap₂ (λ (made : GroundValues) (f : FrameValues). jobOf made f ws hs (shortest b)) es ef in
       (replies-as (t .0 ∙ ap figuresOnly o) p, t .1 ∙ ap (λ x. written x b) o)
 
-  pub figures-replies : (G : GroundValues) (f : FrameValues) (a : FiguresAnswer) {n : ℕ} {r : List ℕ} → G ≡ g
-      → f ≡ frameValues m → Figured G f ws hs a → FiguresReply (answerOutcome a) n r → FiguresReplies g m ws hs n r
-  figures-replies G f a es ef t p =
-      replies-as (t ∙ ap figuresOnly (ap₂ (λ (G : GroundValues) (f : FrameValues). jobOf G f ws hs (length ws)) es ef)) p
+  pub figures-replies : (made : GroundValues) (f : FrameValues) (a : FiguresAnswer) {n : ℕ} {r : List ℕ} → made ≡ G
+      → f ≡ frameValues m → Figured made f ws hs a → FiguresReply (answerOutcome a) n r → FiguresReplies G m ws hs n r
+  figures-replies made f a es ef t p =
+      replies-as (t ∙ ap figuresOnly (ap₂ (λ (made : GroundValues) (f : FrameValues). jobOf made f ws hs (length ws)) es ef)) p
 
   -- and the other way: what is proved of an answer of the core holds of the reply that says it
-  pub replied-answers : (b : Buffers) (n : ℕ) (r : List ℕ) (b′ : Buffers) → JobReplies g m ws hs b n r b′
-      → (a : FiguresAnswer) × Answers g (frameValues m) ws hs b a b′ × FiguresReply (answerOutcome a) n r
+  pub replied-answers : (b : Buffers) (n : ℕ) (r : List ℕ) (b′ : Buffers) → JobReplies G m ws hs b n r b′
+      → (a : FiguresAnswer) × Answers G (frameValues m) ws hs b a b′ × FiguresReply (answerOutcome a) n r
   replied-answers b n r b′ p =
-      let o = figuresOnly (jobOf g (frameValues m) ws hs (shortest b)) in
+      let o = figuresOnly (jobOf G (frameValues m) ws hs (shortest b)) in
       (answerOf o, (says-outcome o, p .1), replies-as (sym (says-outcome o)) (p .0))
 
-  pub replied-figured : (n : ℕ) (r : List ℕ) → FiguresReplies g m ws hs n r
-      → (a : FiguresAnswer) × Figured g (frameValues m) ws hs a × FiguresReply (answerOutcome a) n r
+  pub replied-figured : (n : ℕ) (r : List ℕ) → FiguresReplies G m ws hs n r
+      → (a : FiguresAnswer) × Figured G (frameValues m) ws hs a × FiguresReply (answerOutcome a) n r
   replied-figured n r p =
-      let o = figuresOnly (jobOf g (frameValues m) ws hs (length ws)) in
+      let o = figuresOnly (jobOf G (frameValues m) ws hs (length ws)) in
       (answerOf o, says-outcome o, replies-as (sym (says-outcome o)) p)
 
   -- where 0 is returned, the answer is figures, and the reply has them
-  pub zero-answers : (b : Buffers) (r : List ℕ) (b′ : Buffers) → JobReplies g m ws hs b 0 r b′
-      → (n : Figures) × Answers g (frameValues m) ws hs b (Taken n) b′ × (r ≡ 0 ∷ five n)
+  pub zero-answers : (b : Buffers) (r : List ℕ) (b′ : Buffers) → JobReplies G m ws hs b 0 r b′
+      → (n : Figures) × Answers G (frameValues m) ws hs b (Taken n) b′ × (r ≡ 0 ∷ five n)
   zero-answers b r b′ p = go (replied-answers b 0 r b′ p .0) (replied-answers b 0 r b′ p .1) (replied-answers b 0 r b′ p .2)
     where
-      go : (a : FiguresAnswer) → Answers g (frameValues m) ws hs b a b′ → FiguresReply (answerOutcome a) 0 r
-          → (n : Figures) × Answers g (frameValues m) ws hs b (Taken n) b′ × (r ≡ 0 ∷ five n)
+      go : (a : FiguresAnswer) → Answers G (frameValues m) ws hs b a b′ → FiguresReply (answerOutcome a) 0 r
+          → (n : Figures) × Answers G (frameValues m) ws hs b (Taken n) b′ × (r ≡ 0 ∷ five n)
       go (Taken n) t q = (n, t, q .replied)
       go (Refused k) t q =
           absurd (never-zero (k .number) (sym (q .returned))
-          (job-in-order g (frameValues m) ws hs (shortest b) (k .number) (k .place) (job-applies g (frameValues m) ws hs b k b′ t)))
+          (given-in-order (LevelsApply ws hs (shortest b)) (λ n p. numbered-levels) (frameValues m) G
+          (job-first G (frameValues m) ws hs b (Refused k) b′ t .refused-applies (k .number) (k .place) refl)))
 
   -- `rukeshomaji_job`, `rukeshomaji_figures`, and those of the Basin
-  pub one-reply : (b : Buffers) {n n′ : ℕ} {r r′ : List ℕ} {c c′ : Buffers} → JobReplies g m ws hs b n r c
-      → JobReplies g m ws hs b n′ r′ c′ → ((n ≡ n′) × (r ≡ r′)) × (c ≡ c′)
+  pub one-reply : (b : Buffers) {n n′ : ℕ} {r r′ : List ℕ} {c c′ : Buffers} → JobReplies G m ws hs b n r c
+      → JobReplies G m ws hs b n′ r′ c′ → ((n ≡ n′) × (r ≡ r′)) × (c ≡ c′)
   one-reply b p q = (replies-unique (p .0) (q .0), determined (p .1) (q .1))
 
-  pub one-figures-reply : {n n′ : ℕ} {r r′ : List ℕ} → FiguresReplies g m ws hs n r → FiguresReplies g m ws hs n′ r′
+  pub one-figures-reply : {n n′ : ℕ} {r r′ : List ℕ} → FiguresReplies G m ws hs n r → FiguresReplies G m ws hs n′ r′
       → (n ≡ n′) × (r ≡ r′)
   one-figures-reply p q = replies-unique p q
 
@@ -136,7 +138,7 @@ accepted-zero s e = go (outcomeOf s) refl
     go : (o : Outcome Results) → outcomeOf s ≡ o → (x : Results) × (outcomeOf s ≡ accepted x)
     go (accepted x) q = (x, q)
     go (refused k p) q =
-        absurd (never-zero k (sym (ap number q) ∙ e) (applies-in-order s k p (refused-applies s k p q)))
+        absurd (never-zero k (sym (ap number q) ∙ e) (applies-in-order s k p (sheet-first s .refused-applies k p q)))
 
 -- seven numbers, and nine: byte for byte
 pub repeated-sheet-reply : (ns x : List ℕ) → LaidLine (onePairLayout ∷ []) (siteLine ns)

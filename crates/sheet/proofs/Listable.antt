@@ -8,12 +8,12 @@ use lib.ListN.{length}
 use Rattle.limits.specs.declared.judging.Given.{Given}
 use Rattle.limits.specs.Judging.{judgedJob}
 use Rattle.limits.specs.Outcome.{Outcome, accepted, refused, _>>=_}
-use Rattle.limits.proofs.Refusing.{accepted-unless-refused}
+use Rattle.limits.proofs.Foremost.{job-first}
 use Rattle.job.specs.Job.{resultsOf}
 use Rattle.job.proofs.Stages.{job-accepted}
 use Rattle.sheet.proofs.Allowed.{allowed-laid}
 use Rattle.sheet.proofs.LaidRead.{laid-read}
-use Rattle.sheet.specs.Applies.{JobApplies}
+use Rattle.sheet.specs.Applies.{HeldApplies}
 use Rattle.sheet.specs.Laid.{GroundLine, sheetLaid, Laid}
 use Rattle.sheet.specs.Layouts.{Line}
 use Rattle.sheet.specs.Listing.{refusal, listing, jobOfSheet, sheetListing}
@@ -32,11 +32,12 @@ module _ (l : Line) (r : Sheet) (holds : GroundLine (r .ground) l) where
   laid-job : Laid l r → sheetListing (sheetLaid l r) ≡ listing (jobOfSheet r)
   laid-job t = read-listed (sheetLaid l r) r (laid-read l r t)
 
-  pub laid-listed : ((n p : ℕ) → JobApplies r n p → ⊥)
+  pub laid-listed : ((n p : ℕ) → HeldApplies r n p → ⊥)
       → (g : Given) × (judgedJob (r .ground) (r .frame) (r .levels .weights) (r .levels .heights) (length (r .levels .weights)) ≡ accepted g)
       × (sheetListing (sheetLaid l r) ≡ listing (accepted (resultsOf g (r .levels .weights) (r .levels .heights))))
   laid-listed none =
-      let j = accepted-unless-refused (r .ground) (r .frame) (r .levels .weights) (r .levels .heights) (length (r .levels .weights)) none in (
+      let first = job-first (r .ground) (r .frame) (r .levels .weights) (r .levels .heights) (length (r .levels .weights)) in
+      let j = first .accepted-unless-refused none in (
         j .0,
         j .1,
         laid-job (allowed-laid l r (length (r .levels .weights)) (j .0) holds (j .1))

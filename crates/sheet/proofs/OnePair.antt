@@ -16,7 +16,7 @@ use Rattle.limits.specs.Applies.{OutOf}
 use Rattle.limits.specs.Judging.{judgedJob}
 use Rattle.limits.specs.Outcome.{Outcome, accepted, refused, _>>=_}
 use Rattle.limits.proofs.Foremost.{one-pair-lowest, na-lowest}
-use Rattle.limits.proofs.Passed.{one-value, bind-passed}
+use Rattle.limits.proofs.Passed.{one-value, bind-passed, only}
 use Rattle.job.specs.Job.{Results, resultsOf, jobOf}
 use Rattle.job.proofs.Stages.{job-accepted}
 use Rattle.text.specs.Reading.{starts}
@@ -24,7 +24,6 @@ use Rattle.text.specs.Writing.{Short, AllShort}
 use Rattle.text.proofs.OneWay.{laid-once}
 use Rattle.sheet.proofs.Demands.{SheetKept}
 use Rattle.sheet.proofs.Allowed.{judgedSheet, allowed-laid}
-use Rattle.sheet.proofs.Foremost.{judged}
 use Rattle.sheet.proofs.LaidRead.{sheet-lines, sheet-worded, laid-read}
 use Rattle.sheet.proofs.Listable.{read-listed}
 use Rattle.sheet.proofs.Lines.{read-on, read-lines-laid}
@@ -39,6 +38,12 @@ use Rattle.sheet.specs.Listing.{listing, jobOfSheet, outcomeOf, sheetLis
 use Rattle.sheet.specs.Otherwise.{here}
 use Rattle.sheet.specs.Reading.{sheetLines, readSheet}
 use Rattle.sheet.specs.Sheet.{onePairLayout, sheetForm, siteValues, pairTwice, groundOf, Sheet, sheetOf}
+
+-- what the job of a sheet is refused for, its judgments refuse
+judged : (r : Sheet) (n p : ℕ) → jobOfSheet r ≡ refused n p
+    → judgedJob (r .ground) (r .frame) (r .levels .weights) (r .levels .heights) (length (r .levels .weights)) ≡ refused n p
+unfolding jobOf
+judged r n p e = only (judgedJob _ _ _ _ _) (λ g. resultsOf g (r .levels .weights) (r .levels .heights)) e
 
 -- ---- a sheet whose numbers a job accepts is no longer than a sheet may be
 allowed-short : (s : List ℕ) (r : Sheet) (g : Given) → sheetLines s ≡ accepted r

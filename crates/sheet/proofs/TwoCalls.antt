@@ -7,11 +7,11 @@ use Prim.Native.Nat.{ℕ, _≤_}
 use native.Mathlib.Omega.{arith}
 use lib.ListN.{length}
 use Rattle.limits.specs.Outcome.{Outcome, accepted, refused, _>>=_}
-use Rattle.limits.proofs.Places.{at-most-18}
+use Rattle.limits.proofs.Numbers.{numbered-levels, at-most-18}
 use Rattle.job.specs.InTurn.{inTurn}
 use Rattle.job.specs.Job.{Results}
 use Rattle.job.proofs.InTurn.{job-in-turn}
-use Rattle.sheet.proofs.Foremost.{refused-applies}
+use Rattle.sheet.proofs.Foremost.{sheet-first}
 use Rattle.sheet.specs.Applies.{SheetApplies, long, line, of-job}
 use Rattle.sheet.specs.Listing.{jobOfSheet, outcomeOf}
 use Rattle.sheet.specs.Reading.{readSheet}
@@ -32,7 +32,7 @@ sheet-in-turn s = go (readSheet s)
 of-sheets : (s : List ℕ) (n p : ℕ) → SheetApplies s n p → n ≤ 18
 of-sheets s n p (long h) = omega arith
 of-sheets s n p (line f) = omega arith
-of-sheets s n p (of-job ls t is a) = at-most-18 _ _ _ _ _ n p a
+of-sheets s n p (of-job ls t is a) = at-most-18 _ (λ n p. numbered-levels) _ _ a .1
 
 pub never-19-nor-20 : (s : List ℕ) (n p : ℕ) → outcomeOf s ≡ refused n p → n ≤ 18
-never-19-nor-20 s n p e = of-sheets s n p (refused-applies s n p e)
+never-19-nor-20 s n p e = of-sheets s n p (sheet-first s .refused-applies n p e)

@@ -1,7 +1,7 @@
--- The refusal that is given is the first that applies, in the order in which they are judged (`order`), and so 'the lowest number that
--- applies .., at its lowest place, but 14 at a layer of thickness 0 if there is one'. Accepted data is data to which none applies.
+-- A log is given the first refusal that applies, in the order in which they are judged (`order`), and so 'the lowest number that applies .., at its
+-- lowest place, but 14 at a layer of thickness 0 if there is one'.
 -- Assumes nothing.
-use mathlib.Core.Path.{_≡_, refl, subst}
+use mathlib.Core.Path.{_≡_, refl, sym, subst}
 use mathlib.Core.Bool.{not}
 use mathlib.Core.List.{List, [], _∷_}
 use mathlib.Core.Logic.{inl, inr, ⊎-elim}
@@ -12,22 +12,26 @@ use lib.ListN.{length, getD}
 use borrow.Author.Tests.{eqb-true, ne-eqb, eq-eqb}
 use Rattle.whole.specs.Cells.{sum}
 use Rattle.whole.proofs.Choice.{by-test}
-use Rattle.limits.specs.declared.class.Class.{Class}
+use Rattle.limits.specs.declared.class.ClassAnswer.{ClassAnswer}
+use Rattle.limits.specs.FirstRefusal.{FirstRefusal}
 use Rattle.limits.specs.Lengths.{sameLength}
-use Rattle.limits.specs.Order.{InOrder, Before, NoLater}
+use Rattle.limits.specs.Order.{InOrder, Before}
 use Rattle.limits.specs.Outcome.{accepted, refused, require, _>>=_, _>>_}
 use Rattle.limits.specs.Ranges.{within}
+use Rattle.limits.specs.Site.{classOutcome}
 use Rattle.soil.specs.declared.class.ClassLimits.{ClassLimits}
 use Rattle.soil.specs.Applies.{Allowed, measured, cohesive, cohesionless, softClay, Applies, lists, layers, thickness, depth, layer}
-use Rattle.soil.specs.Log.{counted, thick, deep, judgedLog, siteClass}
+use Rattle.soil.specs.Class.{table3}
+use Rattle.soil.specs.Log.{counted, thick, deep, judgedLog, siteClass, Answers}
 use Rattle.soil.specs.Times.{judgedTimes, times}
 use Rattle.soil.specs.Velocity.{measured as measuredAt, byRule, velocity, velocities}
 use Rattle.limits.proofs.Passed.{require-passed}
-use Rattle.soil.proofs.Refusing.{refused-applies}
+use Rattle.soil.proofs.Refusing.{class-told}
 use Rattle.soil.proofs.Sound.{log-sound}
 use Rattle.limits.proofs.Ascending.{lowest-first}
+use Rattle.limits.proofs.First.{first-refusal}
 use Rattle.limits.proofs.InOrder.{in-order}
-use Rattle.limits.proofs.Precedence.{Ahead, Stops, Yields, stopped-number, stopped-place, first-stops, later-stops, bound-stops, value-stops, both-yield, require-yields, require-stops, within-yields, within-stops}
+use Rattle.limits.proofs.Precedence.{Ahead, Stops, Yields, first-stops, later-stops, bound-stops, value-stops, both-yield, require-yields, require-stops, within-yields, within-stops}
 
 -- ---- layers, one by one
 module _ (n q : ℕ) where
@@ -145,24 +149,21 @@ numbered (thickness i h z) = omega arith
 numbered (depth o) = omega arith
 numbered (layer i h w) = omega arith
 
-module _ (l : ClassLimits) (ds ks xs : List ℕ) where
-  -- every number that applies stands in the order
-  pub applies-in-order : (n p : ℕ) → Applies ds ks xs n p → InOrder n
-  applies-in-order n p a = in-order n (let h = numbered a in omega arith)
+-- every number that applies stands in the order
+pub applies-in-order : (ds ks xs : List ℕ) (n p : ℕ) → Applies ds ks xs n p → InOrder n
+applies-in-order ds ks xs n p a = in-order n (let h = numbered a in omega arith)
 
-  -- the first number that applies is given
-  pub first-number : (n p m q : ℕ) → siteClass l ds ks xs ≡ refused n p → Applies ds ks xs m q → NoLater n m
-  first-number n p m q e a = stopped-number m q n p (subst (Stops m q) e (stops ds ks xs l m q a))
+-- ---- of a log, by any class limits
+pub class-first : (l : ClassLimits) (ds ks xs : List ℕ) → FirstRefusal (Applies ds ks xs) (siteClass l ds ks xs)
+class-first l ds ks xs = first-refusal (Applies ds ks xs) (siteClass l ds ks xs) (stops ds ks xs l) (class-told ds ks xs l)
 
-  -- which is the lowest
-  pub lowest-number : (n p m q : ℕ) → siteClass l ds ks xs ≡ refused n p → Applies ds ks xs m q → n ≤ m
-  lowest-number n p m q e a =
-      lowest-first n m (numbered (refused-applies l ds ks xs n p e)) (numbered a) (first-number n p m q e a)
+-- ---- of an answer of `site_class`
+pub log-first : (ds ks xs : List ℕ) (a : ClassAnswer) → Answers ds ks xs a → FirstRefusal (Applies ds ks xs) (classOutcome a)
+log-first ds ks xs a e = subst (FirstRefusal (Applies ds ks xs)) (sym e) (class-first table3 ds ks xs)
 
-  -- at its lowest place: where it applies at a layer, it is given at a layer, and at no higher one
-  pub lowest-layer : (n p i : ℕ) → siteClass l ds ks xs ≡ refused n p → Applies ds ks xs n (1 + i) → (1 ≤ p) × (p ≤ 1 + i)
-  lowest-layer n p i e a = stopped-place n i p (subst (Stops n (1 + i)) e (stops ds ks xs l n (1 + i) a))
-
-  -- nothing is accepted to which a refusal applies
-  pub accepted-none : (c : Class) (n p : ℕ) → siteClass l ds ks xs ≡ accepted c → Applies ds ks xs n p → ⊥
-  accepted-none c n p e a = subst (Stops n p) e (stops ds ks xs l n p a)
+-- the first number is the lowest
+pub lowest-number : (ds ks xs : List ℕ) (a : ClassAnswer) (n p m q : ℕ) → Answers ds ks xs a → classOutcome a ≡ refused n p
+    → Applies ds ks xs m q → n ≤ m
+lowest-number ds ks xs a n p m q answers e w =
+    let h = log-first ds ks xs a answers in
+    lowest-first n m (numbered (h .refused-applies n p e)) (numbered w) (h .first-number n p m q e w)

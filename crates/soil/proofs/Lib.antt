@@ -14,4 +14,3 @@ pub mod Examples
 pub mod Unique
 pub mod Refusing
 pub mod Foremost
-pub mod Answered

@@ -1,4 +1,4 @@
--- A refusal that is given to a log does apply, and a log to which none applies is accepted.
+-- A refusal that is given to a log does apply.
 -- Assumes nothing.
 use mathlib.Core.Path.{_≡_, subst}
 use mathlib.Core.Bool.{true, not}
@@ -11,16 +11,15 @@ use lib.Dec.{eqb}
 use lib.ListN.{length, getD}
 use borrow.Author.Tests.{eqb-true, eqb-false, not-false}
 use Rattle.whole.proofs.Choice.{by-test}
-use Rattle.limits.specs.declared.class.Class.{Class}
 use Rattle.limits.specs.Lengths.{sameLength}
-use Rattle.limits.specs.Outcome.{accepted, refused, require, _>>=_, _>>_}
+use Rattle.limits.specs.Outcome.{accepted, require, _>>=_, _>>_}
 use Rattle.limits.specs.Ranges.{within}
 use Rattle.soil.specs.declared.class.ClassLimits.{ClassLimits}
 use Rattle.soil.specs.Applies.{Allowed, measured, cohesive, cohesionless, softClay, Applies, lists, layers, thickness, depth, layer}
 use Rattle.soil.specs.Log.{counted, thick, deep, judgedLog, siteClass}
 use Rattle.soil.specs.Times.{judgedTimes, times}
 use Rattle.soil.specs.Velocity.{measured as measuredAt, byRule, velocity, velocities}
-use Rattle.limits.proofs.GivenApplies.{Told, then-told, bind-told, require-told, within-told, given-applies, accepted-unless}
+use Rattle.limits.proofs.Told.{Told, then-told, bind-told, require-told, within-told}
 use Rattle.soil.proofs.Sound.{log-sound}
 
 -- a kind and value that miss each range of their kind are not allowed
@@ -96,7 +95,7 @@ module _ (ds ks xs : List ℕ) where
       (λ _. then-told A (thick 1 ds) _ (thick-told 1 ds thickness)
       (λ _. require-told A _ 14 0 (λ e. depth (eqb-false _ _ e))))))
 
-  class-told : (l : ClassLimits) → Told A (siteClass l ds ks xs)
+  pub class-told : (l : ClassLimits) → Told A (siteClass l ds ks xs)
   unfolding siteClass judgedTimes
   class-told l =
       then-told A (judgedLog ds (length ks) (length xs)) _ log-told
@@ -104,12 +103,3 @@ module _ (ds ks xs : List ℕ) where
       bind-told A (velocities 1 ks xs >>= λ vs. accepted (times ds vs)) _
       (bind-told A (velocities 1 ks xs) _ (velocities-told 1 ks xs (λ j h. layer j (omega arith))) (λ vs. tt))
       (λ t. tt))
-
--- a refusal that is given applies
-pub refused-applies : (l : ClassLimits) (ds ks xs : List ℕ) (n p : ℕ) → siteClass l ds ks xs ≡ refused n p → Applies ds ks xs n p
-refused-applies l ds ks xs = given-applies (Applies ds ks xs) (siteClass l ds ks xs) (class-told ds ks xs l)
-
--- data to which no refusal applies is accepted
-pub accepted-unless-refused : (l : ClassLimits) (ds ks xs : List ℕ) → ((n p : ℕ) → Applies ds ks xs n p → ⊥)
-    → (c : Class) × (siteClass l ds ks xs ≡ accepted c)
-accepted-unless-refused l ds ks xs = accepted-unless (Applies ds ks xs) (siteClass l ds ks xs) (class-told ds ks xs l)

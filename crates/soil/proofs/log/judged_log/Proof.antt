@@ -33,7 +33,7 @@ enum-told-4 c = search needs
 returns-2 : tie.Need-returns-2
 unfolding judgedLog
 returns-2 c =
-    simp (says verdictOutcome (c .before .before .before .before .before .same-length .ensures) (c .before .before .before .enum-told .given .1), says verdictOutcome (c .before .before .paired2 .ensures) (c .enum-told4 .given .1)) (ap verdictOutcome (c .enum-told4 .given .1))
+    simp (says verdictOutcome (c .before .before .before .before .before .same-length .ensures) (c .before .before .before .enum-told .given .1), says verdictOutcome (c .before .before .same-length2 .ensures) (c .enum-told4 .given .1)) (ap verdictOutcome (c .enum-told4 .given .1))
 
 counted-requires : tie.Need-counted-requires
 counted-requires c κs = search needs
@@ -47,7 +47,7 @@ enum-told-6 c = search needs
 returns-3 : tie.Need-returns-3
 unfolding judgedLog
 returns-3 c =
-    simp (says verdictOutcome (c .before .before .before .before .before .before .before .before .same-length .ensures) (c .before .before .before .before .before .before .enum-told .given .1), says verdictOutcome (c .before .before .before .before .before .paired2 .ensures) (c .before .before .before .enum-told3 .given .1), says verdictOutcome (c .before .before .counted .ensures) (c .enum-told6 .given .1)) (ap verdictOutcome (c .enum-told6 .given .1))
+    simp (says verdictOutcome (c .before .before .before .before .before .before .before .before .same-length .ensures) (c .before .before .before .before .before .before .enum-told .given .1), says verdictOutcome (c .before .before .before .before .before .same-length2 .ensures) (c .before .before .before .enum-told3 .given .1), says verdictOutcome (c .before .before .counted .ensures) (c .enum-told6 .given .1)) (ap verdictOutcome (c .enum-told6 .given .1))
 
 thick-requires : tie.Need-thick-requires
 thick-requires c κs = search needs
@@ -61,7 +61,7 @@ enum-told-8 c = search needs
 returns-4 : tie.Need-returns-4
 unfolding judgedLog
 returns-4 c =
-    simp (says verdictOutcome (c .before .before .before .before .before .before .before .before .before .before .before .same-length .ensures) (c .before .before .before .before .before .before .before .before .before .enum-told .given .1), says verdictOutcome (c .before .before .before .before .before .before .before .before .paired2 .ensures) (c .before .before .before .before .before .before .enum-told3 .given .1), says verdictOutcome (c .before .before .before .before .before .counted .ensures) (c .before .before .before .enum-told5 .given .1), says verdictOutcome (c .before .before .thick .ensures) (c .enum-told8 .given .1)) (ap verdictOutcome (c .enum-told8 .given .1))
+    simp (says verdictOutcome (c .before .before .before .before .before .before .before .before .before .before .before .same-length .ensures) (c .before .before .before .before .before .before .before .before .before .enum-told .given .1), says verdictOutcome (c .before .before .before .before .before .before .before .before .same-length2 .ensures) (c .before .before .before .before .before .before .enum-told3 .given .1), says verdictOutcome (c .before .before .before .before .before .counted .ensures) (c .before .before .before .enum-told5 .given .1), says verdictOutcome (c .before .before .thick .ensures) (c .enum-told8 .given .1)) (ap verdictOutcome (c .enum-told8 .given .1))
 
 deep-requires : tie.Need-deep-requires
 deep-requires c κs = search needs
@@ -69,7 +69,7 @@ deep-requires c κs = search needs
 returns-5 : tie.Need-returns-5
 unfolding judgedLog
 returns-5 c =
-    simp (says verdictOutcome (c .before .before .before .before .before .before .before .before .before .before .before .before .same-length .ensures) (c .before .before .before .before .before .before .before .before .before .before .enum-told .given .1), says verdictOutcome (c .before .before .before .before .before .before .before .before .before .paired2 .ensures) (c .before .before .before .before .before .before .before .enum-told3 .given .1), says verdictOutcome (c .before .before .before .before .before .before .counted .ensures) (c .before .before .before .before .enum-told5 .given .1), says verdictOutcome (c .before .before .before .thick .ensures) (c .before .enum-told7 .given .1)) (c .deep .ensures)
+    simp (says verdictOutcome (c .before .before .before .before .before .before .before .before .before .before .before .before .same-length .ensures) (c .before .before .before .before .before .before .before .before .before .before .enum-told .given .1), says verdictOutcome (c .before .before .before .before .before .before .before .before .before .same-length2 .ensures) (c .before .before .before .before .before .before .before .enum-told3 .given .1), says verdictOutcome (c .before .before .before .before .before .before .counted .ensures) (c .before .before .before .before .enum-told5 .given .1), says verdictOutcome (c .before .before .before .thick .ensures) (c .before .enum-told7 .given .1)) (c .deep .ensures)
 
 pub judged-log-spec : {M : Type 1} → statement M
 judged-log-spec =
