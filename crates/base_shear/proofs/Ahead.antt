@@ -27,8 +27,8 @@ use Rattle.response.proofs.Most.{spectrum-positive}
 use Rattle.response.proofs.Reached.{roots-ordered}
 use Rattle.response.proofs.Spectra.{left-positive}
 use Rattle.base_shear.specs.Ready.{Ready}
-use Rattle.base_shear.specs.Shears.{ratioAt}
-use Rattle.base_shear.proofs.Stages.{spectrumAt, lowerAt, upperAt, lower-some}
+use Rattle.base_shear.specs.Shears.{ratioAt, spectrumAt, lowerAt, upperAt}
+use Rattle.base_shear.proofs.LowerSome.{lower-some}
 
 pub record Ahead (s : ℕ) (k : Hazards) (T : ℕ) : Type 0 where
   pub soon : k .divisor * (1000 * spectrumAt s (k .star) T) ≤ k .stardivisor * (k .lines .first * s)

@@ -6,7 +6,7 @@ use native.Mathlib.Nat.{le-trans, mul-le-mul, mul-le-mul-right, mul-pos, le-max-
 use native.Mathlib.Omega.{arith}
 use Rattle.whole.proofs.Rounding.{up-most}
 use Rattle.limits.specs.Allowed.{AllowedFrame}
-use Rattle.limits.specs.Levels.{totalMost}
+use Rattle.limits.specs.Building.{totalMost}
 use Rattle.limits.specs.declared.frame.Frame.{Frame}
 use Rattle.site.specs.declared.hazard.Hazard.{Hazard}
 use Rattle.site.specs.declared.hazard.Hazards.{Hazards}
@@ -18,7 +18,7 @@ use Rattle.response.proofs.Least.{up-some, spectrum-some, ratio-some, modified-
 use Rattle.response.proofs.Most.{spectrum-below, spectrum-most, ratio-most, modified-rises, blended-within}
 use Rattle.base_shear.specs.Ready.{Ready, Shearing, Within, Bounded, Reached}
 use Rattle.base_shear.specs.Shears.{newtons, ratioAt, shear, star, base}
-use Rattle.base_shear.proofs.Stages.{lower-least, lower-some}
+use Rattle.base_shear.proofs.LowerSome.{lower-least, lower-some}
 
 -- ---- the ratio of a hazard within reach
 module _ (s : ℕ) (h : Hazard) (t : ℕ) (u : FineUnit s) (r : Ready s h t) where

@@ -1,7 +1,14 @@
 pub mod Literal
-pub mod Stages
+pub mod LowerSome
 pub mod Bounds
 pub mod Share
 pub mod Moves
 pub mod Ahead
 pub mod NeverRises
+pub mod Ductilities
+pub mod HazardsReached
+pub mod SiteReached
+pub mod BasinReached
+pub mod GroundReached
+pub mod GroundDuctile
+pub mod GroundAhead

@@ -19,7 +19,7 @@ use Rattle.response.proofs.Most.{modified-rises}
 use Rattle.base_shear.specs.Moves.{NoLighter, MoreDuctile, MoreDuctileAll}
 use Rattle.base_shear.specs.Ready.{Ready, Shearing}
 use Rattle.base_shear.specs.Shears.{newtons, ratioAt, modifiedAt, blendedAt, shear, star, base}
-use Rattle.base_shear.proofs.Stages.{lower-some}
+use Rattle.base_shear.proofs.LowerSome.{lower-some}
 
 -- what stays as it is
 pub no-lighter-itself : (f : Frame) (W : ℕ) → NoLighter f W f W

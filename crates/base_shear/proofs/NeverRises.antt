@@ -20,10 +20,9 @@ use Rattle.response.proofs.Ductility.{blended-full}
 use Rattle.response.proofs.Most.{blended-within}
 use Rattle.base_shear.specs.Moves.{MoreDuctileAll}
 use Rattle.base_shear.specs.Ready.{Shearing}
-use Rattle.base_shear.specs.Shears.{newtons, ratioAt, shear, star, base}
+use Rattle.base_shear.specs.Shears.{newtons, ratioAt, shear, star, base, spectrumAt, upperAt}
 use Rattle.base_shear.proofs.Ahead.{Ahead}
 use Rattle.base_shear.proofs.Moves.{no-lighter-itself, newtons-rise, shear-never-higher, star-never-falls}
-use Rattle.base_shear.proofs.Stages.{spectrumAt, upperAt}
 
 -- ---- newtons of x over d tenths and of m over n tenths
 newtons-across : (s n d : ℕ) (f : Frame) (W x m : ℕ) → 0 < s → 0 < n → 0 < d → 0 < f .alpha → n * x ≤ d * m

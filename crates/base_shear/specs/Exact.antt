@@ -1,5 +1,5 @@
 -- The shears of the exact figure of demand 3: the same chain with no rounding after T, in N, the root being any fraction.
---   exactNewtons n f W x       I·x·W/(n/10·alpha-y), of a fraction x; n is 14 for V and V_M, 42 for V*
+--   exactNewtons n f W x       I·x·W/(n/10·alpha-y), of a fraction x; n is 14 for V and V_M, 42 for V*, 35 for V* in the Taipei Basin
 --   exactShear k h f W T r     V and V_M
 --   exactStar k f W T r        V*
 --   Roots                      the fractions taken for the roots in V, V_M and V*

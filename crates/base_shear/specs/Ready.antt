@@ -7,7 +7,7 @@
 --                     a base shear that the storeys take
 use mathlib.Core.Path.{_≡_}
 use Prim.Native.Nat.{ℕ, _*_, _/_, _≤_, _<_}
-use Rattle.limits.specs.Levels.{totalMost}
+use Rattle.limits.specs.Building.{totalMost}
 use Rattle.site.specs.declared.hazard.Hazard.{Hazard}
 use Rattle.site.specs.declared.hazard.Hazards.{Hazards}
 use Rattle.response.specs.Period.{periodMost}

@@ -10,7 +10,7 @@ use site::hazard::Hazards;
 ghost use mathlib.Core.Path.{_≡_};
 ghost use Prim.Native.Nat.{_≤_, max};
 ghost use Rattle.limits.specs.Allowed.{AllowedFrame};
-ghost use Rattle.limits.specs.Levels.{totalMost};
+ghost use Rattle.limits.specs.Building.{totalMost};
 ghost use Rattle.base_shear.specs.Ready.{Reached, Shearing};
 ghost use Rattle.base_shear.specs.Shears.{baseFigures, figuresAt};
 

@@ -12,7 +12,7 @@ use whole::quotients::up;
 ghost use mathlib.Core.Path.{_≡_};
 ghost use Prim.Native.Nat.{_*_, _/_, _≤_, _<_};
 ghost use Rattle.limits.specs.Allowed.{AllowedFrame};
-ghost use Rattle.limits.specs.Levels.{totalMost};
+ghost use Rattle.limits.specs.Building.{totalMost};
 ghost use Rattle.response.specs.Reach.{FineUnit, Thousandths};
 ghost use Rattle.response.specs.Ratio.{blended, modified};
 ghost use Rattle.base_shear.specs.Ready.{Ready};

@@ -14,16 +14,16 @@ use Rattle.limits.proofs.Reading.{success, refusal}
 use Rattle.base_shear.specs.declared.Figures.{Figures}
 use Rattle.job.specs.declared.FiguresAnswer.the-variants.{Taken, Refused}
 use Rattle.job.specs.Distribution.{Buffers, shortest}
-use Rattle.job.specs.Job.{Results, givenFigures, resultsAt, figuresOnly, written, Answers}
+use Rattle.job.specs.Job.{Results, jobFigures, resultsAt, figuresOnly, written, Answers}
 use Rattle.job.specs.ShearCall.{five, answerOutcome}
 use Rattle.job.proofs.Stages.{job-refused, job-accepted}
 
 module _ (G : GroundValues) (f : FrameValues) (ws hs : List ℕ) (b : Buffers) where
-  -- of a taken answer: the judgments accept, n is what `givenFigures` gives, and each level's cells are written
+  -- of a taken answer: the judgments accept, n is what `jobFigures` gives, and each level's cells are written
   pub record Accepted (n : Figures) (b′ : Buffers) : Type 0 where
     pub given : Given
     pub judged : judgedJob G f ws hs (shortest b) ≡ accepted given
-    pub figures : n ≡ givenFigures given ws hs
+    pub figures : n ≡ jobFigures given ws hs
     pub cells : b′ ≡ written (accepted (resultsAt n ws hs)) b
 
   module _ (n : Figures) (b′ : Buffers) (a : Answers G f ws hs b (Taken n) b′) where

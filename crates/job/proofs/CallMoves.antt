@@ -10,7 +10,7 @@ use Rattle.limits.specs.declared.frame.FrameValues.{FrameValues}
 use Rattle.limits.specs.declared.ground.GroundValues.{GroundValues}
 use Rattle.limits.specs.declared.judging.Given.{Given}
 use Rattle.limits.specs.Allowed.{AllowedShearCall}
-use Rattle.limits.specs.Frame.{judgedKind}
+use Rattle.limits.specs.Kind.{judgedKind}
 use Rattle.limits.proofs.AcceptedCalls.{shear-call-allowed}
 use Rattle.limits.proofs.GivenIs.{GivenIs, given-is}
 use Rattle.limits.proofs.Passed.{one-value}
@@ -26,7 +26,7 @@ use Rattle.job.specs.Moves.{NoneLower, AsRGrows}
 use Rattle.job.specs.ShearCall.{givenHazards, buildingFigures, Sheared}
 use Rattle.job.proofs.FiguresMove.{figures-never-lower, figures-as-r-grows}
 use Rattle.job.proofs.GivenReached.{given-reached, given-between}
-use Rattle.job.proofs.GroundAhead.{ground-ahead}
+use Rattle.base_shear.proofs.GroundAhead.{ground-ahead}
 use Rattle.job.proofs.Sheared.{taken-accepted}
 
 -- ---- an answered call: what was given, and its figures at its own T

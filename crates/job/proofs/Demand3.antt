@@ -23,7 +23,7 @@ use Rattle.margin.proofs.Demand3.{of-cells}
 use Rattle.margin.proofs.Reached.{demand3-reached}
 use Rattle.job.specs.declared.FiguresAnswer.the-variants.{Taken}
 use Rattle.job.specs.Distribution.{Buffers, shortest}
-use Rattle.job.specs.Job.{givenFigures, Answers}
+use Rattle.job.specs.Job.{jobFigures, Answers}
 use Rattle.job.specs.ShearCall.{givenHazards}
 use Rattle.job.proofs.Answered.{taken-accepted}
 use Rattle.job.proofs.Storeys.{shear-cell}
@@ -31,7 +31,7 @@ use Rattle.job.proofs.GivenReached.{standing, given-reached, given-betw
 
 pub demand3-accepted : (G : GroundValues) (f : FrameValues) (ws hs : List ℕ) (room : ℕ) (g : Given)
     → judgedJob G f ws hs room ≡ accepted g
-    → let n = givenFigures g ws hs in
+    → let n = jobFigures g ws hs in
     Demand3 unit (givenHazards g) (g .frame) ws hs (n .t) (n .vd) (shearUnder (n .t) (n .vd) ws hs)
 unfolding figuresAt
 demand3-accepted G f ws hs room g e =

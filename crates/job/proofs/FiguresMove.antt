@@ -16,7 +16,7 @@ use Rattle.base_shear.proofs.Ahead.{Ahead}
 use Rattle.base_shear.proofs.Moves.{shear-never-lower, star-never-lower, base-never-lower, shear-never-higher, star-never-falls}
 use Rattle.base_shear.proofs.NeverRises.{risen-below-v, base-never-rises, base-stays}
 use Rattle.job.specs.Moves.{NoneLower, AsRGrows}
-use Rattle.job.proofs.GroundDuctile.{ground-more-ductile}
+use Rattle.base_shear.proofs.GroundDuctile.{ground-more-ductile}
 
 pub figures-never-lower : (k : Hazards) (T : ℕ) → Reached k → (f f′ : Frame) (W W′ : ℕ) → 0 < f′ .alpha → NoLighter f W f′ W′
     → NoneLower (figuresAt unit k f W T) (figuresAt unit k f′ W′ T)

@@ -17,7 +17,7 @@ use Rattle.base_shear.proofs.Bounds.{base-most, base-least}
 use Rattle.storeys.specs.Reach.{Load, Standing}
 use Rattle.storeys.proofs.Chain.{load-of, standing-of}
 use Rattle.job.specs.ShearCall.{givenHazards, buildingFigures}
-use Rattle.job.proofs.GroundReached.{ground-bounded, ground-reached}
+use Rattle.base_shear.proofs.GroundReached.{ground-bounded, ground-reached}
 
 pub standing : (ws hs : List ℕ) → AllowedLevels ws hs → Standing ws hs
 standing ws hs l =

@@ -1,10 +1,3 @@
-pub mod Ductilities
-pub mod HazardsReached
-pub mod SiteReached
-pub mod BasinReached
-pub mod GroundReached
-pub mod GroundDuctile
-pub mod GroundAhead
 pub mod FiguresMove
 pub mod GivenReached
 pub mod Stages

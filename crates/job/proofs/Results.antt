@@ -18,21 +18,21 @@ use Rattle.storeys.proofs.Roof.{roof-at-most-one}
 use Rattle.storeys.proofs.Telescope.{forces-sum}
 use Rattle.margin.specs.Demand3.{Demand3}
 use Rattle.margin.proofs.Demand3.{of-cells}
-use Rattle.job.specs.Job.{givenFigures, resultsOf}
+use Rattle.job.specs.Job.{jobFigures, resultsOf}
 use Rattle.job.specs.ShearCall.{givenHazards}
 use Rattle.job.proofs.Demand3.{demand3-accepted}
 use Rattle.job.proofs.GivenReached.{standing}
 
 -- of figures and storeys of a judged ground and frame
 pub record Promised (g : Given) (ws hs : List ℕ) : Type 0 where
-  pub adds-up : sum (resultsOf g ws hs .forces) ≡ givenFigures g ws hs .vd
-  pub kept : let n = givenFigures g ws hs in
+  pub adds-up : sum (resultsOf g ws hs .forces) ≡ jobFigures g ws hs .vd
+  pub kept : let n = jobFigures g ws hs in
       Demand3 unit (givenHazards g) (g .frame) ws hs (n .t) (n .vd) (λ x. getD (resultsOf g ws hs .shears) x 0)
 
 pub promised : (G : GroundValues) (f : FrameValues) (ws hs : List ℕ) (room : ℕ) (g : Given) → judgedJob G f ws hs room ≡ accepted g
     → Promised g ws hs
 promised G f ws hs room g e =
-    let n = givenFigures g ws hs in
+    let n = jobFigures g ws hs in
     let a = given-allowed G f ws hs room g e .0 in
     let l = standing ws hs (a .levels) in
     record {

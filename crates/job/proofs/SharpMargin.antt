@@ -15,11 +15,13 @@ use Rattle.whole.specs.Root.{lowerRoot, upperRoot}
 use Rattle.whole.specs.Rounding.{up, down}
 use Rattle.whole.specs.Search.{bitsFrom, largest, smallest}
 use Rattle.whole.specs.Signed.{floor, ceiling}
-use Rattle.limits.specs.Frame.{judgedKind, judgedPeriod, judgedFrame}
+use Rattle.limits.specs.Kind.{judgedKind}
+use Rattle.limits.specs.Frame.{judgedPeriod, judgedFrame}
 use Rattle.limits.specs.Judging.{judgedJob}
 use Rattle.limits.specs.Levels.{weighed, raised, judgedLevels}
 use Rattle.limits.specs.Ranges.{inRange, within, among, listed}
-use Rattle.limits.specs.Site.{judgedClass, judgedMapped, judgedNearFault, judgedSite}
+use Rattle.limits.specs.Class.{judgedClass}
+use Rattle.limits.specs.Site.{judgedMapped, judgedNearFault, judgedSite}
 use Rattle.limits.specs.declared.kind.Kind.the-variants.{Steel, Concrete}
 use Rattle.limits.specs.declared.class.Class.the-variants.{Hard, Normal, Soft}
 use Rattle.response.specs.Factor.{factor, lowerFactor, upperFactor}
@@ -30,7 +32,7 @@ use Rattle.response.specs.Unit.{unit}
 use Rattle.base_shear.specs.Exact.{Roots}
 use Rattle.base_shear.specs.Shears.{newtons, shear, star, base}
 use Rattle.storeys.specs.Storeys.{weightHeight}
-use Rattle.margin.specs.Demand3.{LessBy, allowed, allowedUnder}
+use Rattle.margin.specs.Demand3.{LessBy, baseMargin, storeyMargin}
 use Rattle.margin.specs.Roots.{High, Low, Raising}
 use Rattle.job.proofs.JobNumbers.{Job, siteLine, frameLine, jobOn, IsAccepted, hazards, printed, printedUnder, exact, exactUnder, margin}
 
@@ -68,7 +70,7 @@ heavy-raising =
 
 -- printed 1,106,398,072 N, exact at these fractions 1,106,397,629.06 N; a ten-millionth is 107.14 N
 pub over-four-units : AtMost (plus (exact heavy heavyRoots) (margin 4 heavy)) (over (printed heavy) 1)
-    × LessBy (printed heavy) (exact heavy heavyRoots) (allowed unit (hazards heavy) (heavy .given .frame) (sum (heavy .weights)))
+    × LessBy (printed heavy) (exact heavy heavyRoots) (baseMargin unit (hazards heavy) (heavy .given .frame) (sum (heavy .weights)))
 unfolding cells sum between up down largest smallest bitsFrom lowerRoot upperRoot floor ceiling approximate inUse spectrum
     exactSpectrum factor lowerFactor upperFactor ratio modified blended bent newtons shear star base
 over-four-units = (lit≤ tt, lit< tt)
@@ -88,7 +90,7 @@ tall-raising =
 -- printed 321 N, exact 318.78 N; six ten-millionths are 0.004 N. The margin plus two newtons is six ten-millionths plus three newtons
 pub over-two-newtons :
     AtMost (plus (exactUnder tall tallRoots 1) (plus (margin 6 tall) (over 1 1))) (over (printedUnder tall 1) 1)
-    × LessBy (printedUnder tall 1) (exactUnder tall tallRoots 1) (allowedUnder unit (hazards tall) (tall .given .frame) (sum (tall .weights)))
+    × LessBy (printedUnder tall 1) (exactUnder tall tallRoots 1) (storeyMargin unit (hazards tall) (tall .given .frame) (sum (tall .weights)))
 unfolding sum between up down largest smallest bitsFrom lowerRoot upperRoot floor ceiling approximate inUse spectrum exactSpectrum
     factor lowerFactor upperFactor ratio modified blended bent newtons shear star base weightHeight
 over-two-newtons = (lit≤ tt, lit< tt)

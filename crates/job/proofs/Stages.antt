@@ -9,7 +9,7 @@ use Rattle.limits.specs.declared.frame.FrameValues.{FrameValues}
 use Rattle.limits.specs.declared.ground.GroundValues.{GroundValues}
 use Rattle.limits.specs.declared.judging.Given.{Given}
 use Rattle.limits.specs.declared.refusal.Refusal.{Refusal}
-use Rattle.limits.specs.Allowed.{AllowedGiven, AllowedShearCall}
+use Rattle.limits.specs.Allowed.{AllowedJob, AllowedShearCall}
 use Rattle.limits.specs.Judging.{judgedJob}
 use Rattle.limits.specs.Levels.{topHeight}
 use Rattle.limits.specs.Outcome.{Outcome, accepted, refused}
@@ -17,11 +17,11 @@ use Rattle.limits.proofs.AcceptedCalls.{given-building}
 use Rattle.base_shear.specs.declared.Figures.{Figures}
 use Rattle.job.specs.declared.FiguresAnswer.the-variants.{Taken, Refused}
 use Rattle.job.specs.Distribution.{Buffers, shortest}
-use Rattle.job.specs.Job.{Results, givenFigures, resultsAt, resultsOf, jobOf, figuresOnly, written, Answers}
+use Rattle.job.specs.Job.{Results, jobFigures, resultsAt, resultsOf, jobOf, figuresOnly, written, Answers}
 use Rattle.job.specs.ShearCall.{buildingFigures}
 
 -- the levels of an allowed job as a building, of a total weight and a top height that are theirs
-pub building-of : (g : Given) (ws hs : List ℕ) (W h : ℕ) → AllowedGiven g ws hs → W ≡ sum ws → h ≡ topHeight hs → AllowedShearCall g W h
+pub building-of : (g : Given) (ws hs : List ℕ) (W h : ℕ) → AllowedJob g ws hs → W ≡ sum ws → h ≡ topHeight hs → AllowedShearCall g W h
 building-of g ws hs W h a ew eh =
     let all = given-building g ws hs a in
     record {
@@ -31,7 +31,7 @@ building-of g ws hs W h a ew eh =
     }
 
 pub figures-of : (g : Given) (ws hs : List ℕ) (W h : ℕ) {n : Figures} → n ≡ buildingFigures g W h → W ≡ sum ws → h ≡ topHeight hs
-    → n ≡ givenFigures g ws hs
+    → n ≡ jobFigures g ws hs
 figures-of g ws hs W h e ew eh = e ∙ λ i. buildingFigures g (ew i) (eh i)
 
 module _ (G : GroundValues) (f : FrameValues) (ws hs : List ℕ) (room : ℕ) where
@@ -51,7 +51,7 @@ module _ (G : GroundValues) (f : FrameValues) (ws hs : List ℕ) (room : ℕ) wh
 
     -- what the storeys' code wrote, at the figures that it was handed
     pub accepted-answers : (g : Given) (n : Figures) {ps us os : List ℕ} → judgedJob G f ws hs room ≡ accepted g
-        → n ≡ givenFigures g ws hs
+        → n ≡ jobFigures g ws hs
         → us ≡ laid (resultsAt n ws hs .shears) (b .shears)
         → ps ≡ laid (resultsAt n ws hs .forces) (b .forces)
         → os ≡ laid (resultsAt n ws hs .overturnings) (b .overturnings)

@@ -10,7 +10,8 @@ use Rattle.whole.specs.Root.{lowerRoot, upperRoot}
 use Rattle.whole.specs.Rounding.{up, down}
 use Rattle.whole.specs.Search.{largest, smallest, bitsFrom}
 use Rattle.whole.specs.Signed.{floor, ceiling}
-use Rattle.limits.specs.Frame.{judgedKind, judgedPeriod, judgedFrame}
+use Rattle.limits.specs.Kind.{judgedKind}
+use Rattle.limits.specs.Frame.{judgedPeriod, judgedFrame}
 use Rattle.limits.specs.Judging.{judgedJob}
 use Rattle.limits.specs.Levels.{weighed, raised, judgedLevels}
 use Rattle.limits.specs.Outcome.{Outcome, accepted}

@@ -13,11 +13,13 @@ use Rattle.whole.specs.Fraction.{over, plus}
 use Rattle.whole.specs.Line.{between}
 use Rattle.whole.specs.Rounding.{down}
 use Rattle.whole.specs.Search.{bitsFrom, largest}
-use Rattle.limits.specs.Frame.{judgedKind, judgedPeriod, judgedFrame}
+use Rattle.limits.specs.Kind.{judgedKind}
+use Rattle.limits.specs.Frame.{judgedPeriod, judgedFrame}
 use Rattle.limits.specs.Judging.{judgedJob}
 use Rattle.limits.specs.Levels.{weighed, raised, judgedLevels}
 use Rattle.limits.specs.Ranges.{inRange, within, among, listed}
-use Rattle.limits.specs.Site.{judgedClass, judgedMapped, judgedNearFault, judgedSite}
+use Rattle.limits.specs.Class.{judgedClass}
+use Rattle.limits.specs.Site.{judgedMapped, judgedNearFault, judgedSite}
 use Rattle.limits.specs.declared.kind.Kind.the-variants.{Concrete}
 use Rattle.limits.specs.declared.class.Class.the-variants.{Hard}
 use Rattle.response.specs.Factor.{factor}

@@ -4,7 +4,7 @@
 --   columns r                  the columns of these
 --   results n c                five figures with three columns
 --   resultsAt n ws hs          those of five figures: the storeys at V_D and T
---   givenFigures g ws hs       the five figures of a judged ground and frame: W is the sum of the weights, h the last height
+--   jobFigures g ws hs       the five figures of a judged ground and frame: W is the sum of the weights, h the last height
 --   resultsOf g ws hs          the results of these
 --   jobOf G f ws hs room       the results, or the first refusal; room is the length of the shortest result buffer
 --   figuresOnly o, columnsOnly o    what is left of an outcome without the levels, and without the figures
@@ -43,11 +43,11 @@ results n c = record { figures = n; forces = c .forces; shears = c .shears; over
 abbrev pub resultsAt : Figures → List ℕ → List ℕ → Results
 resultsAt n ws hs = results n (columnsAt (n .t) (n .vd) ws hs)
 
-abbrev pub givenFigures : Given → List ℕ → List ℕ → Figures
-givenFigures g ws hs = buildingFigures g (sum ws) (topHeight hs)
+abbrev pub jobFigures : Given → List ℕ → List ℕ → Figures
+jobFigures g ws hs = buildingFigures g (sum ws) (topHeight hs)
 
 abbrev pub resultsOf : Given → List ℕ → List ℕ → Results
-resultsOf g ws hs = resultsAt (givenFigures g ws hs) ws hs
+resultsOf g ws hs = resultsAt (jobFigures g ws hs) ws hs
 
 unfoldable pub jobOf : GroundValues → FrameValues → List ℕ → List ℕ → ℕ → Outcome Results
 jobOf G f ws hs room = do

@@ -14,7 +14,8 @@ ghost use Rattle.whole.specs.Cells.{sum};
 ghost use Prim.Native.Nat.{_≤_, _<_};
 ghost use lib.ListN.{length};
 ghost use Rattle.limits.specs.Allowed.{AllowedShearCall};
-ghost use Rattle.limits.specs.Levels.{topHeight, totalMost};
+ghost use Rattle.limits.specs.Building.{totalMost};
+ghost use Rattle.limits.specs.Levels.{topHeight};
 ghost use Rattle.job.specs.Job.{Figured};
 ghost use Rattle.job.specs.ShearCall.{buildingFigures};
 

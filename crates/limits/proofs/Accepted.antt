@@ -20,7 +20,7 @@ use Rattle.limits.specs.declared.ground.GroundValues.the-variants.{Site 
 use Rattle.limits.specs.declared.judging.Given.{Given}
 use Rattle.limits.specs.declared.site.Site.{Site}
 use Rattle.limits.specs.declared.site.SiteValues.{SiteValues}
-use Rattle.limits.specs.Allowed.{AllowedSite, AllowedGround, AllowedFrame, AllowedLevels, AllowedGiven}
+use Rattle.limits.specs.Allowed.{AllowedSite, AllowedGround, AllowedFrame, AllowedLevels, AllowedJob}
 use Rattle.limits.specs.Frame.{judgedPeriod, judgedFrame}
 use Rattle.limits.specs.Ground.{judgedGround}
 use Rattle.limits.specs.Judging.{judgedGiven, judgedJob}
@@ -30,7 +30,8 @@ use Rattle.limits.specs.Outcome.{Outcome, accepted, Done}
 use Rattle.limits.specs.Ranges.{among, within, listed}
 use Rattle.limits.proofs.FramePassed.{frame-passed}
 use Rattle.limits.proofs.Passed.{differ, one-value, then-passed, bind-passed, require-passed, within-passed}
-use Rattle.limits.specs.Site.{judgedClass, siteOf, judgedMapped, judgedNearFault, judgedSite}
+use Rattle.limits.specs.Class.{judgedClass}
+use Rattle.limits.specs.Site.{siteOf, judgedMapped, judgedNearFault, judgedSite}
 use Rattle.limits.specs.Zone.{judgedZone}
 
 -- ---- ranges
@@ -185,7 +186,7 @@ given-parts o G f g e =
 
 -- ---- the whole job
 pub given-allowed : (G : GroundValues) (f : FrameValues) (ws hs : List ℕ) (room : ℕ) (g : Given) → judgedJob G f ws hs room ≡ accepted g
-    → AllowedGiven g ws hs × (length ws ≤ room)
+    → AllowedJob g ws hs × (length ws ≤ room)
 unfolding judgedJob
 given-allowed G f ws hs room g e =
     let parts = given-parts (judgedLevels ws hs room) G f g e in

@@ -12,7 +12,7 @@ use Rattle.whole.proofs.Sums.{sum-most, sum-step}
 use Rattle.limits.specs.declared.frame.FrameValues.{FrameValues}
 use Rattle.limits.specs.declared.ground.GroundValues.{GroundValues}
 use Rattle.limits.specs.declared.judging.Given.{Given}
-use Rattle.limits.specs.Allowed.{AllowedLevels, AllowedGiven, AllowedBuilding, AllowedShearCall, AllowedHanded}
+use Rattle.limits.specs.Allowed.{AllowedLevels, AllowedJob, AllowedBuilding, AllowedShearCall, AllowedHanded}
 use Rattle.limits.specs.Building.{judgedTotal, judgedTop, judgedBuilding}
 use Rattle.limits.specs.Handed.{judgedBaseShear, judgedHandedPeriod, judgedHanded}
 use Rattle.limits.specs.Judging.{judgedGiven, judgedJob, judgedShearCall, judgedDistribution}
@@ -66,7 +66,7 @@ levels-building ws hs l =
       top = top-allowed ws hs l;
     }
 
-pub given-building : (g : Given) (ws hs : List ℕ) → AllowedGiven g ws hs → AllowedShearCall g (sum ws) (topHeight hs)
+pub given-building : (g : Given) (ws hs : List ℕ) → AllowedJob g ws hs → AllowedShearCall g (sum ws) (topHeight hs)
 given-building g ws hs a = record { ground = a .ground; frame = a .frame; building = levels-building ws hs (a .levels) }
 
 -- ---- and what is allowed is accepted

@@ -69,17 +69,17 @@ module _ (v t : ℕ) (ws hs : List ℕ) (room : ℕ) where
 module _
     (F : ℕ → ℕ → Type 0) (low : (n p : ℕ) → F n p → (1 ≤ n) × (n ≤ 4)) (f : FrameValues)
     {X : Type 0} (o : Outcome X) (n p m q : ℕ) (e : o ≡ refused n p)
-    where
-  pub lowest-number : (s : SiteValues) → FirstRefusal (GivenApplies F (Site s) f) o → GivenApplies F (Site s) f m q → n ≤ m
-  lowest-number s h a =
-      let given = numbered F low f (h .refused-applies n p e) in
-      let other = numbered F low f a in
-      lowest-first n m (omega arith) (omega arith) (h .first-number n p m q e a)
+  where
+    pub lowest-number : (s : SiteValues) → FirstRefusal (GivenApplies F (Site s) f) o → GivenApplies F (Site s) f m q → n ≤ m
+    lowest-number s h a =
+        let given = numbered F low f (h .refused-applies n p e) in
+        let other = numbered F low f a in
+        lowest-first n m (omega arith) (omega arith) (h .first-number n p m q e a)
 
-  pub lowest-in-basin : (z : ℕ) → FirstRefusal (GivenApplies F (Basin z) f) o → GivenApplies F (Basin z) f m q
-      → (n ≤ m) ⊎ ((n ≡ 18) × (8 ≤ m))
-  lowest-in-basin z h a =
-      lowest-or-zone n m (h .first-number n p m q e a) (numbered-basin F low f (h .refused-applies n p e)) (numbered-basin F low f a)
+    pub lowest-in-basin : (z : ℕ) → FirstRefusal (GivenApplies F (Basin z) f) o → GivenApplies F (Basin z) f m q
+        → (n ≤ m) ⊎ ((n ≡ 18) × (8 ≤ m))
+    lowest-in-basin z h a =
+        lowest-or-zone n m (h .first-number n p m q e a) (numbered-basin F low f (h .refused-applies n p e)) (numbered-basin F low f a)
 
 -- and of the distribution
 pub lowest-distributed : (v t : ℕ) (ws hs : List ℕ) (room : ℕ) {X : Type 0} (o : Outcome X) (n p m q : ℕ) → o ≡ refused n p

@@ -6,7 +6,8 @@ use mathlib.Core.List.{[], _∷_}
 use Rattle.limits.specs.declared.frame.Frame.{Frame}
 use Rattle.limits.specs.declared.frame.FrameValues.{FrameValues}
 use Rattle.limits.specs.declared.kind.Kind.{Kind}
-use Rattle.limits.specs.Frame.{judgedKind, judgedPeriod, frameOf, judgedFrame}
+use Rattle.limits.specs.Kind.{judgedKind}
+use Rattle.limits.specs.Frame.{judgedPeriod, frameOf, judgedFrame}
 use Rattle.limits.specs.Outcome.{accepted, _>>_}
 use Rattle.limits.specs.Ranges.{within, listed}
 use Rattle.limits.proofs.Passed.{one-value, then-passed, bind-passed}

@@ -10,7 +10,8 @@ use borrow.Author.Tests.{ne-eqb}
 use Rattle.whole.proofs.Choice.{by-test}
 use Rattle.limits.specs.declared.frame.FrameValues.{FrameValues}
 use Rattle.limits.specs.Applies.{OutOf, NotListed, FrameApplies, r, i, alpha, kind, period}
-use Rattle.limits.specs.Frame.{judgedKind, judgedPeriod, judgedFrame}
+use Rattle.limits.specs.Kind.{judgedKind}
+use Rattle.limits.specs.Frame.{judgedPeriod, judgedFrame}
 use Rattle.limits.specs.Order.{Before}
 use Rattle.limits.specs.Ranges.{within, listed}
 use Rattle.limits.proofs.Precedence.{Stops, Yields, UpTo, up-to-yields, first-stops, later-stops, bound-stops, value-stops, within-yields}

@@ -16,13 +16,15 @@ use Rattle.limits.specs.declared.ground.GroundValues.the-variants.{Site,
 use Rattle.limits.specs.declared.site.SiteValues.{SiteValues}
 use Rattle.whole.specs.Cells.{below}
 use Rattle.limits.specs.Applies.{OutOf, NotListed, count, lists, buffer, weight, height, rising, LevelsApply, of-count, of-lengths, of-weights, of-heights, SiteApplies, ss-design, s1-design, ss-mce, s1-mce, na-design, nv-design, na-mce, nv-mce, class, ZoneApplies, zone, GroundApplies, FrameApplies, r, i, alpha, kind, period}
-use Rattle.limits.specs.Frame.{judgedKind, judgedPeriod, judgedFrame}
+use Rattle.limits.specs.Kind.{judgedKind}
+use Rattle.limits.specs.Frame.{judgedPeriod, judgedFrame}
 use Rattle.limits.specs.Ground.{judgedGround}
 use Rattle.limits.specs.Lengths.{sameLength, roomy}
 use Rattle.limits.specs.Levels.{counted, judgedWeight, weighed, judgedHeight, raised, judgedLevels}
 use Rattle.limits.specs.Outcome.{require}
 use Rattle.limits.specs.Ranges.{among, within, listed}
-use Rattle.limits.specs.Site.{judgedClass, judgedMapped, judgedNearFault, judgedSite}
+use Rattle.limits.specs.Class.{judgedClass}
+use Rattle.limits.specs.Site.{judgedMapped, judgedNearFault, judgedSite}
 use Rattle.limits.specs.Zone.{judgedZone}
 use Rattle.limits.proofs.Passed.{differ}
 use Rattle.limits.proofs.Told.{Told, then-told, bind-told, require-told, within-told}

@@ -12,7 +12,8 @@ use Rattle.limits.specs.declared.site.SiteValues.{SiteValues}
 use Rattle.limits.specs.Applies.{OutOf, NotListed, SiteApplies, ss-design, s1-design, ss-mce, s1-mce, na-design, nv-design, na-mce, nv-mce, class}
 use Rattle.limits.specs.Order.{Before}
 use Rattle.limits.specs.Ranges.{within, listed}
-use Rattle.limits.specs.Site.{judgedClass, judgedMapped, judgedNearFault, judgedSite}
+use Rattle.limits.specs.Class.{judgedClass}
+use Rattle.limits.specs.Site.{judgedMapped, judgedNearFault, judgedSite}
 use Rattle.limits.proofs.Precedence.{Stops, Yields, UpTo, up-to-more, up-to-yields, both-up-to, bound-up-to, within-up-to, first-stops, later-stops, bound-stops, within-yields}
 use Rattle.limits.proofs.NotAllowed.{range-stops, listed-yields, listed-stops, listed-up-to}
 

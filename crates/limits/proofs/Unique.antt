@@ -28,12 +28,14 @@ use Rattle.limits.specs.declared.site.SiteAnswer.the-variants.{Taken as 
 use Rattle.limits.specs.declared.zone.Zone.{Zone}
 use Rattle.limits.specs.declared.zone.ZoneAnswer.{ZoneAnswer}
 use Rattle.limits.specs.declared.zone.ZoneAnswer.the-variants.{Taken as TakenZone, Refused as RefusedZone}
-use Rattle.limits.specs.Frame.{kindOutcome, frameOutcome}
+use Rattle.limits.specs.Kind.{kindOutcome}
+use Rattle.limits.specs.Frame.{frameOutcome}
 use Rattle.limits.specs.Ground.{groundOutcome}
 use Rattle.limits.specs.Judging.{givenOutcome}
 use Rattle.limits.specs.Levels.{levelOutcome}
 use Rattle.limits.specs.Outcome.{Outcome, accepted, refused, Done, verdictOutcome}
-use Rattle.limits.specs.Site.{classOutcome, siteOutcome}
+use Rattle.limits.specs.Class.{classOutcome}
+use Rattle.limits.specs.Site.{siteOutcome}
 use Rattle.limits.specs.Zone.{zoneOutcome}
 
 -- an answer read back from what it says: `taken` of what is accepted, `stopped` of a refusal

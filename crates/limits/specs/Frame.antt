@@ -1,28 +1,20 @@
 -- Numbers 8 to 12: the frame.
---   judgedKind n     11: kind not 1 steel frame, 2 RC or SRC frame, 3 eccentric brace, 4 other
---   judgedPeriod c    12: a calculated period that is neither 0, for none, nor 1 to 60,000 ms
---   frameOf v k       the judged frame of values v and kind k
---   judgedFrame v     8: R not 1.00 to 6.00; 9: I not 1.00, 1.25, 1.50; 10: alpha-y not 1.00 to 2.00; 11; 12
---   kindOutcome a, frameOutcome a    what the code's answer a says
+--   judgedPeriod c   12: a calculated period that is neither 0, for none, nor 1 to 60,000 ms
+--   frameOf v k      the judged frame of values v and kind k
+--   judgedFrame v    8: R not 1.00 to 6.00; 9: I not 1.00, 1.25, 1.50; 10: alpha-y not 1.00 to 2.00; 11; 12
+--   frameOutcome a   what the code's answer a says
 use mathlib.Core.List.{[], _∷_}
 use Prim.Native.Nat.{ℕ}
 use lib.Dec.{eqb}
 use Rattle.whole.specs.Choice.{pick}
 use Rattle.limits.specs.declared.kind.Kind.{Kind}
-use Rattle.limits.specs.declared.kind.Kind.the-variants.{Steel, Concrete, Braced, Other}
-use Rattle.limits.specs.declared.kind.KindAnswer.{KindAnswer}
-use Rattle.limits.specs.declared.kind.KindAnswer.the-variants.{Taken as TakenKind, Refused as RefusedKind}
 use Rattle.limits.specs.declared.frame.Frame.{Frame}
 use Rattle.limits.specs.declared.frame.FrameAnswer.{FrameAnswer}
-use Rattle.limits.specs.declared.frame.FrameAnswer.the-variants.{Taken as TakenFrame, Refused as RefusedFrame}
+use Rattle.limits.specs.declared.frame.FrameAnswer.the-variants.{Taken, Refused}
 use Rattle.limits.specs.declared.frame.FrameValues.{FrameValues}
+use Rattle.limits.specs.Kind.{judgedKind}
 use Rattle.limits.specs.Outcome.{Outcome, accepted, refused, Done, _>>=_, _>>_}
 use Rattle.limits.specs.Ranges.{within, listed}
-
-unfoldable pub judgedKind : ℕ → Outcome Kind
-judgedKind n =
-    pick (eqb n 1) (accepted Steel)
-    (pick (eqb n 2) (accepted Concrete) (pick (eqb n 3) (accepted Braced) (pick (eqb n 4) (accepted Other) (refused 11 0))))
 
 abbrev pub frameOf : FrameValues → Kind → Frame
 frameOf v k = record { kind = k; calculated = v .calculated; r = v .r; i = v .i; alpha = v .alpha }
@@ -39,10 +31,6 @@ judgedFrame v = do
   judgedPeriod (v .calculated)
   accepted (frameOf v k)
 
-abbrev pub kindOutcome : KindAnswer → Outcome Kind
-kindOutcome (TakenKind k) = accepted k
-kindOutcome (RefusedKind r) = refused (r .number) (r .place)
-
 abbrev pub frameOutcome : FrameAnswer → Outcome Frame
-frameOutcome (TakenFrame f) = accepted f
-frameOutcome (RefusedFrame r) = refused (r .number) (r .place)
+frameOutcome (Taken f) = accepted f
+frameOutcome (Refused r) = refused (r .number) (r .place)

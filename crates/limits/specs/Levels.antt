@@ -5,11 +5,10 @@
 --   weighed p ws       3: the first weight that is not 1 to 20,000 kN; the first of the list stands at place p
 --   raised b p hs      4: the first height that is not 1 to 2,000 dm or not above the one below it, b below the first
 --   judgedLevels ws hs room    1, 2, 3, 4 in turn; room is the length of the shortest result buffer
---   totalMost          the largest W, in kN: 50 levels of 20,000
 --   topHeight hs       h, the top height: the last of the heights
 --   levelOutcome a     what the code's answer a says
 use mathlib.Core.List.{List, [], _∷_}
-use Prim.Native.Nat.{ℕ, _+_, _*_}
+use Prim.Native.Nat.{ℕ, _+_}
 use lib.Dec.{ltb}
 use lib.ListN.{length}
 use Rattle.limits.specs.declared.level.Level.{Level}
@@ -55,9 +54,6 @@ judgedLevels ws hs room = do
   roomy (length ws) room
   weighed 1 ws
   raised 0 1 hs
-
-abbrev pub totalMost : ℕ
-totalMost = 50 * 20_000
 
 abbrev pub topHeight : List ℕ → ℕ
 topHeight [] = 0

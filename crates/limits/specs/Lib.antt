@@ -5,9 +5,11 @@ pub mod Lengths
 pub mod Levels
 pub mod Building
 pub mod Handed
+pub mod Class
 pub mod Site
 pub mod Zone
 pub mod Ground
+pub mod Kind
 pub mod Frame
 pub mod Judging
 pub mod Allowed

@@ -1,7 +1,7 @@
 // The site class: 7.
 use crate::refusal::Refusal;
 ghost use mathlib.Core.Path.{_≡_};
-ghost use Rattle.limits.specs.Site.{judgedClass, classOutcome};
+ghost use Rattle.limits.specs.Class.{judgedClass, classOutcome};
 ghost use Rattle.limits.specs.Outcome.{refusalOf};
 
 // The site class of Table 3.

@@ -1,7 +1,7 @@
 // The frame kind: 11.
 use crate::refusal::Refusal;
 ghost use mathlib.Core.Path.{_≡_};
-ghost use Rattle.limits.specs.Frame.{judgedKind, kindOutcome};
+ghost use Rattle.limits.specs.Kind.{judgedKind, kindOutcome};
 ghost use Rattle.limits.specs.Outcome.{refusalOf};
 
 // The frame kind: steel frame, RC or SRC frame, eccentric brace, other.

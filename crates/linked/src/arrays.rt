@@ -5,7 +5,7 @@ use limits::class::ClassAnswer;
 use limits::frame::FrameValues;
 use limits::site::SiteValues;
 ghost use mathlib.Core.Path.{_≡_};
-ghost use Rattle.limits.specs.Site.{classOutcome};
+ghost use Rattle.limits.specs.Class.{classOutcome};
 ghost use Rattle.job.specs.ShearCall.{answerOutcome};
 ghost use Rattle.soil.specs.Class.{classNumber};
 ghost use Rattle.sheet.specs.Sheet.{siteValues, frameValues};

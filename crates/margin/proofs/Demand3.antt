@@ -21,7 +21,7 @@ use Rattle.base_shear.specs.Shears.{base}
 use Rattle.storeys.specs.Storeys.{roofPart, roofForce, weightHeight, shearUnder}
 use Rattle.storeys.proofs.Roof.{roof-at-most-one, roof-most}
 use Rattle.storeys.proofs.Sums.{part-sum}
-use Rattle.margin.specs.Demand3.{allowed, BaseDemand3, StoreyDemand3, Demand3, HandedDemand3}
+use Rattle.margin.specs.Demand3.{baseMargin, BaseDemand3, StoreyDemand3, Demand3, HandedDemand3}
 use Rattle.margin.proofs.Base.{base-above, base-over, lowering-numbers, raising-numbers, lowering-sound, raising-sound}
 use Rattle.margin.proofs.Bound.{margin-positive}
 use Rattle.margin.proofs.Storey.{shared-positive, handed-above, handed-over, storey-above, storey-over}
@@ -84,7 +84,7 @@ module _ (T : ℕ) (ws hs : List ℕ) (p : 0 < weightHeight ws hs) where
             λ x l r w.
             let b = d .close r w in (
               shared-positive t (Px x) P pt p (exactBase k f W T r) (b .0),
-              storey-over t (Px x) P v (u x) roof (part-sum ws hs x) pt p (exactBase k f W T r) (b .0) (allowed s k f W) 2 (d .margin)
+              storey-over t (Px x) P v (u x) roof (part-sum ws hs x) pt p (exactBase k f W T r) (b .0) (baseMargin s k f W) 2 (d .margin)
                   (h .close x l) (b .1),
             );
       }

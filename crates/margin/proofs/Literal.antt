@@ -9,14 +9,19 @@ use Rattle.whole.specs.declared.Fraction.{Fraction}
 use Rattle.whole.specs.Fraction.{over, plus, times, quotient, Same, AtMost, Less}
 use Rattle.whole.proofs.Choice.{by-leb}
 use Rattle.limits.specs.declared.frame.Frame.{Frame}
-use Rattle.site.specs.Hazards.{lines}
+use Rattle.limits.specs.declared.ground.Ground.{Ground}
+use Rattle.limits.specs.declared.ground.Ground.the-variants.{Site, Basin}
+use Rattle.site.specs.Basin.{basinHazards}
+use Rattle.site.specs.Ground.{groundHazards}
+use Rattle.site.specs.Lines.{lines}
+use Rattle.site.specs.SiteHazards.{siteHazards}
 use Rattle.site.specs.declared.hazard.Hazards.{Hazards}
 use Rattle.response.specs.Ratio.{bent, exactModified}
 use Rattle.response.specs.Unit.{unit}
 use Rattle.base_shear.specs.Exact.{exactNewtons}
 use Rattle.storeys.specs.Exact.{exactRoofForce, rest}
 use Rattle.storeys.specs.Storeys.{RoofAtMostOne, roofPart}
-use Rattle.margin.specs.Demand3.{allowed}
+use Rattle.margin.specs.Demand3.{baseMargin}
 
 -- 'Up to 300,000: q.', of 10⁶
 pub exact-modified-first : (q : Fraction) → AtMost q (over 3 10) → Same (exactModified lines q) q
@@ -58,22 +63,23 @@ pub newtons-are : (n : ℕ) (f : Frame) (W : ℕ) (x : Fraction)
 newtons-are n f W x = omega arith
 
 -- the margin: six s-ths of I·W/(n/10·alpha-y), plus one newton
-pub allowed-is : (s : ℕ) (k : Hazards) (f : Frame) (W : ℕ)
-    → Same (allowed s k f W)
+pub margin-is : (s : ℕ) (k : Hazards) (f : Frame) (W : ℕ)
+    → Same (baseMargin s k f W)
     (plus
     (times (over 6 s)
     (quotient (times (over (f .i) 100) (over (1000 * W) 1)) (times (over (k .divisor) 10) (over (f .alpha) 100))))
     (over 1 1))
-allowed-is s k f W = omega arith
+margin-is s k f W = omega arith
 
--- in the unit in use: 'six ten-millionths of I·W/(1.4·alpha-y) plus one newton'
-pub allowed-in-units : (k : Hazards) (f : Frame) (W : ℕ)
-    → Same (allowed unit k f W)
+-- of any ground, in the unit in use: 'six ten-millionths of I·W/(1.4·alpha-y) plus one newton'
+pub margin-in-units : (g : Ground) (R : ℕ) (f : Frame) (W : ℕ)
+    → Same (baseMargin unit (groundHazards g R) f W)
     (plus
     (times (over 6 10_000_000)
-    (quotient (times (over (f .i) 100) (over (1000 * W) 1)) (times (over (k .divisor) 10) (over (f .alpha) 100))))
+    (quotient (times (over (f .i) 100) (over (1000 * W) 1)) (times (over 14 10) (over (f .alpha) 100))))
     (over 1 1))
-allowed-in-units = allowed-is unit
+margin-in-units (Site s) R f W = margin-is unit (siteHazards s R) f W
+margin-in-units (Basin z) R f W = margin-is unit (basinHazards z R) f W
 
 -- V − F_t, as the storeys have it: what is left of V beside F_t, whatever part of V it is
 rest-beside : (t v : Fraction) → t .num ≤ t .den → Same (plus (times t v) (times (rest t) v)) v

@@ -7,27 +7,13 @@ use native.Mathlib.Decide.{decLe}
 use native.Mathlib.Omega.{arith}
 use Rattle.whole.proofs.Choice.{by-leb}
 use Rattle.site.specs.declared.lines.Lines.{Lines}
-use Rattle.site.specs.Hazards.{lines}
+use Rattle.site.specs.Lines.{lines}
 use Rattle.response.specs.Ratio.{bent}
 use Rattle.response.specs.Reach.{Meeting}
 
 -- (8), (18)
 pub lines-meet : Meeting lines
 lines-meet =
-    record {
-      order = omega arith;
-      soon = omega arith;
-      rising = omega arith;
-      steeper = omega arith;
-      gentle = omega arith;
-      half = omega arith;
-      meet-first = refl;
-      meet-second = refl;
-    }
-
--- the lines of document 001
-pub draft-lines-meet : Meeting (record { first = 400; second = 900; slope = 550; add = 180; last = 750 })
-draft-lines-meet =
     record {
       order = omega arith;
       soon = omega arith;

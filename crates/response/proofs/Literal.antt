@@ -7,7 +7,7 @@ use native.Mathlib.Omega.{arith}
 use Rattle.whole.specs.Rounding.{up}
 use Rattle.whole.proofs.Choice.{by-leb}
 use Rattle.whole.proofs.Rounding.{up-at, up-scale}
-use Rattle.site.specs.Hazards.{lines}
+use Rattle.site.specs.Lines.{lines}
 use Rattle.response.specs.Unit.{unit}
 use Rattle.response.specs.Ratio.{bent, modified, blended}
 

@@ -14,7 +14,7 @@ use Rattle.limits.specs.declared.class.Class.the-variants.{Hard, Normal, Soft}
 use Rattle.limits.specs.declared.kind.Kind.the-variants.{Steel, Concrete, Other}
 use Rattle.site.specs.Coefficients.{factored, fa, fv, accelerationA, accelerationB}
 use Rattle.site.specs.Capacity.{designSquare, mceSquare}
-use Rattle.site.specs.Hazards.{lines}
+use Rattle.site.specs.Lines.{lines}
 use Rattle.response.specs.Unit.{unit}
 use Rattle.response.specs.Period.{approximate}
 use Rattle.response.specs.Spectrum.{spectrum, exactSpectrum}

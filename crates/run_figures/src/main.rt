@@ -17,7 +17,7 @@ use site::coefficients::acceleration_a;
 use site::coefficients::acceleration_b;
 use site::coefficients::fa;
 use site::coefficients::fv;
-use site::hazards::LINES;
+use site::lines::LINES;
 use soil::velocity::VelocityAnswer;
 use whole::roots::lower_root;
 ghost use Prim.Native.Nat.{_≤_, _<_};

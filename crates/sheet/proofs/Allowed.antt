@@ -21,13 +21,15 @@ use Rattle.limits.specs.declared.site.Site.{Site}
 use Rattle.limits.specs.declared.site.SiteValues.{SiteValues}
 use Rattle.limits.specs.declared.zone.Zone.{Zone}
 use Rattle.limits.specs.Allowed.{AllowedSite, AllowedFrame}
-use Rattle.limits.specs.Frame.{judgedKind, judgedPeriod, frameOf, judgedFrame}
+use Rattle.limits.specs.Kind.{judgedKind}
+use Rattle.limits.specs.Frame.{judgedPeriod, frameOf, judgedFrame}
 use Rattle.limits.specs.Ground.{judgedGround}
 use Rattle.limits.specs.Judging.{judgedJob}
 use Rattle.limits.specs.Levels.{judgedLevels}
 use Rattle.limits.specs.Outcome.{Outcome, accepted, _>>_}
 use Rattle.limits.specs.Ranges.{within, listed}
-use Rattle.limits.specs.Site.{judgedClass, siteOf, judgedMapped, judgedNearFault, judgedSite}
+use Rattle.limits.specs.Class.{judgedClass}
+use Rattle.limits.specs.Site.{siteOf, judgedMapped, judgedNearFault, judgedSite}
 use Rattle.limits.specs.Zone.{judgedZone}
 use Rattle.limits.proofs.Accepted.{site-allowed, frame-allowed, levels-allowed}
 use Rattle.limits.proofs.Passed.{never, one-value, then-passed, bind-passed}

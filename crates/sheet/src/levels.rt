@@ -1,5 +1,6 @@
-// The level lines of a sheet: all lines from line 3 on, of which the first 51 are kept.
+// The level lines of a sheet: all lines from line 3 on, of which those of a job are kept, and one more.
 use crate::layout::LEVEL_LINE;
+use limits::level::Level;
 use limits::refusal::Refusal;
 use text::line::field;
 use text::number::NumberAnswer;
@@ -62,7 +63,7 @@ impl LevelsAnswer {
 }
 
 // One level more than a job may have: enough for the job to refuse the count.
-pub const KEPT: usize = 51;
+pub const KEPT: usize = Level::MOST as usize + 1;
 
 // The answer, and the weights and heights of the levels that are kept beside it: an enum holds no array.
 pub struct LevelsRead {
@@ -87,7 +88,7 @@ impl LevelsRead {
     }
 }
 
-// Stores v in cell i, where there is one: every line is read, 51 are kept.
+// Stores v in cell i, where there is one: every line is read, KEPT are kept.
 fn keep(cells: &mut [u64], i: usize, v: u64)
     ensures { λ _. ⌜ now (cells .exit) ≡ set (now (cells .entry)) i v ⌝ }
 {

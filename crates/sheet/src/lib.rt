@@ -3,6 +3,7 @@ use job::FiguresAnswer;
 use job::job;
 use limits::frame::FrameValues;
 use limits::ground::GroundValues;
+use limits::level::Level;
 use limits::refusal::Refusal;
 use listing::LONGEST;
 use listing::Listing;
@@ -22,6 +23,9 @@ ghost use lib.ListN.{length};
 ghost use Rattle.job.specs.Job.{jobOf};
 ghost use Rattle.sheet.specs.Listing.{outcomeOf, sheetListing, longest, printed, Puts};
 
+// Result buffers for every job that is accepted.
+const ROOM: usize = Level::MOST as usize;
+
 // What was written into a buffer: how many bytes, and the refusal that they say, zeros where they are results.
 pub struct Put {
     pub length: usize,
@@ -39,9 +43,9 @@ pub fn put_job(
     requires { ⌜ longest ≤ length (now out) ⌝ }
     ensures { λ p. ⌜ Puts (jobOf ground frame (now (weights .entry)) (now (heights .entry)) (length (now (weights .entry)))) (now (out .entry)) (now (out .exit)) p ⌝ }
 {
-    let mut forces = [0; 50];
-    let mut shears = [0; 50];
-    let mut overturnings = [0; 50];
+    let mut forces = [0; ROOM];
+    let mut shears = [0; ROOM];
+    let mut overturnings = [0; ROOM];
     let a = job(
         ground,
         frame,

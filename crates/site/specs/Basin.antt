@@ -10,7 +10,7 @@ use Rattle.limits.specs.declared.zone.Zone.{Zone}
 use Rattle.site.specs.declared.hazard.Hazard.{Hazard}
 use Rattle.site.specs.declared.hazard.Hazards.{Hazards}
 use Rattle.site.specs.Capacity.{basinCapacity, basinSquare, mceCapacity, mceSquare}
-use Rattle.site.specs.Hazards.{lines}
+use Rattle.site.specs.Lines.{lines}
 use Rattle.site.specs.Table4.{cornerPeriod}
 
 abbrev pub basinHazard : ℕ → ℕ → Fraction → Fraction → Hazard

@@ -5,8 +5,8 @@ use Rattle.limits.specs.declared.ground.Ground.{Ground}
 use Rattle.limits.specs.declared.ground.Ground.the-variants.{Site, Basin}
 use Rattle.site.specs.declared.hazard.Hazards.{Hazards}
 use Rattle.site.specs.Basin.{basinHazards}
-use Rattle.site.specs.Hazards.{hazardsOf}
+use Rattle.site.specs.SiteHazards.{siteHazards}
 
 abbrev pub groundHazards : Ground → ℕ → Hazards
-groundHazards (Site s) R = hazardsOf s R
+groundHazards (Site s) R = siteHazards s R
 groundHazards (Basin z) R = basinHazards z R

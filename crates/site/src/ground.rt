@@ -1,7 +1,7 @@
 // The three hazards of a judged ground: all that is known of it from here on.
 use crate::basin::basin_hazards;
 use crate::hazard::Hazards;
-use crate::hazards::hazards_of;
+use crate::site_hazards::site_hazards;
 use limits::ground::Ground;
 ghost use mathlib.Core.Path.{_≡_};
 ghost use Prim.Native.Nat.{_≤_};
@@ -13,7 +13,7 @@ pub fn ground_hazards(ground: Ground, r: u64) -> Hazards
     ensures { λ k. ⌜ k ≡ groundHazards ground r ⌝ }
 {
     match ground {
-        Ground::Site(site) => hazards_of(site, r),
+        Ground::Site(site) => site_hazards(site, r),
         Ground::Basin(zone) => basin_hazards(zone, r),
     }
 }

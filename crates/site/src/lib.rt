@@ -5,7 +5,7 @@ pub mod capacity;
 pub mod coefficients;
 pub mod ground;
 pub mod hazard;
-pub mod hazards;
 pub mod lines;
+pub mod site_hazards;
 pub mod table2;
 pub mod table4;

@@ -11,7 +11,7 @@ use Rattle.whole.proofs.Choice.{by-test}
 use Rattle.limits.specs.declared.class.Class.{Class}
 use Rattle.limits.specs.declared.class.Class.the-variants.{Hard, Normal, Soft}
 use Rattle.limits.specs.Outcome.{accepted}
-use Rattle.limits.specs.Site.{judgedClass}
+use Rattle.limits.specs.Class.{judgedClass}
 use Rattle.soil.specs.declared.class.ClassLimits.{ClassLimits}
 use Rattle.soil.specs.declared.times.Times.{Times}
 use Rattle.soil.specs.Class.{depthTime, classOf, classNumber}

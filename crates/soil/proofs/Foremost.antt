@@ -18,7 +18,7 @@ use Rattle.limits.specs.Lengths.{sameLength}
 use Rattle.limits.specs.Order.{InOrder, Before}
 use Rattle.limits.specs.Outcome.{accepted, refused, require, _>>=_, _>>_}
 use Rattle.limits.specs.Ranges.{within}
-use Rattle.limits.specs.Site.{classOutcome}
+use Rattle.limits.specs.Class.{classOutcome}
 use Rattle.soil.specs.declared.class.ClassLimits.{ClassLimits}
 use Rattle.soil.specs.Applies.{Allowed, measured, cohesive, cohesionless, softClay, Applies, lists, layers, thickness, depth, layer}
 use Rattle.soil.specs.Class.{table3}

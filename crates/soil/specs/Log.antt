@@ -17,7 +17,7 @@ use Rattle.limits.specs.declared.class.ClassAnswer.{ClassAnswer}
 use Rattle.limits.specs.Lengths.{sameLength}
 use Rattle.limits.specs.Outcome.{Outcome, accepted, Done, require, _>>=_, _>>_}
 use Rattle.limits.specs.Ranges.{within}
-use Rattle.limits.specs.Site.{classOutcome}
+use Rattle.limits.specs.Class.{classOutcome}
 use Rattle.soil.specs.declared.class.ClassLimits.{ClassLimits}
 use Rattle.soil.specs.Class.{table3, classOf}
 use Rattle.soil.specs.Times.{judgedTimes}

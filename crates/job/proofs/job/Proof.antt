@@ -7,11 +7,11 @@ use Prim.Native.Nat.{_≤_}
 use Rattle.limits.proofs.Accepted.{given-allowed}
 use Rattle.limits.proofs.AcceptedCalls.{levels-building, given-building, judged-job}
 use Rattle.limits.proofs.Stages.{says, stopped}
-use Rattle.limits.specs.Allowed.{AllowedGiven}
+use Rattle.limits.specs.Allowed.{AllowedJob}
 use Rattle.limits.specs.Judging.{givenOutcome}
 use Rattle.base_shear.specs.declared.Figures.{Figures}
 use Rattle.storeys.specs.Reach.{Load}
-use Rattle.job.specs.Job.{givenFigures}
+use Rattle.job.specs.Job.{jobFigures}
 use Rattle.job.proofs.Stages.{building-of, figures-of, refused-answers, accepted-answers}
 use Rattle.job.proofs.GivenReached.{given-between, load, standing}
 use Rattle.job.proofs.job.Statement.{statement}
@@ -44,7 +44,7 @@ returns c =
 
 -- what is known once the judgments have accepted
 allowed : (c : tie.After-known-told) → let a = c .before .before .before .before .before .before .before .before .before .before .before .args in
-    AllowedGiven (c .before .g .given .0 .0) (a .weights .now) (a .heights .now) × (length (a .weights .now) ≤ c .before .before .before .before .before .shortest .result)
+    AllowedJob (c .before .g .given .0 .0) (a .weights .now) (a .heights .now) × (length (a .weights .now) ≤ c .before .before .before .before .before .shortest .result)
 allowed c =
     let a = c .before .before .before .before .before .before .before .before .before .before .before .args in
     let j = judged-job (a .ground) (a .frame) (a .weights .now) (a .heights .now) _ (c .before .before .before .before .judged-levels .ensures) in
@@ -72,7 +72,7 @@ fill-storeys-requires c κs =
     let n = figures-of g (a .weights .now) (a .heights .now) _ _ (c .before .before .before .building-figures .ensures) (c .before .before .before .before .before .total-weight .ensures) (c .before .before .before .before .top-height .ensures) in
     let short = c .before .before .before .before .before .before .before .before .before .before .before .shortest .ensures in
     let between = given-between g _ _ (given-building g (a .weights .now) (a .heights .now) (all .0)) in
-    let l = subst (λ (n : Figures). Load (n .t) (n .vd)) (sym n) (load (givenFigures g (a .weights .now) (a .heights .now)) between) in (
+    let l = subst (λ (n : Figures). Load (n .t) (n .vd)) (sym n) (load (jobFigures g (a .weights .now) (a .heights .now)) between) in (
       record { part = l .part; shear = omega (arith, l .shear) },
       standing (a .weights .now) (a .heights .now) (all .0 .levels),
       omega (arith, all .1),

@@ -6,7 +6,7 @@ use lib.ListN.{length}
 use Rattle.limits.proofs.Accepted.{given-allowed}
 use Rattle.limits.proofs.AcceptedCalls.{levels-building, judged-job}
 use Rattle.limits.proofs.Stages.{says, stopped}
-use Rattle.limits.specs.Allowed.{AllowedGiven}
+use Rattle.limits.specs.Allowed.{AllowedJob}
 use Rattle.limits.specs.Judging.{givenOutcome}
 use Rattle.limits.specs.Outcome.{accepted}
 use Rattle.job.proofs.Stages.{building-of, figures-of, job-refused, job-accepted}
@@ -37,7 +37,7 @@ returns c =
     sym (ap figuresOnly (job-refused (a .ground) (a .frame) (a .weights .now) (a .heights .now) (length (a .weights .now)) e))
 
 -- what is known once the judgments have accepted
-allowed : (c : tie.After-known-told) → let a = c .before .before .before .before .before .before .before .args in AllowedGiven (c .before .g .given .0 .0) (a .weights .now) (a .heights .now)
+allowed : (c : tie.After-known-told) → let a = c .before .before .before .before .before .before .before .args in AllowedJob (c .before .g .given .0 .0) (a .weights .now) (a .heights .now)
 allowed c =
     let a = c .before .before .before .before .before .before .before .args in
     let j = judged-job (a .ground) (a .frame) (a .weights .now) (a .heights .now) (length (a .weights .now)) (c .before .before .before .before .judged-levels .ensures) in

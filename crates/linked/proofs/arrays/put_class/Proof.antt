@@ -3,7 +3,7 @@ use borrow.Author.Needs.{needs}
 use mathlib.Core.Path.{refl, sym, ap}
 use mathlib.Core.List.{[], _∷_}
 use Prim.Native.Nat.{ℕ}
-use Rattle.limits.specs.Site.{classOutcome}
+use Rattle.limits.specs.Class.{classOutcome}
 use Rattle.linked.proofs.Replies.{replies-as}
 use Rattle.linked.proofs.arrays.put_class.Statement.{statement}
 use Rattle.linked.proofs.arrays.put_class.Tie as tie

@@ -3,7 +3,7 @@ use borrow.Author.Needs.{needs}
 use mathlib.Core.Path.{_∙_}
 use native.Mathlib.Omega.{arith}
 use Rattle.site.specs.Basin.{basinHazard}
-use Rattle.site.specs.Hazards.{lines}
+use Rattle.site.specs.Lines.{lines}
 use Rattle.site.proofs.Corners.{corner-bounds}
 use Rattle.site.proofs.basin.basin_hazards.Statement.{statement}
 use Rattle.site.proofs.basin.basin_hazards.Tie as tie

@@ -10,8 +10,8 @@ use Rattle.site.proofs.ground.ground_hazards.Tie as tie
 enum-known-ground : tie.Need-enum-known-ground
 enum-known-ground c = search needs
 
-hazards-of-requires : tie.Need-hazards-of-requires
-hazards-of-requires c κs =
+site-hazards-requires : tie.Need-site-hazards-requires
+site-hazards-requires c κs =
     let p = c .before .before .before .pre in
     (subst AllowedGround (c .before .ground .given .1) (p .0), p .1, p .2)
 
@@ -23,7 +23,7 @@ basin-hazards-requires c κs = search needs
 
 returns : tie.Need-returns
 returns c =
-    c .hazards-of .ensures
+    c .site-hazards .ensures
     ∙ sym (ap (λ (g : Ground). groundHazards g (c .before .before .before .before .args .r)) (c .before .before .ground .given .1))
 
 returns-2 : tie.Need-returns-2
@@ -36,7 +36,7 @@ ground-hazards-spec =
     tie.close
     (tie.spec
     enum-known-ground
-    hazards-of-requires
+    site-hazards-requires
     enum-known-ground-2
     basin-hazards-requires
     returns

@@ -1,6 +1,6 @@
 -- `limits::class::Class::judged` meets its contract. Assumes nothing.
 use borrow.Author.Tests.{eq-eqb, ne-eqb}
-use Rattle.limits.specs.Site.{judgedClass}
+use Rattle.limits.specs.Class.{judgedClass}
 use Rattle.limits.proofs.class.Class.judged.Statement.{statement}
 use Rattle.limits.proofs.class.Class.judged.Tie as tie
 

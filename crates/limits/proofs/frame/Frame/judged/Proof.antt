@@ -5,7 +5,8 @@ use mathlib.Core.Path.{_≡_, refl, sym, _∙_}
 use Rattle.limits.specs.declared.frame.Frame.{Frame}
 use Rattle.limits.specs.declared.frame.FrameValues.{FrameValues}
 use Rattle.limits.proofs.Stages.{says, stopped}
-use Rattle.limits.specs.Frame.{kindOutcome, judgedKind, judgedPeriod, frameOf, judgedFrame}
+use Rattle.limits.specs.Kind.{kindOutcome, judgedKind}
+use Rattle.limits.specs.Frame.{judgedPeriod, frameOf, judgedFrame}
 use Rattle.limits.specs.Outcome.{Outcome, accepted, verdictOutcome, _>>=_, _>>_}
 use Rattle.limits.specs.Ranges.{within, listed}
 use Rattle.limits.proofs.frame.Frame.judged.Statement.{statement}

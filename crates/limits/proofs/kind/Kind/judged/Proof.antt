@@ -1,6 +1,6 @@
 -- `limits::kind::Kind::judged` meets its contract. Assumes nothing.
 use borrow.Author.Tests.{eq-eqb, ne-eqb}
-use Rattle.limits.specs.Frame.{judgedKind}
+use Rattle.limits.specs.Kind.{judgedKind}
 use Rattle.limits.proofs.kind.Kind.judged.Statement.{statement}
 use Rattle.limits.proofs.kind.Kind.judged.Tie as tie
 

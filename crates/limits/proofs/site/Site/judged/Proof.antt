@@ -3,7 +3,8 @@ use borrow.Author.Needs.{needs}
 use mathlib.Core.Path.{refl}
 use Rattle.limits.proofs.Stages.{says, stopped}
 use Rattle.limits.specs.Outcome.{verdictOutcome}
-use Rattle.limits.specs.Site.{classOutcome, judgedSite}
+use Rattle.limits.specs.Class.{classOutcome}
+use Rattle.limits.specs.Site.{judgedSite}
 use Rattle.limits.proofs.site.Site.judged.Statement.{statement}
 use Rattle.limits.proofs.site.Site.judged.Tie as tie
 

@@ -5,9 +5,9 @@ use Rattle.limits.specs.Allowed.{AllowedGround}
 use Rattle.limits.specs.declared.ground.Ground.{Ground}
 use Rattle.limits.specs.declared.ground.Ground.the-variants.{Site, Basin}
 use Rattle.site.specs.Ground.{groundHazards}
 use Rattle.base_shear.specs.Ready.{Bounded, Reached}
-use Rattle.job.proofs.BasinReached.{basin-bounded, basin-reached}
-use Rattle.job.proofs.SiteReached.{site-bounded, site-reached}
+use Rattle.base_shear.proofs.BasinReached.{basin-bounded, basin-reached}
+use Rattle.base_shear.proofs.SiteReached.{site-bounded, site-reached}
 
 pub ground-reached : (g : Ground) (R : ℕ) → AllowedGround g → 100 ≤ R → R ≤ 600 → Reached (groundHazards g R)
 ground-reached (Site s) R a lo hi = site-reached s R a lo hi

@@ -1,8 +1,8 @@
--- `site::hazards::accelerations` meets its contract. Assumes nothing.
+-- `site::site_hazards::accelerations` meets its contract. Assumes nothing.
 use native.Mathlib.Omega.{arith}
 use Rattle.site.proofs.Bounds.{s-s-bounds, s-1-bounds}
-use Rattle.site.proofs.hazards.accelerations.Statement.{statement}
-use Rattle.site.proofs.hazards.accelerations.Tie as tie
+use Rattle.site.proofs.site_hazards.accelerations.Statement.{statement}
+use Rattle.site.proofs.site_hazards.accelerations.Tie as tie
 
 mul-acceleration-a : tie.Need-mul-acceleration-a
 mul-acceleration-a c =

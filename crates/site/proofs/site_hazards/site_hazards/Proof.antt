@@ -1,8 +1,8 @@
--- `site::hazards::hazards_of` meets its contract, hazard by hazard. Assumes nothing.
+-- `site::site_hazards::site_hazards` meets its contract, hazard by hazard. Assumes nothing.
 use borrow.Author.Needs.{needs}
-use Rattle.site.specs.Hazards.{lines}
-use Rattle.site.proofs.hazards.hazards_of.Statement.{statement}
-use Rattle.site.proofs.hazards.hazards_of.Tie as tie
+use Rattle.site.specs.Lines.{lines}
+use Rattle.site.proofs.site_hazards.site_hazards.Statement.{statement}
+use Rattle.site.proofs.site_hazards.site_hazards.Tie as tie
 
 accelerations-requires : tie.Need-accelerations-requires
 accelerations-requires c κs = search needs
@@ -42,8 +42,8 @@ returns c =
       stardivisor = 42;
     }
 
-pub hazards-of-spec : {M : Type 1} → statement M
-hazards-of-spec =
+pub site-hazards-spec : {M : Type 1} → statement M
+site-hazards-spec =
     tie.close
     (tie.spec
     accelerations-requires

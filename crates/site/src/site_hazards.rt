@@ -1,4 +1,4 @@
-// The makers of the three hazards from a judged site.
+// The three hazards of a judged site.
 use crate::capacity::design_capacity;
 use crate::capacity::design_square;
 use crate::capacity::mce_capacity;
@@ -7,29 +7,19 @@ use crate::coefficients::acceleration_a;
 use crate::coefficients::acceleration_b;
 use crate::hazard::Hazard;
 use crate::hazard::Hazards;
-use crate::lines::Lines;
+use crate::lines::DIVISOR;
+use crate::lines::LINES;
 use limits::class::Class;
 use limits::site::Site;
 ghost use mathlib.Core.Path.{_≡_};
 ghost use Prim.Native.Nat.{_≤_};
 ghost use Rattle.limits.specs.Allowed.{AllowedSite};
-ghost use Rattle.site.specs.Hazards.{Mapped, accelerations, hazardsOf};
+ghost use Rattle.site.specs.SiteHazards.{Mapped, accelerations, siteHazards};
 
 // The near-fault factor of a site that has none, in 0.01.
 const NO_FACTOR: u64 = 100;
 
-// The lines of (8) and (18).
-pub const LINES: Lines = Lines {
-    first: 300,
-    second: 800,
-    slope: 520,
-    add: 144,
-    last: 700,
-};
-
-// The divisors of (7) and (17), 1.4, and of (19), 4.2, in tenths.
-pub const DIVISOR: u64 = 14;
-
+// The divisor of (19), 4.2, in tenths.
 const STAR_DIVISOR: u64 = 42;
 
 // A and B of a site, in 10⁻⁸ g.
@@ -49,9 +39,9 @@ pub fn accelerations(class: Class, ss: u64, s1: u64, na: u64, nv: u64) -> SiteAc
 }
 
 // V's by the pair of the design level, V_M's by that of the MCE level, and V*'s with both near-fault factors taken as 100.
-pub fn hazards_of(site: Site, r: u64) -> Hazards
+pub fn site_hazards(site: Site, r: u64) -> Hazards
     requires { ⌜ AllowedSite site × (100 ≤ r) × (r ≤ 600) ⌝ }
-    ensures { λ k. ⌜ k ≡ hazardsOf site r ⌝ }
+    ensures { λ k. ⌜ k ≡ siteHazards site r ⌝ }
 {
     let class = site.class;
     let design = accelerations(class, site.ssd, site.s1d, site.nad, site.nvd);

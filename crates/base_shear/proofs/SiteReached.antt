@@ -6,11 +6,11 @@ use Rattle.limits.specs.Allowed.{AllowedSite}
 use Rattle.limits.specs.declared.class.Class.{Class}
 use Rattle.limits.specs.declared.site.Site.{Site}
 use Rattle.site.specs.Coefficients.{factored}
-use Rattle.site.specs.Hazards.{Mapped, designHazard, mceHazard, hazardsOf}
+use Rattle.site.specs.SiteHazards.{Mapped, designHazard, mceHazard, siteHazards}
 use Rattle.site.proofs.Bounds.{a-bounds, b-bounds, s-s-bounds, s-1-bounds}
 use Rattle.base_shear.specs.Ready.{Bounded, Reached}
-use Rattle.job.proofs.Ductilities.{design-ductile, mce-ductile}
-use Rattle.job.proofs.HazardsReached.{Sized, three-bounded, three-reached}
+use Rattle.base_shear.proofs.Ductilities.{design-ductile, mce-ductile}
+use Rattle.base_shear.proofs.HazardsReached.{Sized, three-bounded, three-reached}
 
 -- ---- A and B of mapped values and near-fault factors, with the capacity of an R
 module _ (R : ℕ) (lo : 100 ≤ R) (hi : R ≤ 600) (c : Class) (ss s1 na nv : ℕ) (m : Mapped ss s1 na nv) where
@@ -28,23 +28,23 @@ module _ (R : ℕ) (lo : 100 ≤ R) (hi : R ≤ 600) (c : Class) (ss s1 na nv : 
   mce-sized = record { a = design-sized .a; b = design-sized .b; ductile = mce-ductile R lo hi }
 
 module _ (site : Site) (R : ℕ) (a : AllowedSite site) (lo : 100 ≤ R) (hi : R ≤ 600) where
-  design : Sized (hazardsOf site R .design)
+  design : Sized (siteHazards site R .design)
   design =
       design-sized R lo hi (site .class) _ _ _ _
       (record { s-s = omega (arith, a .ssd); s-1 = omega (arith, a .s1d); n-a = a .nad; n-v = a .nvd })
 
-  mce : Sized (hazardsOf site R .mce)
+  mce : Sized (siteHazards site R .mce)
   mce =
       mce-sized R lo hi (site .class) _ _ _ _
       (record { s-s = omega (arith, a .ssm); s-1 = omega (arith, a .s1m); n-a = a .nam; n-v = a .nvm })
 
-  star : Sized (hazardsOf site R .star)
+  star : Sized (siteHazards site R .star)
   star =
       design-sized R lo hi (site .class) _ _ _ _
       (record { s-s = omega (arith, a .ssd); s-1 = omega (arith, a .s1d); n-a = omega arith; n-v = omega arith })
 
-  pub site-bounded : Bounded 1_125_000_000 (hazardsOf site R)
+  pub site-bounded : Bounded 1_125_000_000 (siteHazards site R)
   site-bounded = three-bounded _ _ _ 42 design mce star _ (omega arith) (omega arith)
 
-  pub site-reached : Reached (hazardsOf site R)
+  pub site-reached : Reached (siteHazards site R)
   site-reached = three-reached _ _ _ 42 design mce star (omega arith) (omega arith)

@@ -16,18 +16,18 @@ use Rattle.limits.specs.declared.zone.Zone.{Zone}
 use Rattle.site.specs.Basin.{basinHazards}
 use Rattle.site.specs.Capacity.{designCapacity, designSquare}
 use Rattle.site.specs.Ground.{groundHazards}
-use Rattle.site.specs.Hazards.{hazardsOf}
+use Rattle.site.specs.SiteHazards.{siteHazards}
 use Rattle.site.proofs.Rising.{a-rises, b-rises, factored-rises, a-design-most}
 use Rattle.response.specs.Period.{periodMost}
 use Rattle.response.specs.Unit.{unit}
 use Rattle.response.proofs.LargerGround.{Rooted}
 use Rattle.response.proofs.Most.{spectrum-below}
 use Rattle.response.proofs.Reached.{small, roots-ordered, unit-fine}
 use Rattle.base_shear.proofs.Ahead.{Ahead, own-hazard, larger-hazard}
-use Rattle.base_shear.proofs.Stages.{upperAt}
-use Rattle.job.proofs.BasinReached.{basin-reached}
-use Rattle.job.proofs.Ductilities.{design-ductile}
-use Rattle.job.proofs.SiteReached.{site-reached}
+use Rattle.base_shear.specs.Shears.{upperAt}
+use Rattle.base_shear.proofs.BasinReached.{basin-reached}
+use Rattle.base_shear.proofs.Ductilities.{design-ductile}
+use Rattle.base_shear.proofs.SiteReached.{site-reached}
 
 -- ---- the root of the design capacity: at most 3, and at least 0.6 of the capacity
 module _ (R : ℕ) (lo : 100 ≤ R) (hi : R ≤ 600) where
@@ -60,9 +60,9 @@ module _ (R : ℕ) (lo : 100 ≤ R) (hi : R ≤ 600) where
       }
 
 -- ---- V is ahead
-site-ahead : (s : Site) (R : ℕ) → AllowedSite s → 100 ≤ R → R ≤ 600 → (T : ℕ) → T ≤ periodMost → Ahead unit (hazardsOf s R) T
+site-ahead : (s : Site) (R : ℕ) → AllowedSite s → 100 ≤ R → R ≤ 600 → (T : ℕ) → T ≤ periodMost → Ahead unit (siteHazards s R) T
 site-ahead s R a lo hi T t =
-    let k = hazardsOf s R in
+    let k = siteHazards s R in
     let g = site-reached s R a lo hi .shearing T t in
     let h = k .star in
     let most : h .a ≤ 80_000_000 = a-design-most (s .class) (s .ssd) (a .ssd .1) in

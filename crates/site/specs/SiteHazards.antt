@@ -1,21 +1,20 @@
--- The three hazards of a site and an R, with the constants of the shears.
---   Mapped ss s1 na nv  mapped values between the least and the largest of both levels, and near-fault factors as allowed
+-- The three hazards of a site and an R.
+--   Mapped ss s1 na nv  mapped values between the least and the largest of both hazard levels, and near-fault factors as allowed
 --   accelerations c ss s1 na nv     A and B from mapped values and near-fault factors
 --   hazardOf c ss s1 na nv k q      these, with a capacity k and its square q
 --   designHazard c ss s1 na nv R    with the design capacity of R
 --   mceHazard c ss s1 na nv R       with R itself
---   lines               (8), (18): 0.3, 0.8; 0.52, 0.144; 0.7
---   hazardsOf site R    V's with the near-fault factors of the design level, V_M's with those of the MCE level, and V*'s with both taken
+--   siteHazards site R    V's with the near-fault factors of the design level, V_M's with those of the MCE level, and V*'s with both taken
 --                       as 100; the divisors 1.4 of (7), (17) and 4.2 of (19), in tenths
 use Prim.Native.Nat.{ℕ, _≤_}
 use Rattle.whole.specs.declared.Fraction.{Fraction}
 use Rattle.limits.specs.declared.class.Class.{Class}
 use Rattle.limits.specs.declared.site.Site.{Site}
 use Rattle.site.specs.declared.hazard.Hazard.{Hazard}
-use Rattle.site.specs.declared.lines.Lines.{Lines}
 use Rattle.site.specs.declared.hazard.Hazards.{Hazards}
-use Rattle.site.specs.declared.hazards.SiteAccelerations.{SiteAccelerations}
+use Rattle.site.specs.declared.site_hazards.SiteAccelerations.{SiteAccelerations}
 use Rattle.site.specs.Coefficients.{factored, accelerationA, accelerationB}
+use Rattle.site.specs.Lines.{lines}
 use Rattle.site.specs.Capacity.{designCapacity, designSquare, mceCapacity, mceSquare}
 
 pub record Mapped (ss s1 na nv : ℕ) : Type 0 where
@@ -42,11 +41,8 @@ designHazard c ss s1 na nv R = hazardOf c ss s1 na nv (designCapacity R) (design
 abbrev pub mceHazard : Class → ℕ → ℕ → ℕ → ℕ → ℕ → Hazard
 mceHazard c ss s1 na nv R = hazardOf c ss s1 na nv (mceCapacity R) (mceSquare R)
 
-abbrev pub lines : Lines
-lines = record { first = 300; second = 800; slope = 520; add = 144; last = 700 }
-
-abbrev pub hazardsOf : Site → ℕ → Hazards
-hazardsOf site R =
+abbrev pub siteHazards : Site → ℕ → Hazards
+siteHazards site R =
     record {
       design = designHazard (site .class) (site .ssd) (site .s1d) (site .nad) (site .nvd) R;
       mce = mceHazard (site .class) (site .ssm) (site .s1m) (site .nam) (site .nvm) R;

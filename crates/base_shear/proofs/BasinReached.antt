@@ -5,9 +5,9 @@ use native.Mathlib.Omega.{arith}
 use Rattle.limits.specs.declared.zone.Zone.{Zone}
 use Rattle.site.specs.Basin.{basinDesign, basinMce, basinHazards}
 use Rattle.site.proofs.Corners.{corner-bounds}
 use Rattle.base_shear.specs.Ready.{Bounded, Reached}
-use Rattle.job.proofs.Ductilities.{basin-ductile, mce-ductile}
-use Rattle.job.proofs.HazardsReached.{Sized, three-bounded, three-reached}
+use Rattle.base_shear.proofs.Ductilities.{basin-ductile, mce-ductile}
+use Rattle.base_shear.proofs.HazardsReached.{Sized, three-bounded, three-reached}
 
 module _ (z : Zone) (R : ℕ) (lo : 100 ≤ R) (hi : R ≤ 600) where
   design : Sized (basinDesign z R)
