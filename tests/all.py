@@ -1,9 +1,11 @@
-"""Runs the tests outside the gate, one after the other: papers and links, manual, pictures, header, model; then the program, the examples and
-lists that are NULL, which need `rt`, and the last two x86-64 or RUKESHOMAJI_LIBRARY, a shared library of the core for the machine at hand.
+"""Runs the tests outside the gate, one after the other: papers and links, the counts that the papers state, manual, pictures, header, model; then
+the numerals of the model, each changed by one; then the program, the examples and lists that are NULL, which need `rt`, and the last two x86-64 or
+RUKESHOMAJI_LIBRARY, a shared library of the core for the machine at hand.
 
-usage: python3 -m tests.all [quick]      quick: what needs Python alone, in less than a minute
+usage: python3 -m tests.all [quick]      quick: the shorter ones that need Python alone, in less than a minute
 
-The comparison with the model (tests/compares/compare.py) and tests/tried.sh take longer, and are run by themselves.
+The comparison with the model (tests/compares/compare.py), the wrong models (tests/compares/wrong_models.py), which need the library that it
+builds, and tests/tried.sh take longer, and are run by themselves.
 """
 
 import os
@@ -17,11 +19,13 @@ ROOT = pathlib.Path(__file__).resolve().parents[1]
 # what follows `python3 -m`, one line a check
 QUICK = (
     'tests.papers',
+    'tests.counts',
     'tests.manual',
     'tests.writes.pictures check',
     'tests.compares.header',
     'tests.compares.check_model',
 )
+LONGER = 'tests.compares.changed_numerals'
 PROGRAM = 'tests.compares.run_program'
 LINKED = ('tests.examples', 'tests.compares.null_lists')
 
@@ -29,7 +33,7 @@ LINKED = ('tests.examples', 'tests.compares.null_lists')
 def left_out():
     """The checks that cannot be run here, and why."""
     if sys.argv[1:] == ['quick']:
-        return dict.fromkeys((PROGRAM, *LINKED), 'it needs rt')
+        return {LONGER: 'it takes longer', **dict.fromkeys((PROGRAM, *LINKED), 'it needs rt')}
     here = os.environ.get('RUKESHOMAJI_LIBRARY') or platform.machine() in ('x86_64', 'AMD64')
     missing = {} if here else dict.fromkeys(LINKED, 'it needs x86-64 or RUKESHOMAJI_LIBRARY')
     return missing if shutil.which('rt') else missing | {PROGRAM: 'it needs rt'}
@@ -37,7 +41,7 @@ def left_out():
 
 def main():
     """Run each, with what it prints."""
-    failed, out, checks = [], left_out(), (*QUICK, PROGRAM, *LINKED)
+    failed, out, checks = [], left_out(), (*QUICK, LONGER, PROGRAM, *LINKED)
     for check in checks:
         print(f'{check}: ', end='', flush=True)
         if check in out:

@@ -1,4 +1,5 @@
-"""Holds README.md, CHANGELOG.md, docs/*.md and docs/manual/*.md to the repository: no link, path or name leads to what is not there.
+"""Holds README.md, CHANGELOG.md, CONTRIBUTING.md, docs/*.md, docs/manual/*.md and docs/landings/*.md to the repository: no link, path or name
+leads to what is not there.
 
 usage: python3 -m tests.papers
 
@@ -6,7 +7,9 @@ usage: python3 -m tests.papers
 - every path that is named is there: below the root, crates/, the folder that the head of its table or section names, or the folder of
   the path before it
 - every name in backticks is declared somewhere; one with `::` in its crate and module; a theorem, and what a column 'definition',
-  'theorem' or 'held by' names, in one of the files that its row or paragraph names
+  'theorem' or 'held by' names, in one of the files that its row or paragraph names. A landing note names what there was, and is held to its
+  links and paths alone
+- docs/MAP.md links every landing note
 - docs/PROMISES.md names each public function: by its name in a row or paragraph of its crate, or by `module::*`
 - docs/WRONG.md lists each must-fail edit and no other, says which of code and definition it changes, and 'tried' of those that the gate
   leaves out
@@ -68,13 +71,16 @@ NAMES = {path: declared(path) for path in [*sources(CRATES), *sources(ROOT / 'in
 ALL = set().union(*NAMES.values())
 CRATE_NAMES = {path.name for path in CRATES.iterdir()}
 FIRST = CRATE_NAMES | {'crates', 'docs', 'tests', 'examples', 'include', 'bench', '.ci', 'specs', 'proofs', 'src'}
+EDITS = {f'{path.parts[-3]}/{path.stem}' for path in CRATES.glob('*/must-fail/*.edit')}
+TRIED = {f'{path.parts[-2]}/{path.stem}' for path in (ROOT / 'tests' / 'tried').glob('*/*.edit')}
 FILES = CRATE_NAMES | {path.name for path in ROOT.iterdir()} | {path.stem for path in (ROOT / 'tests').rglob('*.py')}
 
 
 class Paper:
     """One file of text, read from the top; what is wrong with it."""
 
-    def __init__(self, path):
+    def __init__(self, path, named=True):
+        self.named = named
         self.path, self.wrong, self.counted = path, [], {'links': 0, 'paths': 0, 'names': 0}
         self.bases, self.head = [], []
 
@@ -122,7 +128,7 @@ class Paper:
                 self.say(line, f'no such heading: {target}#{heading}')
         self.modules(line, text)
         files = self.files(line, text)
-        for place, cell in enumerate(cells):
+        for place, cell in enumerate(cells if self.named else ()):
             self.names(line, cell, files, self.head[place] if place < len(self.head) else '')
 
     def modules(self, line, text):
@@ -159,6 +165,8 @@ class Paper:
             return not token.startswith('*')
         if self.path.name == 'WRONG.md':        # crate/edit is no path: `edits` looks those up
             return re.search(r'\.\w+$', token) is not None
+        if token in EDITS | TRIED:
+            return False
         return token.split('/')[0] in FIRST
 
     def names(self, line, cell, files, head):
@@ -254,9 +262,7 @@ def applied(name, crate, edit):
 def edits():
     """What docs/WRONG.md says of the must-fail edits, against those that there are."""
     text = (ROOT / 'docs' / 'WRONG.md').read_text()
-    gate = {f'{path.parts[-3]}/{path.stem}' for path in CRATES.glob('*/must-fail/*.edit')}
-    tried = {f'{path.parts[-2]}/{path.stem}' for path in (ROOT / 'tests' / 'tried').glob('*/*.edit')}
-    listed = {}
+    gate, tried, listed = EDITS, TRIED, {}
     for row in text.split('\n'):
         if not row.startswith('|'):
             continue
@@ -279,13 +285,23 @@ def edits():
         yield f'docs/WRONG.md: does not list {name}'
 
 
+def unlinked(notes):
+    """Landing notes that docs/MAP.md does not link; one of figures is linked by the note that it belongs to."""
+    linked = LINK.findall((ROOT / 'docs' / 'MAP.md').read_text())
+    for note in notes:
+        if f'landings/{note.name}' not in linked and not note.stem.endswith('-figures'):
+            yield f'docs/MAP.md: no link to landings/{note.name}'
+
+
 def main():
     """Check all, say what is wrong."""
     docs = ROOT / 'docs'
-    papers = [Paper(path) for path in [ROOT / 'README.md', ROOT / 'CHANGELOG.md', ROOT / 'CONTRIBUTING.md', *sorted(docs.glob('*.md')), *sorted(docs.glob('manual/*.md'))]]
+    notes = sorted(docs.glob('landings/*.md'))
+    named = [*(ROOT / f'{name}.md' for name in ('README', 'CHANGELOG', 'CONTRIBUTING')), *sorted(docs.glob('*.md')), *sorted(docs.glob('manual/*.md'))]
+    papers = [*map(Paper, named), *(Paper(path, named=False) for path in notes)]
     for paper in papers:
         paper.check()
-    wrong = [each for paper in papers for each in paper.wrong] + [*functions(), *edits()]
+    wrong = [each for paper in papers for each in paper.wrong] + [*functions(), *edits(), *unlinked(notes)]
     print(*wrong, sep='\n', end='\n' if wrong else '')
     counts = {key: sum(paper.counted[key] for paper in papers) for key in papers[0].counted}
     print(', '.join(f'{count} {key}' for key, count in counts.items()) + f', {len(wrong)} wrong')
