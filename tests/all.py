@@ -1,6 +1,6 @@
-"""Runs the tests outside the gate, one after the other: papers and links, the counts that the papers state, manual, pictures, header, model; then
-the numerals of the model, each changed by one; then the program, the examples and lists that are NULL, which need `rt`, and the last two x86-64 or
-RUKESHOMAJI_LIBRARY, a shared library of the core for the machine at hand.
+"""Runs the tests outside the gate, one after the other: papers and links, the counts that the papers state, manual, pictures, header, stored cases,
+model; then the numerals of the model, each changed by one; then the program, the examples and lists that are NULL, which need `rt`, and the last two
+x86-64 or RUKESHOMAJI_LIBRARY, a shared library of the core for the machine at hand.
 
 usage: python3 -m tests.all [quick]      quick: the shorter ones that need Python alone, in less than a minute
 
@@ -23,6 +23,7 @@ QUICK = (
     'tests.manual',
     'tests.writes.pictures check',
     'tests.compares.header',
+    'tests.stored',
     'tests.compares.check_model',
 )
 LONGER = 'tests.compares.changed_numerals'

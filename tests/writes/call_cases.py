@@ -146,7 +146,7 @@ def twice_wrong(case, one, other):
 
 
 def shear_pairs():
-    """Every ordered pair of refusals at once, and every two places of 5 and of 6; in the Basin those with its zone."""
+    """Every ordered pair of the numbers of WRONG at once, and every two places of 5 and of 6; in the Basin those with its zone."""
     near, basin = WORKED._replace(ground=NEAR), WORKED._replace(ground=limits.Basin(2))
     yield from (twice_wrong(near, one, other) for one, other in itertools.permutations(WRONG.values(), 2))
     for low, high in ((0, 4), (4, 8)):
@@ -156,6 +156,42 @@ def shear_pairs():
         if number not in (5, 6, 7):
             yield from (twice_wrong(basin, wrong, WRONG_ZONE), twice_wrong(basin, WRONG_ZONE, wrong))
     yield from (twice_wrong(basin, WRONG[3], WRONG[4]), Shear((0,) * LINE, (0,) * 5, 0, 0), Shear((LARGEST,) * LINE, (LARGEST,) * 5, 1, 1))
+
+
+# the same of every mapped value and every near-fault factor, by number and place
+BY_PLACE = {(number, place): ('ground', first + place - 1, allowed[0] - 1, allowed[-1] + 1) for number, first in ((5, 0), (6, 4))
+            for place, allowed in enumerate(faults.LIMITS['site'][first:first + 4], 1)}
+
+
+def both_ways(case, one, other):
+    """The first number too low and the second too high, then the other way about."""
+    return twice_wrong(case, one, other), twice_wrong(case, other, one)
+
+
+def shear_pairs_by_place():
+    """Each mapped value and each near-fault factor with each number of WRONG that has another refusal, and with each other; in a right zone
+    of the Basin every two that are not of the ground."""
+    near, basin = WORKED._replace(ground=NEAR), WORKED._replace(ground=limits.Basin(2))
+    for (number, _), wrong in BY_PLACE.items():
+        if wrong[:2] != WRONG[number][:2]:
+            yield from itertools.chain(*(both_ways(near, wrong, WRONG[other]) for other in WRONG if other != number))
+    for mapped, factor in itertools.product((1, 2, 3), (1, 2, 4)):
+        yield from both_ways(near, BY_PLACE[5, mapped], BY_PLACE[6, factor])
+    in_basin = [wrong for number, wrong in WRONG.items() if number not in (5, 6, 7)]
+    yield from itertools.chain(*(both_ways(basin, *pair) for pair in itertools.combinations(in_basin, 2)))
+
+
+def within_limits():
+    """Refused values between listed ones, on a site; in the Basin both sides of every number of the frame."""
+    near, basin = WORKED._replace(ground=NEAR), WORKED._replace(ground=limits.Basin(3))
+    for (part, place), allowed in call_faults.numbers_of(NEAR):
+        if not isinstance(allowed, range):
+            between = {value + step for value in allowed for step in (-1, 1)} - {*allowed, allowed[0] - 1, allowed[-1] + 1}
+            yield from (call_faults.with_change(near, part, place, value) for value in sorted(between))
+    for place, allowed in enumerate(faults.LIMITS['frame']):
+        listed = (allowed[0], allowed[-1]) if isinstance(allowed, range) else allowed
+        values = {value + step for value in listed for step in (-1, 0, 1) if value + step >= 0}
+        yield from (call_faults.with_change(basin, 'frame', place, value) for value in sorted(values))
 
 
 def every_shear_at_every_period():
@@ -196,7 +232,8 @@ def level_cases():
 
 
 def distribution_pairs():
-    """Every ordered pair of refusals at once: 1, 2 by a list and by a buffer, 3, 4, 19, 20."""
+    """Every ordered pair of refusals at once: 1, 2 by a list and by a buffer, 3, 4, 19, 20. With 1 the lists are unequal, and where there is no
+    level there is no bad weight."""
     wrong = {
         1: (('weights', None, []), ('weights', None, [5] * 51)), 2: (('heights', None, [10]), ('heights', None, [10, 23, 31, 40])),
         '2, a buffer': (('buffers', 0, 0), ('buffers', 2, 2)),
@@ -205,6 +242,17 @@ def distribution_pairs():
     }
     yield from (call_faults.both(SMALL, wrong[one][0], wrong[other][1]) for one, other in itertools.permutations(wrong, 2))
     yield SMALL._replace(base_shear=0, period=10_000, weights=[0] * 3, heights=[0] * 3, buffers=(2, 2, 2))
+
+
+def distribution_two_wrong():
+    """No level and 51 levels, each with nothing else wrong but one of the later refusals."""
+    over = tower(51)
+    none = over._replace(weights=[], heights=[])
+    for case in (none, over):
+        yield from (case._replace(base_shear=value) for value in (0, 1_200_000_001))
+        yield from (case._replace(period=value) for value in (10_000, LARGEST))
+    yield from (over._replace(weights=faults.put(over.weights, level, value)) for level, value in ((0, 0), (50, 20_001)))
+    yield from (over._replace(heights=faults.put(over.heights, level, value)) for level, value in ((0, 0), (50, 2_001)))
 
 
 def drawn_cases():
@@ -261,7 +309,8 @@ def move_cases():
 def all_cases():
     """Every case, in the order of the file."""
     return [*worked_cases(), *shear_limits(), *shear_pairs(), *every_shear_at_every_period(), *handed_in_limits(), *list_cases(),
-            *level_cases(), *distribution_pairs(), *drawn_cases(), *tower_cases(), *move_cases()]
+            *level_cases(), *distribution_pairs(), *drawn_cases(), *tower_cases(), *move_cases(), *shear_pairs_by_place(), *within_limits(),
+            *distribution_two_wrong()]
 
 
 def stored(cases):

@@ -190,6 +190,30 @@ def wrong_pair_cases():
         yield from (bad._replace(frame=put(WORKED.frame, (each, 61_000))) for each in range(5))
 
 
+ONE = Case((50, 30, 70, 40, 100, 100, 100, 100, 1), (1, 0, 100, 100, 100), [5], [9], (1, 1, 1))
+FRAME_WRONG = ((2, 601), (3, 99), (4, 201), (0, 5), (1, 60_001))      # refusals 8 to 12: place and number
+NO_LEVEL, NO_ROOM = ONE._replace(weights=[], heights=[]), ONE._replace(buffers=(1, 1, 0))
+
+
+def two_wrong_cases():
+    """Two refusals and no other, by jobs of one level: the class and a mapped value with each number of the frame; each near-fault factor, a
+    mapped value and the class with no level and with a buffer that is too short. There is no room for more."""
+    for place, wrong in enumerate(FRAME_WRONG):
+        frame = put(ONE.frame, wrong)
+        yield from (ONE._replace(ground=put(ONE.ground, each), frame=frame) for each in ((8, 4), (place % 4, 99)))
+    for change in (*((place, 99) for place in FACTORS), (0, 49), (8, 0)):
+        yield from (case._replace(ground=put(ONE.ground, change)) for case in (NO_LEVEL, NO_ROOM))
+
+
+def more_basin_cases():
+    """In the Basin 2 by the lists, 3 and 4 at the first level and at the second of three; a wrong zone with a wrong number of the frame alone."""
+    one = ONE._replace(ground=limits.Basin(4))
+    three = one._replace(weights=[5, 6, 7], heights=[7, 8, 9], buffers=(3, 3, 3))
+    yield from (one._replace(heights=[]), one._replace(weights=[0]), one._replace(heights=[0]))
+    yield from (three._replace(weights=[5, 0, 7]), three._replace(heights=[7, 7, 9]))
+    yield from (one._replace(ground=limits.Basin(0), frame=put(ONE.frame, wrong)) for wrong in FRAME_WRONG)
+
+
 def drawn_pair_cases():
     """A job of every stratum of two pairs, its two highest levels, all where the stratum is about levels; buffers as long as the lists."""
     rng = random.Random(SEED)
@@ -202,7 +226,7 @@ def drawn_pair_cases():
 def main():
     """Write both files, and say how many cases there are."""
     cases = [*buffer_cases(), *list_cases(), *wrong_cases(), *order_cases(), *drawn_cases(), *basin_cases(), *drawn_basin_cases(),
-             *pair_cases(), *wrong_pair_cases(), *drawn_pair_cases()]
+             *pair_cases(), *wrong_pair_cases(), *drawn_pair_cases(), *two_wrong_cases(), *more_basin_cases()]
     lines = [str(len(cases)), *(' '.join(map(str, case.row())) for case in cases)]
     text = '\n'.join(lines) + '\n'
     assert len(text) <= MOST_BYTES, len(text)

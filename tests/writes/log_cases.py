@@ -80,7 +80,7 @@ def thickness_cases():
 
 
 def layer_cases():
-    """Unknown kinds, and both sides of each range of values, at the first, middle and last layer."""
+    """Unknown kinds and soft clay with the value of a velocity, and both sides of each range of values, at the first, middle and last layer."""
     for layer in (1, 3, 5):
         yield from ((plain(5), [at('kind', layer, kind)]) for kind in (0, 4, 5, MOST))
         for kind, allowed in soil.VALUE.items():
@@ -98,6 +98,70 @@ def pair_cases():
     """Every ordered pair of refusals at once, the first at layer 2, the second at layer 4."""
     for first, second in itertools.permutations(WRONG, 2):
         yield plain(41 if '13' in (first, second) else 5), WRONG[first](2) + WRONG[second](4)
+
+
+UNKNOWN = (0, 5, 2**16 + soil.SOFT_CLAY, 2**32 + soil.SOFT_CLAY, MOST)     # kinds that there are none of
+FIVE_OF_750 = plain(5, thickness=750)       # without one of its layers it is as thick as a log must be
+
+
+def soft_clay(layer, q=100):
+    """A layer of soft clay."""
+    return [at('kind', layer, soil.SOFT_CLAY), at('value', layer, q)]
+
+
+def unknown_kind_cases():
+    """Unknown kinds with each value that soft clay may have at its ends and between, and soft clay with q whose low bits are allowed, at the
+    first, middle and last layer."""
+    for layer in (1, 3, 5):
+        yield from ((plain(5), [at('kind', layer, kind), at('value', layer, q)]) for kind in UNKNOWN for q in (1, 100, 400))
+        yield from ((plain(5), soft_clay(layer, 1 + step)) for step in (2**16, 2**32, 2**63))
+
+
+def soft_clay_cases():
+    """Soft clay with q in range beside each other refusal, before it and behind it; several layers of it, and beside kinds 2 and 3."""
+    wrong_layer = [*(('kind', kind) for kind in (*UNKNOWN, soil.COHESIVE, soil.COHESIONLESS)), ('value', 499), ('value', 30_001)]
+    for layer, other in ((2, 4), (4, 2)):
+        good = soft_clay(layer)
+        yield from ((plain(5), good + [at(name, other, value)]) for name, value in wrong_layer)
+        yield from ((plain(5), good + [count(name, value)]) for name in COUNTS for value in (4, 6))
+        yield plain(41), good + [at('thickness', 41, 80)]
+        yield FIVE_OF_750, good + [at('thickness', other, 0)]
+        yield from ((plain(5), good + [at('thickness', other, value)]) for value in (0, 599, 601))
+    for q in (1, 100, 400):
+        yield plain(2, q), [at('kind', layer, soil.SOFT_CLAY) for layer in (1, 2)]
+        yield plain(3, q), [at('kind', layer, soil.SOFT_CLAY) for layer in (1, 2, 3)]
+    for layer, q in itertools.product((1, 2), (0, 401)):
+        yield plain(2, 400), [at('kind', 1, soil.SOFT_CLAY), at('kind', 2, soil.SOFT_CLAY), at('value', layer, q)]
+    by_number = soil.COHESIVE, soil.COHESIONLESS
+    yield from ((plain(2, 20), [at('kind', layer, soil.SOFT_CLAY), at('kind', 3 - layer, kind)]) for kind in by_number for layer in (1, 2))
+    for kinds in itertools.permutations((soil.SOFT_CLAY, *by_number)):
+        yield plain(3, 20), [at('kind', layer, kind) for layer, kind in enumerate(kinds, 1)]
+
+
+def place_cases():
+    """14 at a layer and 15 by kind and by value at the first, a middle and the last of 40 layers; the thinnest layer that is taken."""
+    for layer in (1, 20, 40):
+        beside = layer % 40 + 1
+        yield plain(40), [at('thickness', layer, 0), at('thickness', beside, 150)]
+        yield from ((plain(40), [change]) for change in (at('kind', layer, 5), at('value', layer, 499), at('value', layer, 30_001)))
+        yield plain(40), [at('thickness', layer, 1), at('thickness', beside, 149)]
+
+
+def two_wrong_cases():
+    """Two refusals and no other: each two of 2, over 40 layers, 14 at a layer and at 0, 15 by kind and by value; each twice that has a layer."""
+    bad = [[at('kind', 4, 0)], [at('value', 4, 499)]]
+    whole = at('thickness', 41, 80)         # with it 41 layers are 3,000 cm
+    yield plain(41), [whole, count('values', 40)]
+    yield plain(41, thickness=75), [at('thickness', 3, 0)]
+    yield from ((plain(41), [whole, *each]) for each in bad)
+    yield from ((plain(5), [count('thicknesses', 4), *each]) for each in bad)
+    yield from ((plain(5), [count(name, 4), *each]) for name in ('kinds', 'values') for each in bad)
+    yield from ((FIVE_OF_750, [at('thickness', layer, 0), *each]) for layer in (2, 4, 5) for each in bad)
+    yield from ((plain(5), [at('thickness', layer, 599), *each]) for layer in (2, 5) for each in bad)
+    yield plain(5, thickness=1_000), [at('thickness', 2, 0), at('thickness', 4, 0)]
+    for name, value in (('kind', 0), ('kind', MOST), ('value', 499), ('value', 30_001)):
+        yield plain(5), [at(name, 2, value), at(name, 4, value)]
+    yield from ((plain(5), [at('kind', layer, 5), at('value', 6 - layer, 499)]) for layer in (2, 4))
 
 
 def said(field, value):
@@ -132,7 +196,8 @@ def velocity(kind, value):
 
 def all_cases():
     """Every log: a plain one and its changes."""
-    return [*class_cases(), *count_cases(), *thickness_cases(), *layer_cases(), *pair_cases()]
+    return [*class_cases(), *count_cases(), *thickness_cases(), *layer_cases(), *pair_cases(), *unknown_kind_cases(), *soft_clay_cases(),
+            *place_cases(), *two_wrong_cases()]
 
 
 def values():

@@ -100,7 +100,8 @@ def elsewhere():
 
 
 def several():
-    """A bad factor of MCE with another refusal: 17, 16 and 1 to 5 come first, 7 to 12 after it."""
+    """N_A of MCE out of range with another refusal: 16, 1, 3 and 4 come first, 8 to 12 after it. Each factor with each other refusal
+    alone: tests/writes/refusal_sheets.py."""
     bad, bad_frame = put(6, b'99'), b'frame\t5\t60001\t99\t99\t99\n'
     yield 'bad_and_frame', bad + bad_frame + LEVEL
     yield 'bad_and_period', bad + FRAME_LINE.replace(b'1000', b'60001') + LEVEL

@@ -75,7 +75,8 @@ WRONG = {1: (FIELD['weights'], 0), 2: (FIELD['room'], 1), 3: (WEIGHTS + 1, 0), 4
 
 
 def pair_cases():
-    """Every ordered pair of refusals 1 to 12 at once: the one that comes first is given."""
+    """Every ordered pair of refusals 1 to 12 at once, each by one change: the one that comes first is given. 1 is no weight, so that the lists
+    are unequal and no weight is bad. 5 and 6 at two places."""
     yield from ([WRONG[first], WRONG[second]] for first in WRONG for second in WRONG if first != second)
     yield from ([(FIELD[a], 0), (FIELD[b], 0)] for a, b in zip(MAPPED, MAPPED[1:]))
     yield [(FIELD['N_A'], 99), (FIELD['N_V'], 99)]
@@ -86,8 +87,8 @@ WRONG_ZONE = (FIELD['zone'], 5)
 
 
 def basin_cases():
-    """The job in the Basin: both sides of the zone and of every number of the frame, counts and room, every ordered pair of refusals. A site's
-    numbers play no part there, nor a zone on a site."""
+    """The job in the Basin: both sides of the zone and of every number of the frame, counts and room, every ordered pair of refusals, each by
+    one change. A site's numbers play no part there, nor a zone on a site."""
     yield from ([BASIN, (FIELD['zone'], value)] for value in (*both_sides(limits.ZONE), 2**16 + 1, 2**32 + 1, 2**63 + 1))
     for name, allowed in FRAME_RANGES.items():
         yield from ([BASIN, (FIELD[name], value)] for value in both_sides(allowed))
@@ -125,6 +126,44 @@ def two_pair_cases():
         yield [BASIN, WRONG_ZONE, (FIELD[name], 99)]
 
 
+# numbers that are judged after the lists, by a change that is refused, in the order of the refusals: on a site, in the Basin
+MAPPED_WRONG = [(FIELD[name], SITE_RANGES[name][0] - 1) for name in MAPPED]
+FACTORS_WRONG = [(FIELD[name], 99) for name in FACTOR_RANGES]
+FRAME_WRONG = [WRONG[number] for number in range(8, 13)]
+ON_SITE = [WRONG[3], WRONG[4], *MAPPED_WRONG, *FACTORS_WRONG, WRONG[7], *FRAME_WRONG]
+IN_BASIN = [WRONG[3], WRONG[4], WRONG_ZONE, *FRAME_WRONG]
+NO_LEVEL, UNEQUAL = levels(0)[:2], [[(FIELD['heights'], count)] for count in (4, 6)]
+
+
+def list_pair_cases():
+    """Two refusals of which one is of the lists: no level, 51 levels or lists of unequal length, and a number that is judged after them. With
+    51 levels in the Basin the room is too small, as there are no more than four changes."""
+    for basin, judged in (([], ON_SITE), ([BASIN], IN_BASIN)):
+        over = levels(51)[:2 if basin else 3]
+        yield from (basin + over + [wrong] for wrong in judged)
+        yield from (basin + unequal + [wrong] for unequal in UNEQUAL for wrong in judged)
+        yield from (basin + NO_LEVEL + [wrong] for wrong in judged[2:])
+        yield basin + [(FIELD['weights'], 51), (FIELD['room'], 51)]
+        yield basin + levels(51)[:2]
+    yield levels(51)[:2] + [(FIELD['room'], 50)]
+
+
+def place_pair_cases():
+    """5 at places 1 to 3 and 6 at place 1, each with room that is too small and with every other number of the job."""
+    for wrong in (*MAPPED_WRONG[:3], FACTORS_WRONG[0]):
+        yield from ([each, wrong] for each in (WRONG[2], *ON_SITE) if each != wrong)
+
+
+def more_level_cases():
+    """The class, the kinds and the zones that have no limit beside them; in the Basin both sides of weight and height, and two bad weights."""
+    yield from ([(FIELD[name], value)] for name, value in (('class', 2), ('kind', 3)))
+    yield from ([BASIN, (FIELD[name], value)] for name, value in (('kind', 3), ('zone', 2), ('zone', 3)))
+    for level in (0, 2, 4):
+        yield from ([BASIN, (WEIGHTS + level, value)] for value in both_sides(limits.WEIGHT))
+        yield from ([BASIN, (HEIGHTS + level, value)] for value in (*both_sides(limits.HEIGHT), 38 * level, 38 * level + 1))
+    yield from ([BASIN, (base + 1, 0), (base + 3, 0)] for base in (WEIGHTS, HEIGHTS))
+
+
 def said(field, value):
     """A change as the program writes it."""
     if field < len(NAMES):
@@ -133,20 +172,25 @@ def said(field, value):
     return f'{name:8}{field - first + 1}: {value}; '
 
 
-def outcome(changes):
-    """What the model says of the good job so changed."""
-    job = {**GOOD, **dict(changes)}
+def inputs(job):
+    """Ground, frame, weights, heights and lengths of buffers of a job by its fields."""
     weights, heights = ([job[first + i] for i in range(min(job[FIELD[name]], LISTED))]
                         for name, first in (('weights', WEIGHTS), ('heights', HEIGHTS)))
     site, frame = (tuple(job[FIELD[name]] for name in names) for names in (SITE, FRAME))
     ground = limits.Basin(job[FIELD['zone']]) if job[FIELD['ground']] == BASIN_GROUND else site
-    refusal = limits.judge(ground, frame, weights, heights, (job[FIELD['room']],))
+    return ground, frame, weights, heights, (job[FIELD['room']],)
+
+
+def outcome(changes):
+    """What the model says of the good job so changed."""
+    refusal = limits.judge(*inputs({**GOOD, **dict(changes)}))
     return 'taken' if refusal is None else 'refused {} at {}'.format(*refusal)
 
 
 def all_cases():
     """Every list of changes to the good job."""
-    return [*number_cases(), *level_cases(), *pair_cases(), *basin_cases(), *two_pair_cases()]
+    return [*number_cases(), *level_cases(), *pair_cases(), *basin_cases(), *two_pair_cases(), *list_pair_cases(), *place_pair_cases(),
+            *more_level_cases()]
 
 
 def main():

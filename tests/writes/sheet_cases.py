@@ -11,6 +11,7 @@ from tests.draws.sample import all_strata, draw_in
 from tests.model import sheet
 from tests.writes.basin_sheets import basin_sheets
 from tests.writes.pair_sheets import pair_sheets
+from tests.writes.refusal_sheets import refusal_sheets
 from tests.writes.roof_sheets import roof_sheets
 
 HERE = pathlib.Path(__file__).resolve().parents[2] / 'crates' / 'run_sheets'
@@ -137,7 +138,7 @@ def random_bytes():
 def main():
     """Write the sheets, their names and their listings."""
     cases = [('worked', WORKED), *drawn(), *counted(), *laid_out_otherwise(), *long_sheets(), *damaged(), *random_bytes(), *basin_sheets(),
-             *pair_sheets(), *roof_sheets()]
+             *pair_sheets(), *roof_sheets(), *refusal_sheets()]
     assert len({name for name, _ in cases}) == len(cases)
     shutil.rmtree(HERE / 'data', ignore_errors=True)
     (HERE / 'data').mkdir()
