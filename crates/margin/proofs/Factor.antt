@@ -19,10 +19,10 @@ use Rattle.response.proofs.Exact.{mean-rises, exact-factor-positive, exact-fact
 use Rattle.response.proofs.Mean.{Weights, total, mean, weights}
 use Rattle.response.proofs.Reached.{small}
 use Rattle.base_shear.specs.Ready.{Ready}
-use Rattle.base_shear.proofs.Stages.{lowerAt, upperAt}
 use Rattle.margin.specs.Roots.{High, Low}
 use Rattle.margin.proofs.Offsets.{Over, Short, over-same, short-same}
 use Rattle.margin.proofs.Root.{lower-below-high, low-below-upper, low-near-lower, upper-near-high}
+use Rattle.base_shear.specs.Shears.{lowerAt, upperAt}
 
 -- ---- a mean at the root k/s, rounded to f, beside the mean at the root r
 module _ (s k f : ℕ) (w : Weights) (r c : Fraction) (pr : 0 < r .den) where

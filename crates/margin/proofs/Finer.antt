@@ -16,8 +16,7 @@ use Rattle.response.specs.Unit.{unit}
 use Rattle.response.proofs.Reached.{small}
 use Rattle.response.proofs.Spectra.{left-positive}
 use Rattle.base_shear.specs.Ready.{Ready, Shearing, Reached}
-use Rattle.base_shear.specs.Shears.{shear, star, base}
-use Rattle.base_shear.proofs.Stages.{lowerAt, upperAt}
+use Rattle.base_shear.specs.Shears.{shear, star, base, lowerAt, upperAt}
 use Rattle.storeys.specs.Storeys.{weightHeight, shearUnder}
 use Rattle.storeys.proofs.Roof.{roof-at-most-one}
 use Rattle.margin.proofs.FinerStages.{spectrum-finer, lower-factor-finer, upper-factor-finer, lower-factor-some, ratio-finer, modified-finer, blended-finer, newtons-finer}

@@ -16,8 +16,8 @@ use Rattle.response.specs.Reach.{Meeting}
 use Rattle.response.proofs.Most.{spectrum-positive, spectrum-within}
 use Rattle.base_shear.specs.Exact.{exactShear, exactStar}
 use Rattle.base_shear.specs.Ready.{Ready, Shearing}
-use Rattle.base_shear.specs.Shears.{shear, star}
-use Rattle.base_shear.proofs.Stages.{spectrumAt, lowerAt, upperAt, lower-least, lower-some}
+use Rattle.base_shear.specs.Shears.{shear, star, spectrumAt, lowerAt, upperAt}
+use Rattle.base_shear.proofs.LowerSome.{lower-least, lower-some}
 use Rattle.margin.specs.Demand3.{Number, AtLeast, LessBy, marginOf}
 use Rattle.margin.specs.Roots.{High, Low}
 use Rattle.margin.proofs.Bound.{newtons-above, newtons-over}
