@@ -65,11 +65,11 @@ def jobs():
 
 
 def sheets():
-    """Sheets of `run_sheets`, of the Basin, of the pairs, of the roof force, refused."""
+    """Sheets of `run_sheets`, of the Basin, of the pairs, of the roof force, of two refusals and of limits, refused."""
     names = lines('run_sheets', 'data/names')
     stored = [path.name for path in (CRATES / 'run_sheets' / 'data').iterdir() if path.name != 'names']
     assert sorted(names) == sorted(stored), 'run_sheets/data/names: does not list the sheets'
-    return len(names), *(sum(name.startswith(first) for name in names) for first in ('basin_', 'pairs_', 'roof_')), refused('run_sheets')
+    return len(names), *(sum(name.startswith(first) for name in names) for first in ('basin_', 'pairs_', 'roof_', ('two_', 'beside_'))), refused('run_sheets')
 
 
 def changed_jobs():
@@ -136,7 +136,7 @@ def statements():
     sheet, changed, call, log, vector = sheets(), changed_jobs(), calls(), logs(), vectors()
     passed, tried, checks = gate()
     yield 'docs/MAP.md', r'`run_jobs` \(N job calls, N in the Taipei Basin, N with two pairs', (job, in_basin, with_pairs)
-    yield 'docs/MAP.md', r'`run_sheets` \(N sheets, N of the Basin, N of the pairs, N of the roof force, N of all refused\)', sheet
+    yield 'docs/MAP.md', r'`run_sheets` \(N sheets, N of the Basin, N of the pairs, N of the roof force, N of two refusals and of limits, N of all refused\)', sheet
     yield 'docs/MAP.md', r'`run_refusals` \(N changed jobs, N in the Basin, N with two pairs\)', changed
     yield 'docs/MAP.md', r'`run_calls` \(N calls: N shear calls, N distributions with every cell of their buffers; N refused\)', call
     yield 'docs/MAP.md', r'`run_logs` \(N soil logs, every blow count from 0 to N and every q from 0 to N\)', log
@@ -144,7 +144,7 @@ def statements():
     yield 'docs/PROMISES.md', r'N jobs of the independent model, N of them in the Taipei Basin and N with two pairs of [^,]+, N of all', vector[:4]
     yield ('docs/PROMISES.md', r'`run_jobs` \(N calls with all cells of their buffers, N of them refused; N in the Basin, N with two pairs\)',
            (job, job_refused, in_basin, with_pairs))
-    yield ('docs/PROMISES.md', r'`run_sheets` \(N sheets, N of them refused; N of the Basin, N of the pairs, N of the roof force\)',
+    yield ('docs/PROMISES.md', r'`run_sheets` \(N sheets, N of them refused; N of the Basin, N of the pairs, N of the roof force, N of two refusals and of limits\)',
            (sheet[0], sheet[-1], *sheet[1:-1]))
     yield 'docs/PROMISES.md', r'`run_refusals` \(N changed jobs, N in the Basin, N with two pairs\)', changed
     yield 'docs/PROMISES.md', r'`run_calls` \(N calls, N of them shear calls and N distributions with all cells of their buffers, N refused\)', call
@@ -152,8 +152,8 @@ def statements():
     yield ('docs/LIMITS.md', r'agree with N jobs of an independent model, N of them in the Basin, N with two pairs of [^|]+? and N of all',
            vector[:4])
     yield 'docs/MEASURED.md', r'`\.ci/run` in a fresh clone, [^.]*? N passed', (passed,)
-    yield ('docs/MEASURED.md', r'It runs N stored jobs, N changed jobs, N sheets and N calls of the shear call and the distribution, and computes N',
-           (job, changed[0], sheet[0], call[0], vector[0]))
+    yield ('docs/MEASURED.md', r'It runs N stored jobs, N changed jobs, N sheets, N calls of the shear call and the distribution and N soil logs, and computes N',
+           (job, changed[0], sheet[0], call[0], log[0], vector[0]))
     yield 'docs/MEASURED.md', r'check_model` makes N checks of the model', (checks,)
     yield 'docs/MEASURED.md', r'`tests/tried\.sh` tries N more edits', (tried,)
     yield 'docs/DECISIONS.md', r'the N jobs of the model are compared by a computed statement', (vector[0],)

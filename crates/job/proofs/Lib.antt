@@ -18,6 +18,7 @@ pub mod Storeys
 pub mod Demand3
 pub mod Results
 pub mod NearFault
+pub mod WorkedSheet
 pub mod Worked
 pub mod WorkedBasin
 pub mod WorkedNearFault

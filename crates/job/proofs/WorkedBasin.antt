@@ -3,7 +3,7 @@
 --   resulted ..    V, V_M, V* and V_D at T = 1,000 ms; forces, shears and overturning moments, lowest level first
 -- Assumes nothing.
 use mathlib.Core.Path.{_≡_, refl}
-use mathlib.Core.List.{List, [], _∷_}
+use mathlib.Core.List.{[], _∷_}
 use Prim.Native.Nat.{ℕ}
 use Rattle.whole.specs.Cells.{cells, sum}
 use Rattle.whole.specs.Root.{lowerRoot, upperRoot}
@@ -14,7 +14,7 @@ use Rattle.limits.specs.Kind.{judgedKind}
 use Rattle.limits.specs.Frame.{judgedPeriod, judgedFrame}
 use Rattle.limits.specs.Judging.{judgedJob}
 use Rattle.limits.specs.Levels.{weighed, raised, judgedLevels}
-use Rattle.limits.specs.Outcome.{Outcome, accepted}
+use Rattle.limits.specs.Outcome.{Outcome}
 use Rattle.limits.specs.Ranges.{inRange, among, within, listed}
 use Rattle.limits.specs.declared.ground.GroundValues.the-variants.{Basin}
 use Rattle.limits.specs.Zone.{judgedZone}
@@ -25,28 +25,18 @@ use Rattle.response.specs.Spectrum.{exactSpectrum, spectrum}
 use Rattle.base_shear.specs.Shears.{newtons, shear, star, base, figuresAt}
 use Rattle.storeys.specs.Storeys.{weightHeight, about}
 use Rattle.job.specs.Job.{Results, jobOf}
+use Rattle.job.proofs.WorkedSheet.{frame, weights, heights, figures, resulted}
 
 abbrev inZone : ℕ → Outcome Results
-inZone z =
-    jobOf (Basin z) (record { kind = 2; calculated = 1000; r = 480; i = 100; alpha = 150 }) (5000 ∷ 5000 ∷ 5000 ∷ [])
-    (100 ∷ 200 ∷ 300 ∷ []) 3
+inZone z = jobOf (Basin z) (frame 1000 480) weights heights 3
 
-abbrev resulted : ℕ → ℕ → ℕ → ℕ → List ℕ → List ℕ → List ℕ → Outcome Results
-resulted v vm star vd fs us os =
-    accepted (record {
-      figures = record { v = v; vm = vm; star = star; vd = vd; t = 1000 };
-      forces = fs;
-      shears = us;
-      overturnings = os;
-    })
-
-pub worked-basin : (inZone 1 ≡ resulted 1_917_367 1_873_973 1_714_286 1_917_367 (297_191 ∷ 594_384 ∷ 1_025_792 ∷ [])
+pub worked-basin : (inZone 1 ≡ resulted (figures 1_917_367 1_873_973 1_714_286 1_917_367 1000) (297_191 ∷ 594_384 ∷ 1_025_792 ∷ [])
     (1_917_367 ∷ 1_620_176 ∷ 1_025_792 ∷ []) (456_333_500 ∷ 264_596_800 ∷ 102_579_200 ∷ []))
-    × (inZone 2 ≡ resulted 1_720_550 1_535_010 1_714_286 1_720_550 (266_685 ∷ 533_370 ∷ 920_495 ∷ [])
+    × (inZone 2 ≡ resulted (figures 1_720_550 1_535_010 1_714_286 1_720_550 1000) (266_685 ∷ 533_370 ∷ 920_495 ∷ [])
     (1_720_550 ∷ 1_453_865 ∷ 920_495 ∷ []) (409_491_000 ∷ 237_436_000 ∷ 92_049_500 ∷ []))
-    × (inZone 3 ≡ resulted 1_522_143 1_248_292 1_714_286 1_714_286 (265_714 ∷ 531_428 ∷ 917_144 ∷ [])
+    × (inZone 3 ≡ resulted (figures 1_522_143 1_248_292 1_714_286 1_714_286 1000) (265_714 ∷ 531_428 ∷ 917_144 ∷ [])
     (1_714_286 ∷ 1_448_572 ∷ 917_144 ∷ []) (408_000_200 ∷ 236_571_600 ∷ 91_714_400 ∷ []))
-    × (inZone 4 ≡ resulted 1_256_158 1_011_905 1_457_143 1_457_143 (225_857 ∷ 451_714 ∷ 779_572 ∷ [])
+    × (inZone 4 ≡ resulted (figures 1_256_158 1_011_905 1_457_143 1_457_143 1000) (225_857 ∷ 451_714 ∷ 779_572 ∷ [])
     (1_457_143 ∷ 1_231_286 ∷ 779_572 ∷ []) (346_800_100 ∷ 201_085_800 ∷ 77_957_200 ∷ []))
 unfolding jobOf judgedJob judgedLevels weighed raised within inRange among listed judgedZone judgedFrame judgedKind
     judgedPeriod cells sum lowerRoot upperRoot up down largest smallest bitsFrom factor lowerFactor upperFactor approximate

@@ -35,7 +35,7 @@ use Rattle.job.specs.Job.{Results, jobOf}
 use Rattle.job.specs.Moves.{withR, withWeight}
 use Rattle.job.specs.ShearCall.{shearCallOf, Sheared}
 use Rattle.job.proofs.Worked.{worked}
-use Rattle.job.proofs.WorkedStar.{plain, frame, weights, heights, figures}
+use Rattle.job.proofs.WorkedSheet.{plain, frame, weights, heights, figures}
 
 -- ---- what is answered with no calculated period, 30 and 35 m high: T is 897 and 1,007 ms
 abbrev of30 : Figures

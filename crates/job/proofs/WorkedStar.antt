@@ -2,7 +2,7 @@
 -- fall. Where V* is the largest V_D stays, so a larger R does not always lower it. The definition, computed.
 -- Assumes nothing.
 use mathlib.Core.Path.{refl}
-use mathlib.Core.List.{List, [], _∷_}
+use mathlib.Core.List.{List}
 use Prim.Native.Nat.{ℕ, _<_}
 use native.Mathlib.Omega.{arith}
 use Rattle.whole.specs.Cells.{cells, sum}
@@ -13,7 +13,7 @@ use Rattle.whole.specs.Search.{largest, smallest, bitsFrom}
 use Rattle.whole.specs.Signed.{floor, ceiling}
 use Rattle.limits.specs.declared.frame.FrameValues.{FrameValues}
 use Rattle.limits.specs.declared.ground.GroundValues.{GroundValues}
-use Rattle.limits.specs.declared.ground.GroundValues.the-variants.{Site, Basin}
+use Rattle.limits.specs.declared.ground.GroundValues.the-variants.{Basin}
 use Rattle.limits.specs.Kind.{judgedKind}
 use Rattle.limits.specs.Frame.{judgedPeriod, judgedFrame}
 use Rattle.limits.specs.Judging.{judgedJob}
@@ -32,28 +32,10 @@ use Rattle.storeys.specs.Storeys.{weightHeight, about}
 use Rattle.job.specs.declared.FiguresAnswer.the-variants.{Taken}
 use Rattle.job.specs.Job.{jobOf, Figured}
 use Rattle.job.specs.Moves.{withR}
-
-abbrev siteWith : ℕ → ℕ → ℕ → ℕ → GroundValues
-siteWith nad nvd nam nvm = Site (record { ssd = 80; s1d = 45; ssm = 100; s1m = 55; nad = nad; nvd = nvd; nam = nam; nvm = nvm; class = 1 })
-
-abbrev pub plain : GroundValues
-plain = siteWith 100 100 100 100
+use Rattle.job.proofs.WorkedSheet.{siteWith, plain, frame, weights, heights, figures}
 
 abbrev nearFault : GroundValues
 nearFault = siteWith 112 123 118 136
-
--- with a calculated period in ms, 0 for none, and R
-abbrev pub frame : ℕ → ℕ → FrameValues
-frame calculated r = record { kind = 2; calculated = calculated; r = r; i = 100; alpha = 150 }
-
-abbrev pub weights : List ℕ
-weights = 5000 ∷ 5000 ∷ 5000 ∷ []
-
-abbrev pub heights : List ℕ
-heights = 100 ∷ 200 ∷ 300 ∷ []
-
-abbrev pub figures : ℕ → ℕ → ℕ → ℕ → ℕ → Figures
-figures v vm star vd t = record { v = v; vm = vm; star = star; vd = vd; t = t }
 
 -- ---- what is answered at 1.00 and at a larger R: on the site at 1,000 ms, near a fault at 500 ms, in zone 3
 abbrev site100 : Figures

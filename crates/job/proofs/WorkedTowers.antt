@@ -12,7 +12,7 @@ use Rattle.whole.specs.Search.{largest, smallest, bitsFrom}
 use Rattle.whole.specs.Signed.{floor, ceiling}
 use Rattle.limits.specs.declared.frame.FrameValues.{FrameValues}
 use Rattle.limits.specs.declared.ground.GroundValues.{GroundValues}
-use Rattle.limits.specs.declared.ground.GroundValues.the-variants.{Site, Basin}
+use Rattle.limits.specs.declared.ground.GroundValues.the-variants.{Basin}
 use Rattle.limits.specs.Building.{judgedBuilding}
 use Rattle.limits.specs.Kind.{judgedKind}
 use Rattle.limits.specs.Frame.{judgedPeriod, judgedFrame}
@@ -30,16 +30,11 @@ use Rattle.base_shear.specs.Shears.{newtons, shear, star, base, figuresAt}
 use Rattle.job.specs.declared.FiguresAnswer.the-variants.{Taken}
 use Rattle.job.specs.ShearCall.{shearCallOf, Sheared}
 use Rattle.job.specs.Towers.{Tower, Called, CalledAt, weightOf, baseOf}
-
-abbrev site : GroundValues
-site = Site (record { ssd = 80; s1d = 45; ssm = 100; s1m = 55; nad = 100; nvd = 100; nam = 100; nvm = 100; class = 1 })
-
-abbrev frame : FrameValues
-frame = record { kind = 2; calculated = 1000; r = 480; i = 100; alpha = 150 }
+use Rattle.job.proofs.WorkedSheet.{plain, frame, figures}
 
 -- weight and height, and of the figures V, V_M, V*, V_D and T
 abbrev tower : ℕ → ℕ → ℕ → ℕ → ℕ → ℕ → ℕ → Tower
-tower W h v vm star vd t = record { weight = W; height = h; figures = record { v = v; vm = vm; star = star; vd = vd; t = t } }
+tower W h v vm star vd t = record { weight = W; height = h; figures = figures v vm star vd t }
 
 -- ---- on the site. T is 1 s at 30 m, and at 25 m too; at 15 m it is 746 ms
 abbrev whole : Tower
@@ -64,8 +59,8 @@ underThird = tower 4_996 300 302_992 272_600 356_858 356_858 1000
 abbrev three : List Tower
 three = underThird ∷ underThird ∷ tower 5_008 300 303_720 273_255 357_715 357_715 1000 ∷ []
 
-on-site : Called site frame whole × Called site frame halfOf15
-    × CalledAt site frame 1000 thirds × CalledAt site frame 1000 halves × CalledAt site frame 1000 three
+on-site : Called plain (frame 1000 480) whole × Called plain (frame 1000 480) halfOf15
+    × CalledAt plain (frame 1000 480) 1000 thirds × CalledAt plain (frame 1000 480) 1000 halves × CalledAt plain (frame 1000 480) 1000 three
 unfolding shearCallOf judgedShearCall judgedBuilding judgedSite judgedMapped judgedNearFault judgedClass judgedFrame judgedKind judgedPeriod
     among listed within inRange between up down largest smallest bitsFrom lowerRoot upperRoot floor ceiling approximate inUse spectrum
     exactSpectrum factor lowerFactor upperFactor ratio modified blended bent newtons shear star base figuresAt
@@ -94,7 +89,7 @@ stiffHalf = tower 7_500 150 1_628_572 2_000_000 651_429 2_000_000 381
 abbrev stiffHalfOf10 : Tower
 stiffHalfOf10 = tower 7_500 100 1_547_090 1_891_358 618_836 1_891_358 281
 
-in-basin : Called (Basin 3) frame zoneWhole × Called (Basin 3) frame zoneHalf × CalledAt (Basin 3) frame 1000 zoneThirds
+in-basin : Called (Basin 3) (frame 1000 480) zoneWhole × Called (Basin 3) (frame 1000 480) zoneHalf × CalledAt (Basin 3) (frame 1000 480) 1000 zoneThirds
     × Called (Basin 1) stiff stiffWhole × Called (Basin 1) stiff stiffHalf × Called (Basin 1) stiff stiffHalfOf10
 unfolding shearCallOf judgedShearCall judgedBuilding judgedZone judgedFrame judgedKind judgedPeriod among listed within inRange up down largest
     smallest bitsFrom lowerRoot upperRoot floor ceiling approximate inUse spectrum exactSpectrum factor lowerFactor upperFactor ratio modified
@@ -103,18 +98,18 @@ in-basin = (refl, refl, (refl, refl, (refl, refl, tt)), refl, refl, refl)
 
 -- ---- both ends: w and towers ts, called at the T of w, with the weight of w together and k newtons more
 abbrev Split : GroundValues → Tower → List Tower → ℕ → Type 0
-Split s w ts k = Called s frame w × CalledAt s frame (w .figures .t) ts × (weightOf ts ≡ w .weight) × (baseOf ts ≡ w .figures .vd + k)
+Split G w ts k = Called G (frame 1000 480) w × CalledAt G (frame 1000 480) (w .figures .t) ts × (weightOf ts ≡ w .weight) × (baseOf ts ≡ w .figures .vd + k)
 
 -- 357,143 + 714,286 = 1,071,429 N
-pub no-newton-more : Split site whole thirds 0
+pub no-newton-more : Split plain whole thirds 0
 no-newton-more = (on-site .0, on-site .2, refl, refl)
 
 -- 535,715 + 535,715 = 1,071,430 N
-pub one-newton-more : Split site whole halves 1
+pub one-newton-more : Split plain whole halves 1
 one-newton-more = (on-site .0, on-site .3, refl, refl)
 
 -- 356,858 + 356,858 + 357,715 = 1,071,431 N
-pub two-newtons-more : Split site whole three 2
+pub two-newtons-more : Split plain whole three 2
 two-newtons-more = (on-site .0, on-site .4, refl, refl)
 
 -- 857,143 + 857,143 = 1,714,286 N
@@ -135,7 +130,7 @@ AtAnyPeriod P =
 -- 15 m and 30 m: 718,116 + 535,715 = 1,253,831 N, and the whole has 1,071,429 N at 30 m
 pub sum-at-any-period-false : AtAnyPeriod (λ (v₁ v₂ v : ℕ). v₁ + v₂ ≤ v + 1) → ⊥
 sum-at-any-period-false p =
-    let h = p site frame 7_500 7_500 150 300 300 (halfOf15 .figures) (half .figures) (whole .figures) (on-site .1) (on-site .3 .0) (on-site .0) in
+    let h = p plain (frame 1000 480) 7_500 7_500 150 300 300 (halfOf15 .figures) (half .figures) (whole .figures) (on-site .1) (on-site .3 .0) (on-site .0) in
     omega (arith, h)
 
 -- 10 m and 15 m: 1,891,358 + 2,000,000 = 3,891,358 N, and the whole has 4,000,000 N at 15 m
