@@ -4,6 +4,7 @@ pub mod Lines
 pub mod LaidRead
 pub mod ReadLaid
 pub mod Otherwise
+pub mod FewLines
 pub mod Foremost
 pub mod TwoCalls
 pub mod LevelLine
