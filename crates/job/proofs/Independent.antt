@@ -67,7 +67,7 @@ module _ (G : GroundValues) (f : FrameValues) (ws hs : List ℕ) where
       let x = taken-written b n b′ p in
       let y = taken-written c m c′ q in (
         same,
-        x .forces ∙ ap (λ (k : Figures). resultsAt k ws hs .forces) same ∙ sym (y .forces),
-        x .shears ∙ ap (λ (k : Figures). resultsAt k ws hs .shears) same ∙ sym (y .shears),
-        x .overturnings ∙ ap (λ (k : Figures). resultsAt k ws hs .overturnings) same ∙ sym (y .overturnings),
+        x .forces ∙ ap (λ (k : Figures). resultsAt k ws hs .columns .forces) same ∙ sym (y .forces),
+        x .shears ∙ ap (λ (k : Figures). resultsAt k ws hs .columns .shears) same ∙ sym (y .shears),
+        x .overturnings ∙ ap (λ (k : Figures). resultsAt k ws hs .columns .overturnings) same ∙ sym (y .overturnings),
       )

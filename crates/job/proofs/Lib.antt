@@ -28,5 +28,6 @@ pub mod WorkedMoves
 pub mod JobNumbers
 pub mod SharpMargin
 pub mod SharpHanded
+pub mod WrongAnswers
 pub mod WrongCores
 pub mod Finer

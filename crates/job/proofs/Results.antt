@@ -25,9 +25,9 @@ use Rattle.job.proofs.GivenReached.{standing}
 
 -- of figures and storeys of a judged ground and frame
 pub record Promised (g : Given) (ws hs : List ℕ) : Type 0 where
-  pub adds-up : sum (resultsOf g ws hs .forces) ≡ jobFigures g ws hs .vd
+  pub adds-up : sum (resultsOf g ws hs .columns .forces) ≡ jobFigures g ws hs .vd
   pub kept : let n = jobFigures g ws hs in
-      Demand3 unit (givenHazards g) (g .frame) ws hs (n .t) (n .vd) (λ x. getD (resultsOf g ws hs .shears) x 0)
+      Demand3 unit (givenHazards g) (g .frame) ws hs (n .t) (n .vd) (λ x. getD (resultsOf g ws hs .columns .shears) x 0)
 
 pub promised : (G : GroundValues) (f : FrameValues) (ws hs : List ℕ) (room : ℕ) (g : Given) → judgedJob G f ws hs room ≡ accepted g
     → Promised g ws hs

@@ -52,9 +52,9 @@ module _ (G : GroundValues) (f : FrameValues) (ws hs : List ℕ) (room : ℕ) wh
     -- what the storeys' code wrote, at the figures that it was handed
     pub accepted-answers : (g : Given) (n : Figures) {ps us os : List ℕ} → judgedJob G f ws hs room ≡ accepted g
         → n ≡ jobFigures g ws hs
-        → us ≡ laid (resultsAt n ws hs .shears) (b .shears)
-        → ps ≡ laid (resultsAt n ws hs .forces) (b .forces)
-        → os ≡ laid (resultsAt n ws hs .overturnings) (b .overturnings)
+        → us ≡ laid (resultsAt n ws hs .columns .shears) (b .shears)
+        → ps ≡ laid (resultsAt n ws hs .columns .forces) (b .forces)
+        → os ≡ laid (resultsAt n ws hs .columns .overturnings) (b .overturnings)
         → Answers G f ws hs b (Taken n) (record { forces = ps; shears = us; overturnings = os })
     accepted-answers g n {ps} {us} {os} e same eu ep em =
         let o = ap (λ (n : ℕ). jobOf G f ws hs n) (sym short) ∙ job-accepted e in

@@ -55,18 +55,14 @@ abbrev light : Results
 light =
     record {
       figures = figures 909_704 818_453 1_071_429 1_071_429 1000;
-      forces = 166_071 ∷ 332_143 ∷ 573_215 ∷ [];
-      shears = 1_071_429 ∷ 905_358 ∷ 573_215 ∷ [];
-      overturnings = 255_000_200 ∷ 147_857_300 ∷ 57_321_500 ∷ [];
+      columns = record { forces = 166_071 ∷ 332_143 ∷ 573_215 ∷ []; shears = 1_071_429 ∷ 905_358 ∷ 573_215 ∷ []; overturnings = 255_000_200 ∷ 147_857_300 ∷ 57_321_500 ∷ [] };
     }
 
 abbrev heavy : Results
 heavy =
     record {
       figures = figures 970_351 873_017 1_142_858 1_142_858 1000;
-      forces = 161_038 ∷ 322_078 ∷ 659_742 ∷ [];
-      shears = 1_142_858 ∷ 981_820 ∷ 659_742 ∷ [];
-      overturnings = 278_442_000 ∷ 164_156_200 ∷ 65_974_200 ∷ [];
+      columns = record { forces = 161_038 ∷ 322_078 ∷ 659_742 ∷ []; shears = 1_142_858 ∷ 981_820 ∷ 659_742 ∷ []; overturnings = 278_442_000 ∷ 164_156_200 ∷ 65_974_200 ∷ [] };
     }
 
 answered : Sheared plain (frame 0 480) 15_000 300 (Taken of30) × Sheared plain (frame 0 480) 16_000 350 (Taken heavierOf35)
@@ -80,7 +76,7 @@ answered = (refl, refl, refl, refl)
 pub heavier-roof : (jobOf plain (frame 1000 480) weights heights 3 ≡ accepted light)
     × (jobOf plain (frame 1000 480) (withWeight weights 2 6000) heights 3 ≡ accepted heavy)
     × (light .figures .vd < heavy .figures .vd)
-    × (getD (heavy .forces) 0 0 < getD (light .forces) 0 0) × (getD (heavy .forces) 1 0 < getD (light .forces) 1 0)
+    × (getD (heavy .columns .forces) 0 0 < getD (light .columns .forces) 0 0) × (getD (heavy .columns .forces) 1 0 < getD (light .columns .forces) 1 0)
 unfolding jobOf judgedJob judgedLevels weighed raised within inRange among listed judgedSite judgedMapped judgedNearFault judgedClass
     judgedFrame judgedKind judgedPeriod cells sum between lowerRoot upperRoot up down largest smallest bitsFrom factor lowerFactor
     upperFactor approximate inUse bent ratio modified blended exactSpectrum spectrum newtons shear star base figuresAt weightHeight about floor

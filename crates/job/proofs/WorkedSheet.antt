@@ -33,4 +33,4 @@ abbrev pub figures : ℕ → ℕ → ℕ → ℕ → ℕ → Figures
 figures v vm star vd t = record { v = v; vm = vm; star = star; vd = vd; t = t }
 
 abbrev pub resulted : Figures → List ℕ → List ℕ → List ℕ → Outcome Results
-resulted n fs us os = accepted (record { figures = n; forces = fs; shears = us; overturnings = os })
+resulted n fs us os = accepted (record { figures = n; columns = record { forces = fs; shears = us; overturnings = os } })

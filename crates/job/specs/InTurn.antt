@@ -10,7 +10,7 @@ use Rattle.limits.specs.declared.ground.GroundValues.{GroundValues}
 use Rattle.limits.specs.Levels.{judgedLevels, topHeight}
 use Rattle.limits.specs.Outcome.{Outcome, accepted, _>>=_, _>>_}
 use Rattle.job.specs.Distribution.{distributionOf}
-use Rattle.job.specs.Job.{Results, results}
+use Rattle.job.specs.Job.{Results}
 use Rattle.job.specs.ShearCall.{shearCallOf}
 
 unfoldable pub inTurn : GroundValues → FrameValues → List ℕ → List ℕ → ℕ → Outcome Results
@@ -18,4 +18,4 @@ inTurn G f ws hs room = do
   judgedLevels ws hs room
   n ← shearCallOf G f (sum ws) (topHeight hs)
   c ← distributionOf (n .vd) (n .t) ws hs room
-  accepted (results n c)
+  accepted (record { figures = n; columns = c })

@@ -1,8 +1,6 @@
 -- The job: one building, one horizontal direction. The ground G, the frame f, weights ws in kN and heights hs in dm, lowest level first. It is
 -- what the shear call and the distribution make together (InTurn.antt), judged once.
---   Results                    V, V_M, V*, V_D and T; per level, lowest first, force, shear and overturning
---   columns r                  the columns of these
---   results n c                five figures with three columns
+--   Results                    V, V_M, V*, V_D and T, and the columns of the levels
 --   resultsAt n ws hs          those of five figures: the storeys at V_D and T
 --   jobFigures g ws hs       the five figures of a judged ground and frame: W is the sum of the weights, h the last height
 --   resultsOf g ws hs          the results of these
@@ -30,18 +28,10 @@ use Rattle.job.specs.ShearCall.{buildingFigures, answerOutcome}
 
 pub record Results : Type 0 where
   pub figures : Figures
-  pub forces : List ℕ
-  pub shears : List ℕ
-  pub overturnings : List ℕ
-
-abbrev pub columns : Results → Columns
-columns r = record { forces = r .forces; shears = r .shears; overturnings = r .overturnings }
-
-abbrev pub results : Figures → Columns → Results
-results n c = record { figures = n; forces = c .forces; shears = c .shears; overturnings = c .overturnings }
+  pub columns : Columns
 
 abbrev pub resultsAt : Figures → List ℕ → List ℕ → Results
-resultsAt n ws hs = results n (columnsAt (n .t) (n .vd) ws hs)
+resultsAt n ws hs = record { figures = n; columns = columnsAt (n .t) (n .vd) ws hs }
 
 abbrev pub jobFigures : Given → List ℕ → List ℕ → Figures
 jobFigures g ws hs = buildingFigures g (sum ws) (topHeight hs)
@@ -62,7 +52,7 @@ figuresOnly o = do
 abbrev pub columnsOnly : Outcome Results → Outcome Columns
 columnsOnly o = do
   r ← o
-  accepted (columns r)
+  accepted (r .columns)
 
 abbrev pub written : Outcome Results → Buffers → Buffers
 written o b = filled (columnsOnly o) b

@@ -1,3 +1,4 @@
+pub mod Examples
 pub mod Passed
 pub mod Listed
 pub mod Stages

@@ -52,11 +52,11 @@ never-zero n e h = let stands : InOrder 0 = subst InOrder e h in omega (arith, s
 
 module _ (G : GroundValues) (m ws hs : List ℕ) where
   pub job-replies : (made : GroundValues) (f : FrameValues) (b : Buffers) (a : FiguresAnswer) (b′ : Buffers) {n : ℕ} {r : List ℕ}
-      → made ≡ G → f ≡ frameValues m → Answers made f ws hs b a b′ → FiguresReply (answerOutcome a) n r
-      → JobReplies G m ws hs b n r b′
-  job-replies made f b a b′ es ef t p =
+      → made ≡ G → f ≡ frameValues m → answerOutcome a ≡ figuresOnly (jobOf made f ws hs (shortest b))
+      → b′ ≡ written (jobOf made f ws hs (shortest b)) b → FiguresReply (answerOutcome a) n r → JobReplies G m ws hs b n r b′
+  job-replies made f b a b′ es ef answered cells p =
       let o = ap₂ (λ (made : GroundValues) (f : FrameValues). jobOf made f ws hs (shortest b)) es ef in
-      (replies-as (t .0 ∙ ap figuresOnly o) p, t .1 ∙ ap (λ x. written x b) o)
+      (replies-as (answered ∙ ap figuresOnly o) p, cells ∙ ap (λ x. written x b) o)
 
   pub figures-replies : (made : GroundValues) (f : FrameValues) (a : FiguresAnswer) {n : ℕ} {r : List ℕ} → made ≡ G
       → f ≡ frameValues m → Figured made f ws hs a → FiguresReply (answerOutcome a) n r → FiguresReplies G m ws hs n r

@@ -81,9 +81,12 @@ module _ (G : GroundValues) (f : FrameValues) (ws hs : List ℕ) where
     cut =
         record {
           figures = n;
-          forces = take (length ws) (b′ .forces);
-          shears = take (length ws) (b′ .shears);
-          overturnings = take (length ws) (b′ .overturnings);
+          columns =
+              record {
+                forces = take (length ws) (b′ .forces);
+                shears = take (length ws) (b′ .shears);
+                overturnings = take (length ws) (b′ .overturnings);
+              };
         }
 
     pub taken-outcome : jobOf G f ws hs (length ws) ≡ accepted cut

@@ -107,7 +107,7 @@ module _ {o : Outcome Results} {old held : List ℕ} {n : ℕ} where
       }
 
   pub puts-results : (x : Results) {r : Refusal} → o ≡ accepted x → r ≡ record { number = 0; place = 0 }
-      → Written (resultsListing (x .figures) (x .forces) (x .shears) (x .overturnings)) old held n
+      → Written (resultsListing (x .figures) (x .columns .forces) (x .columns .shears) (x .columns .overturnings)) old held n
       → Puts o old held (record { length = n; refusal = r })
   unfolding listing
   puts-results x e none w =

@@ -59,7 +59,7 @@ pub record Levelled (fs us os : List ℕ) : Type 0 where
   pub few : length fs ≤ 50
 
 unfoldable pub listing : Outcome Results → List ℕ
-listing (accepted r) = resultsListing (r .figures) (r .forces) (r .shears) (r .overturnings)
+listing (accepted r) = resultsListing (r .figures) (r .columns .forces) (r .columns .shears) (r .columns .overturnings)
 listing (refused n p) = refusal n p
 
 pub record Puts (o : Outcome Results) (old held : List ℕ) (p : Put) : Type 0 where

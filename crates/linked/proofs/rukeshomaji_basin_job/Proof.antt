@@ -26,7 +26,7 @@ same-length-3 c = search needs
 
 returns : tie.Need-returns
 returns c = let a = c .before .before .before .before .before .before .before .before .before .before .before .before .before .before .before .before .before .before .args in
-    job-replies (inBasin (a .zone)) (a .frame .now) (a .weights .now) (a .heights .now) _ _ (record { forces = a .forces .now; shears = a .shears .now; overturnings = a .overturnings .now }) (c .before .before .before .before .before .before .before .before .job .result) _ refl (c .before .before .before .before .before .before .before .before .before .before .before .before .frame-values .ensures) (c .before .before .before .before .before .before .before .before .job .ensures) (c .put-figures .ensures)
+    job-replies (inBasin (a .zone)) (a .frame .now) (a .weights .now) (a .heights .now) _ _ (record { forces = a .forces .now; shears = a .shears .now; overturnings = a .overturnings .now }) (c .before .before .before .before .before .before .before .before .job .result) _ refl (c .before .before .before .before .before .before .before .before .before .before .before .before .frame-values .ensures) (c .before .before .before .before .before .before .before .before .job .ensures .0) (c .before .before .before .before .before .before .before .before .job .ensures .1) (c .put-figures .ensures)
 
 pub rukeshomaji-basin-job-spec : {M : Type 1} → statement M
 rukeshomaji-basin-job-spec =

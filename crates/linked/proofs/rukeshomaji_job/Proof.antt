@@ -30,7 +30,7 @@ same-length-3 c = search needs
 
 returns : tie.Need-returns
 returns c = let a = c .before .before .before .before .before .before .before .before .before .before .before .before .before .before .before .before .before .before .before .args in
-    job-replies (onSite (a .site .now)) (a .frame .now) (a .weights .now) (a .heights .now) _ _ (record { forces = a .forces .now; shears = a .shears .now; overturnings = a .overturnings .now }) (c .before .before .before .before .before .before .before .before .job .result) _ (ap Site (c .before .before .before .before .before .before .before .before .before .before .before .before .before .site-values .ensures)) (c .before .before .before .before .before .before .before .before .before .before .before .before .frame-values .ensures) (c .before .before .before .before .before .before .before .before .job .ensures) (c .put-figures .ensures)
+    job-replies (onSite (a .site .now)) (a .frame .now) (a .weights .now) (a .heights .now) _ _ (record { forces = a .forces .now; shears = a .shears .now; overturnings = a .overturnings .now }) (c .before .before .before .before .before .before .before .before .job .result) _ (ap Site (c .before .before .before .before .before .before .before .before .before .before .before .before .before .site-values .ensures)) (c .before .before .before .before .before .before .before .before .before .before .before .before .frame-values .ensures) (c .before .before .before .before .before .before .before .before .job .ensures .0) (c .before .before .before .before .before .before .before .before .job .ensures .1) (c .put-figures .ensures)
 
 pub rukeshomaji-job-spec : {M : Type 1} → statement M
 rukeshomaji-job-spec =

@@ -1,6 +1,6 @@
 -- `base_shear::base::figures_at` meets its contract, figure by figure. Assumes nothing.
 use borrow.Author.Needs.{needs}
-use mathlib.Core.Path.{ap, ap₂, _∙_}
+use mathlib.Core.Path.{_≡_, ap, ap₂, _∙_}
 use Prim.Native.Nat.{max}
 use Rattle.base_shear.specs.Shears.{newtons, shear, star, base, figuresAt}
 use Rattle.base_shear.proofs.base.figures_at.Statement.{statement}
@@ -41,7 +41,8 @@ returns c =
     let v = first .newtons .ensures ∙ ap (newtons (a .s) (k .divisor) (a .f) (a .w)) (first .before .modified-at .ensures .0) in
     let vm = second .newtons2 .ensures ∙ ap (newtons (a .s) (k .divisor) (a .f) (a .w)) (second .before .modified-at2 .ensures .0) in
     let star = third .newtons3 .ensures ∙ ap (newtons (a .s) (k .stardivisor) (a .f) (a .w)) (third .before .blended-at .ensures .0) in
-    let vd = c .larger2 .ensures ∙ ap₂ max (c .before .larger .ensures ∙ ap₂ max v vm) star in
+    let last : c .larger2 .result ≡ max (c .before .larger .result) (third .newtons3 .result) = c .larger2 .ensures in
+    let vd = last ∙ ap₂ max (c .before .larger .ensures ∙ ap₂ max v vm) star in
     λ i. record { v = v i; vm = vm i; star = star i; vd = vd i; t = a .t }
 
 pub figures-at-spec : {M : Type 1} → statement M

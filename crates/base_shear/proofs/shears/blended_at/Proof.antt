@@ -1,5 +1,5 @@
 -- `base_shear::shears::blended_at` meets its contract. Assumes nothing.
-use mathlib.Core.Path.{ap₂, _∙_}
+use mathlib.Core.Path.{_≡_, ap₂, _∙_}
 use native.Mathlib.Omega.{arith}
 use Rattle.response.proofs.Most.{spectrum-most, upper-factor-most, blended-most}
 use Rattle.response.specs.Factor.{upperFactor}
@@ -39,7 +39,8 @@ returns c =
     let Sa = spectrum (a .s) (h .a) (h .b) (a .t) in
     let F = upperFactor (a .s) (h .a) (h .b) (a .t) (h .capacity) (h .square) in
     let sa = c .before .before .before .before .spectrum .ensures in
-    let e = c .blended .ensures ∙ ap₂ (blended (a .l)) sa (c .before .upper-factor .ensures) in
+    let p : c .blended .result ≡ blended (a .l) (c .before .before .before .before .spectrum .result) (c .before .upper-factor .result) = c .blended .ensures in
+    let e = p ∙ ap₂ (blended (a .l)) sa (c .before .upper-factor .ensures) in
     let most = spectrum-most (a .s) (h .a) (h .b) (a .t) (r .shape .b-positive) (r .shape .a-most) in
     let small = upper-factor-most (a .s) (h .a) (h .b) (a .t) (h .capacity) (h .square) u (r .shape) (r .ductile) in
     (e, omega (arith, e, blended-most (a .l) Sa F (b .pre .1), most, small))

@@ -1,6 +1,8 @@
 -- `site::site_hazards::site_hazards` meets its contract, hazard by hazard. Assumes nothing.
 use borrow.Author.Needs.{needs}
+use mathlib.Core.Path.{_≡_}
 use Rattle.site.specs.Lines.{lines}
+use Rattle.site.specs.SiteHazards.{accelerations}
 use Rattle.site.proofs.site_hazards.site_hazards.Statement.{statement}
 use Rattle.site.proofs.site_hazards.site_hazards.Tie as tie
 
@@ -27,9 +29,13 @@ mce-square-requires c κs = search needs
 
 returns : tie.Need-returns
 returns c =
-    let design = c .before .before .before .before .before .before .accelerations .ensures in
-    let mce = c .before .before .before .before .before .accelerations2 .ensures in
-    let plain = c .before .before .before .before .accelerations3 .ensures in
+    let g = c .before .before .before .before .before .before .before .args .site in
+    let design : c .before .before .before .before .before .before .accelerations .result
+    ≡ accelerations (g .class) (g .ssd) (g .s1d) (g .nad) (g .nvd) = c .before .before .before .before .before .before .accelerations .ensures in
+    let mce : c .before .before .before .before .before .accelerations2 .result
+    ≡ accelerations (g .class) (g .ssm) (g .s1m) (g .nam) (g .nvm) = c .before .before .before .before .before .accelerations2 .ensures in
+    let plain : c .before .before .before .before .accelerations3 .result
+    ≡ accelerations (g .class) (g .ssd) (g .s1d) 100 100 = c .before .before .before .before .accelerations3 .ensures in
     let allowable = c .before .before .before .design-capacity .ensures in
     let square = c .before .before .design-square .ensures in
     λ i.
