@@ -16,10 +16,10 @@ import subprocess
 import sys
 
 from tests.model import calls, soil
-from tests.writes import by_hand
-from tests.writes.calls import scaling_lines
+from tests.writes.by_hand.worked import read
 from tests.writes.logs import BORING, MADE_UP
 from tests.writes.moves import moves_lines
+from tests.writes.scaling import scaling_lines
 from tests.writes.towers import podium_lines
 
 ROOT = pathlib.Path(__file__).resolve().parents[1]
@@ -51,7 +51,7 @@ def run_programs():
     expected = (EXAMPLES / 'office.listing').read_bytes()
     for name in ('office.c', 'listing.cpp', 'rukeshomaji.py'):
         yield name, printed(EXAMPLES / name) == expected
-    office = by_hand.read((EXAMPLES / 'office.sheet').read_bytes())
+    office = read((EXAMPLES / 'office.sheet').read_bytes())
     for example, lines in (('scaling', scaling_lines(office)), ('podium', podium_lines(office)), ('moves', moves_lines(office))):
         expected = ''.join(f'{line}\n' for line in lines).encode()
         for name in (f'{example}.c', f'{example}.py'):

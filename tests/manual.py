@@ -21,7 +21,8 @@ from math import ceil, floor
 
 from tests.model import basin as basins, calls, limits, response, sheet, shears, site as sites, soil, storeys
 from tests.writes import manual, near_fault
-from tests.writes.by_hand import comma, decimal, ranged, read
+from tests.writes.by_hand.text import comma, decimal, ranged
+from tests.writes.by_hand.worked import read
 
 ROOT = pathlib.Path(__file__).resolve().parents[1]
 MANUAL = ROOT / 'docs' / 'manual'

@@ -8,7 +8,9 @@ from fractions import Fraction
 
 from tests.model import basin as basins, calls, limits, response, site as sites
 from tests.model.job import job
-from tests.writes.by_hand import UNIT, code, comma, decimal, hundredths, read, table
+from tests.writes.by_hand.response import UNIT
+from tests.writes.by_hand.text import code, comma, decimal, hundredths, table
+from tests.writes.by_hand.worked import read
 
 FIGURES = ('V, N', 'V_M, N', 'V*, N', 'V_D, N')
 SHOWN_R = (100, 125, 150, 175, 200, 300, 400, 480, 600)     # of the table of V*
