@@ -3,16 +3,16 @@
 from fractions import Fraction
 
 from tests.model import limits
-from tests.writes import moves as changes
 from tests.writes.by_hand.worked import read
 from tests.writes.pictures.drawing import BLUE, GREEN, RED, Axes, Picture, decimal, tenths
 from tests.writes.pictures.sheets import SHEET
+from tests.writes.star_over_r import LEVEL, STAR_RISES, over_R
 
 
 def moves():
     """V, V_M, V* and V_D of the worked sheet over R."""
     office = read(SHEET.read_bytes())
-    over, (_, end), level = changes.over_R(office), changes.STAR_RISES, changes.LEVEL
+    over, (_, end) = over_R(office), STAR_RISES
     first, last = limits.R_RANGE[0], limits.R_RANGE[-1]
     picture = Picture(960, 600, 'V, V_M, V* and V_D of the worked sheet over R')
     axes = Axes(picture, (110, 70, 930, 520), last - first, Fraction(35, 10))
@@ -23,7 +23,7 @@ def moves():
         picture.key(640, 690, 104 + 28 * place, words, colour, dash, width, gap=12)
     shears = dict(over['V_star'])
     said = ((first, f'V* = {shears[first]:,} N', 10, 42), (end, f'V* = {shears[end]:,} N from R = {decimal(Fraction(end, 100), 2)} on', 20, 28),
-            (level, f'V_D = V* from R = {decimal(Fraction(level, 100), 2)} on', -40, -40))
+            (LEVEL, f'V_D = V* from R = {decimal(Fraction(LEVEL, 100), 2)} on', -40, -40))
     for R, words, right, down in said:
         axes.dot(R - first, Fraction(shears[R], 10**6), RED)
         axes.words(R - first, Fraction(shears[R], 10**6), words, right=right, down=down, colour=RED, size=16)
