@@ -78,7 +78,7 @@ def logs(core):
 
 def sheet_and_version(core):
     """A sheet, and what the header says of the version."""
-    yield 'a sheet', core.sheet((EXAMPLES / 'tower.sheet').read_bytes()) == (EXAMPLES / 'tower.listing').read_bytes()
+    yield 'a sheet', core.sheet((EXAMPLES / 'tall_frame.sheet').read_bytes()) == (EXAMPLES / 'tall_frame.listing').read_bytes()
     header = (ROOT / 'include' / 'rukeshomaji.h').read_text()
     numbers = tuple(int(re.search(rf'_{name} (\d+)', header)[1]) for name in ('VERSION', 'EDITION', 'SOURCE'))
     yield 'version, edition and source', core.version() == numbers

@@ -97,7 +97,7 @@ def calls_names():
 
 def finer_names():
     """What the page on the finer spectrum names."""
-    others = {f'{name}.sheet': read(example(name)) for name in ('office', 'soft_ground', 'near_fault', 'basin', 'tower')}
+    others = {f'{name}.sheet': read(example(name)) for name in ('office', 'soft_ground', 'near_fault', 'basin', 'tall_frame')}
     return finer.names(example('light_frame'), others)
 
 
@@ -114,7 +114,7 @@ def written():
     """Each page that is filled, by its name."""
     pages = {'worked.md': one_sheet.names(example('office')), 'soft_ground.md': one_sheet.names(example('soft_ground')),
              'near_fault.md': near_fault.names(example('near_fault')), 'basin.md': one_sheet.names(example('basin')),
-             'roof_force.md': roof.names(*map(example, ('office', 'soft_ground', 'tower'))), 'rounding.md': rounding_names(), 'soil.md': logs.names(),
+             'roof_force.md': roof.names(*map(example, ('office', 'soft_ground', 'tall_frame'))), 'rounding.md': rounding_names(), 'soil.md': logs.names(),
              'soft_clay.md': logs.soft_clay_names(), 'root.md': root.names(), 'towers.md': towers.names(example('office')),
              'moves.md': moves.names(example('office'), example('near_fault')),
              'shear_and_storeys.md': calls_names(), 'finer_spectrum.md': finer_names()}
