@@ -24,7 +24,8 @@ STRICT = ('definition', 'held by', 'theorem')       # heads of columns
 BELOW = re.compile(r'below `?(crates(?:/\w+)?)/?`?')
 CRATE_NAMES = {path.name for path in CRATES.iterdir()}
 FIRST = CRATE_NAMES | {'crates', 'docs', 'tests', 'examples', 'include', 'bench', '.ci', 'specs', 'proofs', 'src'}
-FILES = CRATE_NAMES | {path.name for path in ROOT.iterdir()} | {path.stem for path in (ROOT / 'tests').rglob('*.py')}
+# crates, files of the root and those of tests/, but for names that are declared: these are looked up
+FILES = CRATE_NAMES | {path.name for path in ROOT.iterdir()} | {path.stem for path in (ROOT / 'tests').rglob('*.py')} - ALL
 
 
 class Paper:
