@@ -5,7 +5,10 @@ usage: python3 -m tests.compares.check_model
 
 import sys
 
-from tests.compares.checks import basin, calls, demand_3, errors, figures, finer, logs, moves, pairs, paper, refusals, roof, sheets, towers
+from tests.compares.checks import (basin, calls, demand_3, errors, figures, finer, larger_r, logs, moves, moves_drawn, pairs, paper, refusals, roof, sheets,
+                                   towers)
+
+MODULES = (figures, paper, finer, basin, pairs, roof, calls, towers, moves, moves_drawn, larger_r, errors, refusals, logs, sheets, demand_3)
 
 MODULES = (figures, paper, finer, basin, pairs, roof, calls, towers, moves, errors, refusals, logs, sheets, demand_3)
 

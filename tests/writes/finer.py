@@ -6,8 +6,8 @@ What the page says in words is asserted here of the model.
 from fractions import Fraction
 
 from tests.model import calls, exact, response
-from tests.writes import by_hand
-from tests.writes.by_hand import code, comma, decimal, table
+from tests.writes.by_hand.text import code, comma, decimal, hundredths, rounded, table
+from tests.writes.by_hand.worked import read
 
 BEFORE, NOW = 10**6, response.UNIT
 PERIODS = range(60, 91)         # of the picture
@@ -65,7 +65,7 @@ def on_a_slope(worked):
     rises = [[-step for step in steps(values)] for values in ([exact_shear(other, T) for T in PERIODS], shears(other, BEFORE), shears(other, NOW))]
     assert all(step > unit_in_newtons(worked, BEFORE) for step in rises[0])
     (low, high), *printed = [(min(each), max(each)) for each in rises]
-    return {'slope_R': by_hand.hundredths(ON_A_SLOPE), 'slope_exact': f'{decimal(low, 1)} to {decimal(high, 1)}',
+    return {'slope_R': hundredths(ON_A_SLOPE), 'slope_exact': f'{decimal(low, 1)} to {decimal(high, 1)}',
             **{f'slope_{name}': f'{least} to {most}' for name, (least, most) in zip(('before', 'now'), printed)}}
 
 
@@ -108,14 +108,14 @@ def by_hand_table(worked):
         in_ones = [f'{each // s}.{each % s:0{digits}}' for each in (root, root + 1)]
         squares = [decimal(Fraction(each**2, s**2), 8) for each in (root, root + 1)]
         divisor = 14 * s // 10_000
-        cells = (f'{comma(figures.A)} · (0.4 + 3 · {T} / {decimal(T0, 2)}) / {10**8 // s} = {by_hand.rounded(Sa, "up", figures.spectrum)}',
+        cells = (f'{comma(figures.A)} · (0.4 + 3 · {T} / {decimal(T0, 2)}) / {10**8 // s} = {rounded(Sa, "up", figures.spectrum)}',
                  decimal(Fraction(worked.frame.R - 25, 75), 8),
                  f'{in_ones[0]}² = {squares[0]}, {in_ones[1]}² = {squares[1]}: **{comma(root)}**', f'−{decimal(-y, 6)}',
-                 f'{comma(root)} + ({comma(root)} − {comma(s)}) · y = {by_hand.rounded(factor, "down", figures.lower_factor)}',
-                 f'{comma(figures.spectrum)} · {comma(s)} / {comma(figures.lower_factor)} = {by_hand.rounded(q, "up", result.q)}',
-                 f'0.52 · {comma(result.q)} + {comma(144 * s // 1000)} = {by_hand.rounded(m, "up", result.m)}',
+                 f'{comma(root)} + ({comma(root)} − {comma(s)}) · y = {rounded(factor, "down", figures.lower_factor)}',
+                 f'{comma(figures.spectrum)} · {comma(s)} / {comma(figures.lower_factor)} = {rounded(q, "up", result.q)}',
+                 f'0.52 · {comma(result.q)} + {comma(144 * s // 1000)} = {rounded(m, "up", result.m)}',
                  f'{worked.frame.I} · {comma(result.m)} · {comma(worked.W)} / ({comma(divisor)} · {worked.frame.alphay}) = '
-                 f'{by_hand.rounded(V, "up", result.V)} N')
+                 f'{rounded(V, "up", result.V)} N')
         for row, cell in zip(rows, cells):
             row.append(cell)
     return table(('', *(f'{T} ms, in {UNITS[s]}' for T, s, _ in columns)), rows)
@@ -137,7 +137,7 @@ def example_rows(examples):
 
 def names(data, others):
     """What the page may name; `others` are the other examples by their names."""
-    worked = by_hand.read(data)
+    worked = read(data)
     before, now, exacts = check_steps(worked)
     frame, jump = worked.frame, max(steps(before))
     falls = decimal(exacts[0] - exacts[-1], 1)
@@ -151,7 +151,7 @@ def names(data, others):
             'jump_now': str(max(steps(now))), 'most_before': decimal(max(one - other for one, other in zip(before, exacts)), 1),
             'most_now': decimal(max(one - other for one, other in zip(now, exacts)), 1),
             'unit_before': decimal(unit_in_newtons(worked, BEFORE), 2), 'unit_now': decimal(unit_in_newtons(worked, NOW), 3),
-            'W': comma(worked.W), 'R': by_hand.hundredths(frame.R), 'I': by_hand.hundredths(frame.I), 'alphay': by_hand.hundredths(frame.alphay),
+            'W': comma(worked.W), 'R': hundredths(frame.R), 'I': hundredths(frame.I), 'alphay': hundredths(frame.alphay),
             'T': str(worked.T), 'T0': decimal(worked.design.T0, 2), 'fifth': decimal(worked.design.T0 / 5, 2),
             'one': str(BY_HAND[0]), 'other': str(BY_HAND[1]), 'root_square': decimal(Fraction(frame.R - 25, 75), 6),
             'margin_before': decimal(6 * unit_in_newtons(worked, BEFORE) + 1, 2), 'margin_now': decimal(6 * unit_in_newtons(worked, NOW) + 1, 2)}

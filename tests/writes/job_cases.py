@@ -67,7 +67,7 @@ FACTORS = {limits.Site._fields.index(name): allowed for name, allowed in limits.
 OTHER = Case((60, 35, 80, 45, 142, 179, 3), (4, 0, 250, 150, 100), [900, 1, 20_000, 44], [1, 2, 1999, 2000], (4, 5, 6))
 
 
-def tower(count):
+def tall_frame(count):
     """So many levels of one weight, 38 dm apart, with buffers longer than the lists."""
     return WORKED._replace(weights=[5000] * count, heights=[38 * (i + 1) for i in range(count)], buffers=(55, 56, 57))
 
@@ -80,13 +80,13 @@ def buffer_cases():
 
 def list_cases():
     """0, 1, 2, 49, 50 and 51 levels; lists of unequal length."""
-    yield from (tower(count) for count in (0, 1, 2, 49, 50, 51))
-    yield tower(0)._replace(buffers=(0, 0, 0))
-    yield tower(50)._replace(buffers=(50, 50, 50))
-    yield tower(50)._replace(buffers=(50, 49, 50))
+    yield from (tall_frame(count) for count in (0, 1, 2, 49, 50, 51))
+    yield tall_frame(0)._replace(buffers=(0, 0, 0))
+    yield tall_frame(50)._replace(buffers=(50, 50, 50))
+    yield tall_frame(50)._replace(buffers=(50, 49, 50))
     for weights, heights in ((3, 2), (2, 3), (0, 3), (3, 51), (51, 3), (50, 49)):
-        yield tower(51)._replace(weights=[5000] * weights, heights=[38 * (i + 1) for i in range(heights)])
-    yield tower(51)._replace(buffers=(3, 55, 55))
+        yield tall_frame(51)._replace(weights=[5000] * weights, heights=[38 * (i + 1) for i in range(heights)])
+    yield tall_frame(51)._replace(buffers=(3, 55, 55))
     yield WORKED._replace(weights=[5000, 0, 5000], buffers=(2, 3, 3))
     yield WORKED._replace(weights=[5000, 0, 5000], heights=[100, 200])
 
@@ -110,7 +110,7 @@ def wrong_cases():
 def order_cases():
     """The same job before and after another, accepted and refused; buffers that hold another job's figures."""
     used = WORKED._replace(old=(573_215, 1_071_429, 57_321_500), buffers=(5, 5, 5))
-    yield from (WORKED, OTHER, WORKED, WORKED._replace(weights=[0, 0, 0]), WORKED, tower(51), OTHER)
+    yield from (WORKED, OTHER, WORKED, WORKED._replace(weights=[0, 0, 0]), WORKED, tall_frame(51), OTHER)
     yield from (used, used._replace(weights=[5000, LARGEST, 0]), used._replace(heights=[100, LARGEST, 300]), used,
                 OTHER._replace(old=(0, LARGEST, 1)))
 
@@ -131,7 +131,7 @@ def basin_cases():
     yield from (worked._replace(ground=limits.Basin(zone)) for zone in (*limits.ZONE, 0, 5, 2**16 + 1, 2**32 + 1, 2**63 + 1, LARGEST))
     yield from (worked, WORKED, worked, OTHER, worked._replace(ground=limits.Basin(80)), worked)
     yield from (worked._replace(buffers=each) for each in ((2, 3, 3), (3, 2, 3), (3, 3, 2), (0, 0, 0)))
-    yield from (tower(count)._replace(ground=limits.Basin(2)) for count in (0, 1, 50, 51))
+    yield from (tall_frame(count)._replace(ground=limits.Basin(2)) for count in (0, 1, 50, 51))
     bad = worked._replace(ground=limits.Basin(5))
     yield from (bad._replace(frame=WORKED.frame[:place] + (61_000,) * (5 - place)) for place in range(5))
     yield from (bad._replace(weights=[5000, 5000, 0]), bad._replace(heights=[100, 200, 200]), bad._replace(weights=[]))
@@ -158,7 +158,7 @@ def pair_cases():
     yield from (WORKED._replace(ground=(*WORKED.ground[:4], *pair, *pair, 1)) for pair in ((100, 100), (120, 150)))
     yield from (WORKED._replace(ground=(*WORKED.ground[:4], *pair, 1)) for pair in ((120, 150), (110, 130)))
     yield from (near._replace(buffers=each) for each in ((2, 3, 3), (3, 2, 3), (3, 3, 2), (0, 0, 0)))
-    yield from (tower(count)._replace(ground=TURNED) for count in (0, 1, 51))
+    yield from (tall_frame(count)._replace(ground=TURNED) for count in (0, 1, 51))
     for ground in ((80, 45, 100, 55, 150, 200, 100, 100, 2), (80, 45, 100, 55, 100, 100, 150, 200, 3)):
         yield near._replace(ground=ground, frame=(4, 300, 100, 150, 100), weights=[20_000] * 50, heights=list(range(1_951, 2_001)),
                             buffers=(50, 50, 50))

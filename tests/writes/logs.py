@@ -3,8 +3,8 @@
 from fractions import Fraction
 
 from tests.model import soil
-from tests.writes import by_hand
-from tests.writes.by_hand import code, comma, decimal, hundredths, ranged, table
+from tests.writes.by_hand.ground import CLASS_NAMES
+from tests.writes.by_hand.text import code, comma, decimal, hundredths, ranged, table
 
 KINDS = {soil.MEASURED: 'measured', soil.COHESIVE: 'cohesive', soil.COHESIONLESS: 'cohesionless', soil.SOFT_CLAY: 'soft clay'}
 NEAR_270 = ([400, 600, 1000, 1000], [3, 2, 3, 1], [15, 20, 40, 3110])
@@ -34,7 +34,7 @@ def near(log):
         time = soil.time(thickness, v)
         rows.append((comma(thickness), f'{kind} {KINDS[kind]}', shown, comma(v), decimal(time, 2)))
     head = ('thickness, cm', 'kind', 'value', 'v, dm/s', 'time, ns')
-    name = by_hand.CLASS_NAMES[answer.cls]
+    name = CLASS_NAMES[answer.cls]
     hard, soft = ('<' if 27 * answer.U < 3 * 10**9 else 'is not <'), ('>' if 18 * answer.L > 3 * 10**9 else 'is not >')
     lines = [f'U = {comma(answer.U)} ns, L = {comma(answer.L)} ns',
              f'27 · U = {comma(27 * answer.U)} {hard} 3,000,000,000',
@@ -50,7 +50,7 @@ def names():
         answer = soil.log(*log)
         layers = ', '.join(map(comma, log[2]))
         rows.append((f'three measured layers of 10 m at {layers} dm/s', f'{decimal(average(log), 7)} m/s',
-                     f'{comma(answer.U)} ns', f'{comma(answer.L)} ns', by_hand.CLASS_NAMES[answer.cls]))
+                     f'{comma(answer.U)} ns', f'{comma(answer.L)} ns', CLASS_NAMES[answer.cls]))
     return {'near_270': near(NEAR_270), 'below_270': near(BELOW_270), 'near_180': near(NEAR_180), 'above_180': near(ABOVE_180),
             'closest_table': table(('log', 'average', 'U', 'L', 'class'), rows),
             'tenth_second': comma(3 * 10**9 // 27), 'layers': str(soil.LAYERS[-1]), 'depth': comma(soil.THICKNESS_SUM),

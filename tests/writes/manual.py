@@ -13,8 +13,10 @@ from math import ceil
 
 from tests.model import exact, limits, response, storeys
 from tests.model.sheet import listing
-from tests.writes import by_hand, calls, finer, logs, moves, near_fault, roof, root, towers
-from tests.writes.by_hand import code, comma, decimal, ranged, table
+from tests.writes import calls, finer, logs, moves, near_fault, roof, root, towers
+from tests.writes.by_hand import one_sheet
+from tests.writes.by_hand.text import code, comma, decimal, ranged, table
+from tests.writes.by_hand.worked import read
 
 ROOT = pathlib.Path(__file__).resolve().parents[2]
 PAGES, MANUAL = ROOT / 'tests' / 'writes' / 'pages', ROOT / 'docs' / 'manual'
@@ -24,13 +26,13 @@ def example(name):
     """The bytes of an example, whose stored listing must be the model's."""
     data = (ROOT / 'examples' / f'{name}.sheet').read_bytes()
     stored = (ROOT / 'examples' / f'{name}.listing').read_bytes()
-    assert stored == listing(by_hand.read(data)), name
+    assert stored == listing(read(data)), name
     return data
 
 
 def rounding_names():
     """What the page on roundings names."""
-    worked, other, near, basin = (by_hand.read(example(name)) for name in ('office', 'soft_ground', 'near_fault', 'basin'))
+    worked, other, near, basin = (read(example(name)) for name in ('office', 'soft_ground', 'near_fault', 'basin'))
     unit = exact.shear_unit(other) / other.s
     frame = other.frame
     _, above = exact.bounds(other)
@@ -95,7 +97,7 @@ def calls_names():
 
 def finer_names():
     """What the page on the finer spectrum names."""
-    others = {f'{name}.sheet': by_hand.read(example(name)) for name in ('office', 'soft_ground', 'near_fault', 'basin', 'tower')}
+    others = {f'{name}.sheet': read(example(name)) for name in ('office', 'soft_ground', 'near_fault', 'basin', 'tall_frame')}
     return finer.names(example('light_frame'), others)
 
 
@@ -110,9 +112,9 @@ def filled(page, names):
 
 def written():
     """Each page that is filled, by its name."""
-    pages = {'worked.md': by_hand.names(example('office')), 'soft_ground.md': by_hand.names(example('soft_ground')),
-             'near_fault.md': near_fault.names(example('near_fault')), 'basin.md': by_hand.names(example('basin')),
-             'roof_force.md': roof.names(*map(example, ('office', 'soft_ground', 'tower'))), 'rounding.md': rounding_names(), 'soil.md': logs.names(),
+    pages = {'worked.md': one_sheet.names(example('office')), 'soft_ground.md': one_sheet.names(example('soft_ground')),
+             'near_fault.md': near_fault.names(example('near_fault')), 'basin.md': one_sheet.names(example('basin')),
+             'roof_force.md': roof.names(*map(example, ('office', 'soft_ground', 'tall_frame'))), 'rounding.md': rounding_names(), 'soil.md': logs.names(),
              'soft_clay.md': logs.soft_clay_names(), 'root.md': root.names(), 'towers.md': towers.names(example('office')),
              'moves.md': moves.names(example('office'), example('near_fault')),
              'shear_and_storeys.md': calls_names(), 'finer_spectrum.md': finer_names()}

@@ -10,8 +10,9 @@ from itertools import product
 from tests.compares import header
 from tests.model import limits, response, sheet, shears, site as sites
 from tests.model.job import job
-from tests.writes import by_hand
-from tests.writes.by_hand import code, comma, decimal, hundredths, table
+from tests.writes.by_hand import one_sheet
+from tests.writes.by_hand.text import code, comma, decimal, hundredths, table
+from tests.writes.by_hand.worked import read
 
 FIELDS = header.fields('RukeshomajiSite')       # in C and in Python, in the model's order
 FACTORS = tuple(limits.FACTORS)
@@ -140,7 +141,7 @@ def check_all_count(own):
 
 def names(data):
     """What the page may name besides what any page on a sheet may."""
-    own = by_hand.read(data)
+    own = read(data)
     site, frame = own.ground, own.frame
     small, large = (site.NA, site.NV), (site.NAM, site.NVM)
     assert small[0] < large[0] and small[1] < large[1]
@@ -154,7 +155,7 @@ def names(data):
     check_which_counts()
     check_growth()
     by_seven, by_nine = (sheet.first_line(smaller.ground, in_full=in_full) for in_full in (False, True))
-    return by_hand.names(data) | low_building(site) | tall_building(site) | ductile_building(own) | {
+    return one_sheet.names(data) | low_building(site) | tall_building(site) | ductile_building(own) | {
         'pairs_table': table_of_pairs(own, larger, smaller, swapped), 'NAM': hundredths(site.NAM), 'NVM': hundredths(site.NVM),
         'R': hundredths(frame.R), 'I': hundredths(frame.I), 'alphay': hundredths(frame.alphay), 'T': comma(own.T),
         'fields': ', '.join(f'`{field}`' for field in FIELDS),

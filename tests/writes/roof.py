@@ -8,8 +8,8 @@ from math import ceil
 
 from tests.model import calls, limits, response, sheet, storeys
 from tests.model.job import job
-from tests.writes import by_hand
-from tests.writes.by_hand import code, comma, decimal, table
+from tests.writes.by_hand.text import code, comma, decimal, table
+from tests.writes.by_hand.worked import read
 
 NONE_UP_TO, QUARTER_FROM, LONGEST = storeys.NO_ROOF_FORCE, 3_572, 6_328
 RISING, QUARTER = Fraction(7, 100), Fraction(1, 4)
@@ -96,7 +96,7 @@ def low(worked):
 
 
 def tall(worked):
-    """The tower, whose T is beyond the quarter."""
+    """The tall frame, whose T is beyond the quarter."""
     check_moves(worked)
     top, forces, _, moments = by_the_text(worked)
     T_s, quarter = Fraction(worked.T, 1000), Fraction(worked.V_D, 4)
@@ -158,7 +158,7 @@ def step(office, site):
 
 def names(office_data, low_data, tall_data):
     """What the page may name."""
-    office, low_frame, tower = map(by_hand.read, (office_data, low_data, tall_data))
-    return {'rule_table': rule_table(), 'begins': begins(), **low(low_frame), **tall(tower), **step(office, low_frame.ground), **heights(),
+    office, low_frame, tall_frame = map(read, (office_data, low_data, tall_data))
+    return {'rule_table': rule_table(), 'begins': begins(), **low(low_frame), **tall(tall_frame), **step(office, low_frame.ground), **heights(),
             'none_up_to': comma(NONE_UP_TO), 'rising_to': comma(QUARTER_FROM - 1), 'quarter_from': comma(QUARTER_FROM),
-            'low_rise': rise(low_frame), 'tall_rise': rise(tower), 'low_sheet': code(low_data.decode().splitlines())}
+            'low_rise': rise(low_frame), 'tall_rise': rise(tall_frame), 'low_sheet': code(low_data.decode().splitlines())}

@@ -38,7 +38,7 @@ def approximate():
 
 
 def remainders():
-    """At a quarter V_D of every remainder by four, and just below it; a light tower, whose newtons count."""
+    """At a quarter V_D of every remainder by four, and just below it; a light tall frame, whose newtons count."""
     frame = limits.Frame(1, 3_571, 280, 150, 138)
     for T in (3_571, 3_572):
         found = {}

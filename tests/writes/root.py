@@ -8,7 +8,7 @@ from fractions import Fraction
 from typing import NamedTuple
 
 from tests.model import basin, limits, paper, response
-from tests.writes.by_hand import code, comma, decimal, hundredths, table
+from tests.writes.by_hand.text import code, comma, decimal, hundredths, table
 
 R = 480
 DESIGN, MCE, BASIN = (R - 25, 75), (R - 50, 50), (R, 100)

@@ -7,7 +7,9 @@ from fractions import Fraction
 from math import floor
 
 from tests.model import calls, limits, response, towers
-from tests.writes.by_hand import STAR, code, comma, decimal, hundredths, ranged, read, table
+from tests.writes.by_hand.shears import STAR
+from tests.writes.by_hand.text import code, comma, decimal, hundredths, ranged, table
+from tests.writes.by_hand.worked import read
 
 # weights in kN and heights in dm of the towers; the whole has the largest height
 SPLITS = (((5_000, 10_000), (300, 300)), ((7_500, 7_500), (250, 300)), ((4_996, 4_996, 5_008), (300, 300, 300)))
