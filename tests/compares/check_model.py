@@ -10,8 +10,6 @@ from tests.compares.checks import (basin, calls, demand_3, errors, figures, fine
 
 MODULES = (figures, paper, finer, basin, pairs, roof, calls, towers, moves, moves_drawn, larger_r, errors, refusals, logs, sheets, demand_3)
 
-MODULES = (figures, paper, finer, basin, pairs, roof, calls, towers, moves, errors, refusals, logs, sheets, demand_3)
-
 
 def answer(function):
     """What a check gives, or the error that stopped it."""
