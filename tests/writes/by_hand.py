@@ -112,7 +112,7 @@ def site_table(worked):
     """S, F_a, F_v, A, B and T0 of the three shears."""
     rows = [[f'{name}'] for name in ('S_S = mapped · N_A, in 0.0001 g', 'S_1 = mapped · N_V, in 0.0001 g', 'F_a by Table 2, in 0.0001',
                                      'F_v by Table 2, in 0.0001', 'A = F_a · S_S, in 10⁻⁸ g', 'B = F_v · S_1, in 10⁻⁸ g',
-                                     'T0 = 1000 · B / A, in ms', '0.2 · T0, 0.6 · T0, 2.5 · T0')]
+                                     'T0 = 1000 · B / A, in ms', '0.2 · T0, 0.6 · T0, 2.5 · T0, in ms')]
     for S_S, S_1, NA, NV, figures in hazards(worked):
         cls = worked.ground.cls
         a_text, a = between(sites.S_S_COLUMNS, sites.F_A[cls], S_S * NA)
@@ -137,7 +137,7 @@ def corner_cells(A, zone, figures):
 
 def basin_table(worked):
     """A, T0 and B of the three shears in a zone of the Taipei Basin."""
-    rows = [['A, in 10⁻⁸ g'], ['T0 by Table 4, in ms'], ['B = A · T0 / 1000, in 10⁻⁸ g'], ['0.2 · T0, 0.6 · T0, 2.5 · T0']]
+    rows = [['A, in 10⁻⁸ g'], ['T0 by Table 4, in ms'], ['B = A · T0 / 1000, in 10⁻⁸ g'], ['0.2 · T0, 0.6 · T0, 2.5 · T0, in ms']]
     for name, A, figures in (('S_DS', basins.S_DS, worked.design), ('S_MS', basins.S_MS, worked.mce), ('S_DS', basins.S_DS, worked.star)):
         cells = (f'{name} = {decimal(Fraction(A, 10**8))} g: **{comma(A)}**', *corner_cells(A, worked.ground.zone, figures))
         for row, cell in zip(rows, cells):
@@ -256,9 +256,9 @@ def star_divisor(worked):
 def response_table(worked):
     """Spectrum, roots, factor, ratio and shear of each column."""
     T, equations = worked.T, '(10), (15)' if in_basin(worked) else '(4)'
-    rows = [[f'branch of the spectrum {equations}'], ['Sa, 10⁻⁷ g'], ['capacity'], ['root²'], ['root, 10⁻⁷'],
+    rows = [[f'branch of the spectrum {equations}'], ['Sa, 10⁻⁷ g'], ['capacity, plain number'], ['root², plain number'], ['root, 10⁻⁷'],
             ['branch of the factor (6), (16)'], ['factor, 10⁻⁷'], ['q = Sa / factor, 10⁻⁷'], ['m by (8), (18), 10⁻⁷'],
-            ['p by (19), 10⁻⁷ g'], ['shear']]
+            ['p by (19), 10⁻⁷ g'], ['shear, N']]
     ends = ((*ratio_cells(worked.design, worked.q, worked.m), '', shear_cell(worked, worked.m, SHEAR, worked.V)),
             (*ratio_cells(worked.mce, worked.q_M, worked.m_M), '', shear_cell(worked, worked.m_M, SHEAR, worked.V_M)),
             ('', '', p_cell(worked.star, worked.p), shear_cell(worked, worked.p, star_divisor(worked), worked.V_star)))
@@ -316,7 +316,7 @@ def spectrum_rows(worked):
     _, B_M, _ = corner_cells(basins.S_MS, worked.ground.zone, worked.mce)
     (branch, Sa), (same_branch, Sa_M) = (spectrum_cells(figures, worked.T) for figures in (worked.design, worked.mce))
     assert branch == same_branch and worked.star[:4] == worked.design[:4]
-    return [('T0 by Table 4, ms', T0), ('0.2 · T0, 0.6 · T0, 2.5 · T0', ends), ('B of V and V*, 10⁻⁸ g', B), ('B of V_M, 10⁻⁸ g', B_M),
+    return [('T0 by Table 4, ms', T0), ('0.2 · T0, 0.6 · T0, 2.5 · T0, ms', ends), ('B of V and V*, 10⁻⁸ g', B), ('B of V_M, 10⁻⁸ g', B_M),
             ('branch of the spectrum (10), (15)', branch), ('Sa of V and V*, 10⁻⁷ g', Sa), ('Sa of V_M, 10⁻⁷ g', Sa_M)]
 
 
@@ -416,7 +416,7 @@ def basin_names(worked):
     listings = '\n\n'.join(f'With zone {other.ground.zone} in line 1:\n\n' + code(sheet.listing(other).decode().splitlines()) for other in others)
     return {'basin_table': basin_table(worked), 'zone': str(worked.ground.zone), 'A_design': comma(basins.S_DS), 'A_mce': comma(basins.S_MS),
             'zones': table(('zone', 'T0, ms', 'T0, s', 'B of V and V*, 10⁻⁸ g', 'B of V_M, 10⁻⁸ g'), zones),
-            'other_spectra': across(others, '', spectrum_rows), 'other_shears': across(others, '10⁻⁷; shears in N', shear_rows),
+            'other_spectra': across(others, '', spectrum_rows), 'other_shears': across(others, '10⁻⁷, p in 10⁻⁷ g, x a plain number, shears in N', shear_rows),
             'other_storeys': across(others, '', storey_rows), 'other_listings': listings,
             'other_x': ' and '.join(each for other in others for each in x_fraction(other))}
 
