@@ -247,7 +247,7 @@ uint64_t rukeshomaji_distribution(uint64_t base_shear, uint64_t period, const ui
  *            values          measured: velocity, dm/s: 500 to 30,000; cohesive: N: 2 to 25; cohesionless: N: 1 to 50;
  *                            soft clay: q, 0.01 kgf/cm2: 1 to 400; as many. A library before 2.4.0 refuses soft clay with 15
  * Returned   0, or the refusal
- * Refused    2, 13, 14, 15
+ * Refused    2, 13 to 15
  * Written    reply: all fields
  * Reference  document 000 (2), (3.a), (3.b), Table 3
  */
