@@ -1,5 +1,5 @@
-"""Runs the tests outside the gate, one after the other: papers and links, the counts that the papers state, manual, pictures, header, model; then
-the numerals of the model, each changed by one; then the program, the examples and lists that are NULL, which need `rt`, and the last two x86-64 or
+"""Runs the tests outside the gate, one after the other: papers and links, the counts that the papers state, manual, README, pictures, header, model;
+then the numerals of the model, each changed by one; then the program, the examples and lists that are NULL, which need `rt`, and the last two x86-64 or
 RUKESHOMAJI_LIBRARY, a shared library of the core for the machine at hand.
 
 usage: python3 -m tests.all [quick]      quick: the shorter ones that need Python alone, in about half a minute of processor time
@@ -21,6 +21,8 @@ QUICK = (
     'tests.papers',
     'tests.counts',
     'tests.manual',
+    'tests.numerals',
+    'tests.readme',
     'tests.writes.pictures check',
     'tests.compares.header',
     'tests.compares.check_model',

@@ -10,7 +10,6 @@ import re
 import sys
 from fractions import Fraction
 from math import ceil
-from typing import get_type_hints
 
 from tests.model import limits, sheet, storeys
 from tests.stated import held, plain, releases
@@ -74,7 +73,7 @@ def fragment():
     kind, *rest = office.frame
     assert frame == f"RukeshomajiFrame frame = {{{ {2: 'RUKESHOMAJI_CONCRETE'}[kind]}, {', '.join(map(str, rest))}}};"
     assert lists == f"uint64_t weights[LEVELS] = {{{', '.join(map(str, office.weights))}}}, heights[LEVELS] = {{{', '.join(map(str, office.heights))}}};"
-    fields_of_site = NUMBER_WORDS[len(get_type_hints(limits.Site))]
+    fields_of_site = NUMBER_WORDS[len(limits.Site._fields)]
     yield f'A site has {fields_of_site} numbers in C and in Python'
     yield f'Here the {NUMBER_WORDS[len(limits.FACTORS)]} factors are {office.ground.NA}.'
     zone = example('basin').ground.zone

@@ -154,6 +154,7 @@ def places_said():
 def entries(constant):
     """Sentences of each entry."""
     of, alone = references(), 'with 2 for lists of unequal length alone'
+    assert storeys.F_t(limits.PERIOD[-1], PART * 1000) == 1000
     roof = f"{of['roof']} is 0 for T up to {storeys.NO_ROOF_FORCE} ms and at most V_D/{PART}, rounded up."
     site, basin = runs(order('job')), runs(order('basin_job'))
     yield 'job', [RETURNED, f'Refused {site} Written', f"Reference {of['job']} {roof}", 'the shears above level 1']
@@ -184,8 +185,7 @@ def entries(constant):
 
 def checks(header, constant, known):
     """(holds, words) of what each part says. `constant` gives a constant of the core; `known` are sentences held elsewhere, wherever they stand."""
-    comments = dict(re.findall(r'\n(?:/\*((?:(?!\*/).)*?)\*/\n)uint64_t rukeshomaji_(\w+)\(', header, re.S))
-    parts = {name: text for text, name in comments.items()}
+    parts = {name: text for text, name in re.findall(r'\n/\*((?:(?!\*/).)*)\*/\nuint64_t rukeshomaji_(\w+)\(', header, re.S)}
     rest = header
     for name, sentences in entries(constant):
         text = parts[name]
