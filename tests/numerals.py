@@ -17,7 +17,7 @@ import sys
 from fractions import Fraction
 from math import ceil
 
-from tests.compares.header_words import HANDED_IN, order, places
+from tests.compares.header_words import HANDED_IN, RELEASES, order, places
 from tests.model import basin as basins, calls, limits, response, sheet, site as sites, soil, storeys
 from tests.stated import numerals, plain, runs
 from tests.writes import by_hand, manual, roof
@@ -188,6 +188,7 @@ def of_others():
     yield 'near_fault.md', f'There is no [roof force] up to {storeys.NO_ROOF_FORCE} ms.'
     yield 'near_fault.md', f'place {places("job", 6)[0]} for N_A, 2 for N_V, 3 for N_A M and {places("job", 6)[-1]} for N_V M'
     yield 'roof_force.md', f'where T is at most {decimal(Fraction(storeys.NO_ROOF_FORCE, 1000))} s, and never more than a quarter of V_D'
+    yield 'roof_force.md', f"since version {RELEASES['a finer spectrum']} every shear can be some newtons lower"
     yield 'rounding.md', f'From {roof.NONE_UP_TO + 1} to {comma(roof.QUARTER_FROM - 1)} ms a smaller T'
     yield 'rounding.md', f'a period between {roof.NONE_UP_TO} and {roof.NONE_UP_TO + 1} ms becomes {roof.NONE_UP_TO} ms'
     yield 'shear_and_storeys.md', f'less than {HANDED_IN} N above it. This is proved'
