@@ -3,9 +3,8 @@
  * examples/build.sh makes the library of x86-64 Linux, librukeshomaji.a and librukeshomaji.so; examples/ has programs in C and C++, a
  * module for Python and programs that use it. Pointers and 64-bit numbers are all that an entry takes and returns.
  *
- * crates/linked/src/lib.rt has the contracts, numbers, places, figures and buffers, which each entry is proved to meet; this page prints them a
- * second time. What it says of threads, NULL, overlap, heap and stack is not proved (docs/LIMITS.md). Document 000 is the code's text in
- * English; docs/manual states the rules.
+ * crates/linked/src/lib.rt has the contract of each entry, which is proved; this page repeats it. What it says of threads, NULL, overlap, heap
+ * and stack is not proved (docs/LIMITS.md). Document 000 is the code's text in English; docs/manual states the rules.
  *
  *   Every input is taken. An entry returns 0, or the number of the first refusal that applies; it writes no message and ends no program.
  *   Every field of `figures` or `reply`, and `place`, is written at each call. Where data is refused, all but the place and a listing's
@@ -16,7 +15,7 @@
  *   they share, as long as nothing that one of them writes to is used by another.
  *   A list or a buffer is a pointer and a count of its elements. With a count of 0 the pointer may be NULL, which is tried and not proved
  *   (docs/LIMITS.md). No other pointer may be NULL; each is aligned for its type.
- *   What is written (buffers, figures, place, reply, listing) must not overlap anything else that is handed on. What is only read may.
+ *   What is written (buffers, figures, place, reply, listing) must not overlap anything else that is passed. What is only read may.
  *   No entry uses the heap; the library needs memcpy and memset alone. docs/MEASURED.md says how much stack each entry took.
  */
 #ifndef RUKESHOMAJI_H
@@ -138,11 +137,11 @@ typedef struct {
  *            forces, shears, overturnings    buffers of at least as many cells
  * Returned   0, or the refusal
  * Refused    1 to 12
- * Written    figures: all fields. On success the first cells of the buffers, one a level, lowest first: forces in N, which add up to V_D;
+ * Written    figures: all fields. On success the first cells of the buffers, one per level, lowest first: forces in N, which add up to V_D;
  *            shears in N, each under its level; overturnings in N*dm, about the bottom of its storey. Other cells hold what they held
  * Reference  document 000 (1), (4) to (9), (12) to (14), (16) to (21), (23) without its factor. F_t of (21) is 0 for T up to 700 ms and at
  *            most V_D/4, rounded up. docs/DIFFERENCES.md says where else the rules depart from it
- * Moves      v, vm, star and vd as of rukeshomaji_shear_call, by the sum of the weights; nothing is said of forces,
+ * Moves      v, vm, star and vd as for rukeshomaji_shear_call, by the sum of the weights; nothing is said of forces,
  *            overturnings and the shears above level 1
  */
 uint64_t rukeshomaji_job(const RukeshomajiSite *site, const RukeshomajiFrame *frame, const uint64_t *weights, uint64_t weight_count,
@@ -151,12 +150,12 @@ uint64_t rukeshomaji_job(const RukeshomajiSite *site, const RukeshomajiFrame *fr
 
 /* The five figures of a job, without its storeys: those of rukeshomaji_job.
  *
- * Given      site, frame, weights, heights    as of rukeshomaji_job
+ * Given      site, frame, weights, heights    as for rukeshomaji_job
  * Returned   0, or the refusal
  * Refused    1 to 12, with 2 for lists of unequal length alone
  * Written    figures: all fields
  * Reference  document 000 (1), (4) to (9), (12) to (14), (16) to (20)
- * Moves      as of rukeshomaji_shear_call, by the sum of the weights
+ * Moves      as for rukeshomaji_shear_call, by the sum of the weights
  */
 uint64_t rukeshomaji_figures(const RukeshomajiSite *site, const RukeshomajiFrame *frame, const uint64_t *weights, uint64_t weight_count,
                              const uint64_t *heights, uint64_t height_count, RukeshomajiFigures *figures);
@@ -165,13 +164,13 @@ uint64_t rukeshomaji_figures(const RukeshomajiSite *site, const RukeshomajiFrame
  *
  * Given      zone            micro-zone of the Basin: 1 to 4
  *            frame           see above
- *            weights, heights, forces, shears, overturnings    as of rukeshomaji_job
+ *            weights, heights, forces, shears, overturnings    as for rukeshomaji_job
  * Returned   0, or the refusal
  * Refused    1 to 4, 18, 8 to 12
- * Written    as of rukeshomaji_job
+ * Written    as for rukeshomaji_job
  * Reference  document 000, 2.1 after (4) for the period, (6) to (8), (10), (11), (15) to (21), Table 4, (23) without its factor.
- *            F_t of (21) as of rukeshomaji_job. docs/DIFFERENCES.md says where else the rules depart from it
- * Moves      as of rukeshomaji_job, with the same zone
+ *            F_t of (21) as for rukeshomaji_job. docs/DIFFERENCES.md says where else the rules depart from it
+ * Moves      as for rukeshomaji_job, with the same zone
  */
 uint64_t rukeshomaji_basin_job(uint64_t zone, const RukeshomajiFrame *frame, const uint64_t *weights, uint64_t weight_count,
                                const uint64_t *heights, uint64_t height_count, uint64_t *forces, uint64_t force_cells, uint64_t *shears,
@@ -179,12 +178,12 @@ uint64_t rukeshomaji_basin_job(uint64_t zone, const RukeshomajiFrame *frame, con
 
 /* The five figures of a job in the Taipei Basin, without its storeys: those of rukeshomaji_basin_job.
  *
- * Given      zone, frame, weights, heights    as of rukeshomaji_basin_job
+ * Given      zone, frame, weights, heights    as for rukeshomaji_basin_job
  * Returned   0, or the refusal
  * Refused    1 to 4, 18, 8 to 12, with 2 for lists of unequal length alone
  * Written    figures: all fields
  * Reference  document 000, 2.1 after (4) for the period, (6) to (8), (10), (11), (15) to (20), Table 4
- * Moves      as of rukeshomaji_figures, with the same zone
+ * Moves      as for rukeshomaji_figures, with the same zone
  */
 uint64_t rukeshomaji_basin_figures(uint64_t zone, const RukeshomajiFrame *frame, const uint64_t *weights, uint64_t weight_count,
                                    const uint64_t *heights, uint64_t height_count, RukeshomajiFigures *figures);
@@ -202,9 +201,9 @@ uint64_t rukeshomaji_basin_figures(uint64_t zone, const RukeshomajiFrame *frame,
  * Reference  document 000 (1), (4) to (9), (12) to (14), (16) to (20). By its 3.4 V_D scales a dynamic analysis; docs/manual/shear_and_storeys.md
  * Towers     if n calls, and the call with the sum of their weights, have the same site and frame and get the same t, then their vd add up to
  *            the vd of that call, or to at most (n - 1) N more; docs/manual/towers.md
- * Moves      of two calls with the same site that get the same t: with the same r, if i and weight are no smaller and alpha_y is no larger, none
- *            of v, vm, star and vd is lower; with the same i, alpha_y and weight, a larger r raises none of v, vm and vd and never lowers star,
- *            which can rise; docs/manual/moves.md
+ * Moves      of two calls with the same site that get the same t: if the second has the same r, no smaller i and weight and no larger alpha_y,
+ *            none of its v, vm, star and vd is lower; if it has the same i, alpha_y and weight and a larger r, none of its v, vm and vd is higher,
+ *            and its star is not lower: star can rise; docs/manual/moves.md
  */
 uint64_t rukeshomaji_shear_call(const RukeshomajiSite *site, const RukeshomajiFrame *frame, uint64_t weight, uint64_t height,
                                 RukeshomajiFigures *figures);
@@ -213,13 +212,13 @@ uint64_t rukeshomaji_shear_call(const RukeshomajiSite *site, const RukeshomajiFr
  *
  * Given      zone            micro-zone of the Basin: 1 to 4
  *            frame           see above
- *            weight, height  as of rukeshomaji_shear_call
+ *            weight, height  as for rukeshomaji_shear_call
  * Returned   0, or the refusal
  * Refused    3 and 4 at place 0, then 18, 8 to 12
  * Written    figures: all fields
  * Reference  document 000, 2.1 after (4) for the period, (6) to (8), (10), (11), (15) to (20), Table 4
- * Towers     as of rukeshomaji_shear_call, with the same zone
- * Moves      as of rukeshomaji_shear_call, with the same zone
+ * Towers     as for rukeshomaji_shear_call, with the same zone
+ * Moves      as for rukeshomaji_shear_call, with the same zone
  */
 uint64_t rukeshomaji_basin_shear_call(uint64_t zone, const RukeshomajiFrame *frame, uint64_t weight, uint64_t height,
                                       RukeshomajiFigures *figures);
@@ -229,10 +228,10 @@ uint64_t rukeshomaji_basin_shear_call(uint64_t zone, const RukeshomajiFrame *fra
  *
  * Given      base_shear      what is shared among the levels, N: 1 to 1,200,000,000
  *            period          period, which decides the roof force, ms: 0 to 9,999
- *            weights, heights, forces, shears, overturnings    as of rukeshomaji_job
+ *            weights, heights, forces, shears, overturnings    as for rukeshomaji_job
  * Returned   0, or the refusal
- * Refused    1 to 4 as of rukeshomaji_job, then 19, 20
- * Written    place: of the refusal; 0 on success. On success the first cells of the buffers, as of rukeshomaji_job: the forces add up to
+ * Refused    1 to 4 as for rukeshomaji_job, then 19, 20
+ * Written    place: of the refusal; 0 on success. On success the first cells of the buffers, as for rukeshomaji_job: the forces add up to
  *            base_shear. Each shear is at least its exact figure from base_shear, and less than 2 N above it
  * Reference  document 000 (21) with base_shear for V_D and period for T, (23) without its factor. F_t of (21) is 0 for a period up to 700 ms
  *            and at most base_shear/4, rounded up
@@ -248,7 +247,7 @@ uint64_t rukeshomaji_distribution(uint64_t base_shear, uint64_t period, const ui
  *            values          measured: velocity, dm/s: 500 to 30,000; cohesive: N: 2 to 25; cohesionless: N: 1 to 50;
  *                            soft clay: q, 0.01 kgf/cm2: 1 to 400; as many. A library before 2.4.0 refuses soft clay with 15
  * Returned   0, or the refusal
- * Refused    2, 13, 14, 15
+ * Refused    2, 13 to 15
  * Written    reply: all fields
  * Reference  document 000 (2), (3.a), (3.b), Table 3
  */
@@ -262,7 +261,7 @@ uint64_t rukeshomaji_site_class(const uint64_t *thicknesses, uint64_t thickness_
  * Refused    17, 16, 1, 3 to 12 with a line `site`; 17, 16, 1, 3, 4, 18, 8 to 12 with a line `basin`
  * Written    listing: its first bytes, as many as reply's length says, with no NUL after them; the others hold what they held.
  *            reply: all fields. A refusal's line (`refused`, number, place) is a listing too, and has its length
- * Reference  docs/manual/sheet.md; else as of rukeshomaji_job and rukeshomaji_basin_job
+ * Reference  docs/manual/sheet.md; else as for rukeshomaji_job and rukeshomaji_basin_job
  */
 uint64_t rukeshomaji_sheet(const char *sheet, uint64_t byte_count, char listing[RUKESHOMAJI_LONGEST_LISTING], RukeshomajiListing *reply);
 

@@ -1,8 +1,8 @@
-"""Runs the tests outside the gate, one after the other: papers and links, the counts that the papers state, manual, pictures, header, stored cases,
-model; then the numerals of the model, each changed by one; then the program, the examples and lists that are NULL, which need `rt`, and the last two
+"""Runs the tests outside the gate, one after the other: papers and links, the counts that the papers state, manual, README, pictures, header, stored
+cases, model; then the numerals of the model, each changed by one; then the program, the examples and lists that are NULL, which need `rt`, and the last two
 x86-64 or RUKESHOMAJI_LIBRARY, a shared library of the core for the machine at hand.
 
-usage: python3 -m tests.all [quick]      quick: the shorter ones that need Python alone, in less than a minute
+usage: python3 -m tests.all [quick]      quick: the shorter ones that need Python alone, in about half a minute of processor time
 
 The comparison with the model (tests/compares/compare.py), the wrong models (tests/compares/wrong_models.py), which need the library that it
 builds, and tests/tried.sh take longer, and are run by themselves.
@@ -21,6 +21,8 @@ QUICK = (
     'tests.papers',
     'tests.counts',
     'tests.manual',
+    'tests.numerals',
+    'tests.readme',
     'tests.writes.pictures check',
     'tests.compares.header',
     'tests.stored',

@@ -1,10 +1,13 @@
-"""Holds include/rukeshomaji.h to the core by reading both: every constant, every range, every struct and every declaration.
+"""Holds include/rukeshomaji.h to the core by reading both: every constant, every range, every struct and every declaration; and every other numeral
+of its comments to the model and to the manual.
 
 usage: python3 -m tests.compares.header
 
 - every constant of the header is the core's: one of crates/limits/src, crates/sheet/src or crates/linked/src, by the table below; every
   refusal number of the core is in the header
 - every range that the header prints is the core's
+- the lines `Refused`, the places, classes, kinds, bounds, versions and equations of the comments are as tests/compares/header_words.py says, and no
+  numeral of a comment is held by nothing
 - every entry is declared, with the types in the order in which the core takes them; a struct has as many fields as the core's array has
   cells, and those of site and frame are in the core's order
 
@@ -14,6 +17,8 @@ It prints what is wrong and one line of counts, and exits with 1 where anything 
 import pathlib
 import re
 import sys
+
+from tests.compares import header_words
 
 ROOT = pathlib.Path(__file__).resolve().parents[2]
 HEADER = (ROOT / 'include' / 'rukeshomaji.h').read_text()
@@ -98,16 +103,21 @@ def check_constants():
         yield header.get(name) == core.get(name), f'{PREFIX}{name}: the header has {header.get(name)}, the core {core.get(name)}'
 
 
-def check_ranges():
-    """Every range that is printed, wherever it is."""
-    text = re.sub(r'\s*\n \*\s*|\s+', ' ', HEADER)
+def ranges():
+    """Each range as the header must print it: the words before it, the range, the words after it."""
     for before, where, *after in RANGES:
         file, *names = where.split()
         values = [constants(source(file))[name] for name in names]
         words = ' to '.join(f'{each:,}' for each in values) if len(values) == 2 else None
-        words = words or (printed(values[0]) if isinstance(values[0], list) else f'{values[0]:,}')
+        yield before, words or (printed(values[0]) if isinstance(values[0], list) else f'{values[0]:,}'), ''.join(after)
+
+
+def check_ranges():
+    """Every range that is printed, wherever it is."""
+    text = re.sub(r'\s*\n \*\s*|\s+', ' ', HEADER)
+    for before, words, after in ranges():
         places = [match.end() for match in re.finditer(r'(?<![\w-])' + re.escape(before), text)]
-        right = places and all(re.match(re.escape(words + ''.join(after)) + r'(?![\d,]*\d)', text[place:]) for place in places)
+        right = places and all(re.match(re.escape(words + after) + r'(?![\d,]*\d)', text[place:]) for place in places)
         yield right, f'after {before!r} the header has {[text[place:place + 20] for place in places]}, the core {words!r}'
 
 
@@ -142,10 +152,17 @@ def check_entries():
         yield fields(struct) == names, f'{struct} has {fields(struct)}, the core {names}'
 
 
+def check_comments():
+    """Every other numeral of the comments. Constants and ranges are held above."""
+    defined = re.findall(rf'^#define ({PREFIX}\w+ \d+)\b', HEADER, re.M)
+    return header_words.checks(HEADER, core_constant, [*defined, *map(''.join, ranges())])
+
+
 def main():
     """Check all, say what is wrong."""
     counts, wrong = [], 0
-    for what, checks in (('constants', check_constants()), ('ranges', check_ranges()), ('declarations and structs', check_entries())):
+    for what, checks in (('constants', check_constants()), ('ranges', check_ranges()), ('declarations and structs', check_entries()),
+                         ('sentences and numerals of comments', check_comments())):
         results = list(checks)
         for right, words in results:
             if not right:

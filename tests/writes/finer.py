@@ -3,6 +3,8 @@
 What the page says in words is asserted here of the model.
 """
 
+import pathlib
+import re
 from fractions import Fraction
 
 from tests.model import calls, exact, response
@@ -15,6 +17,8 @@ SHOWN = range(76, 86)           # of the table
 ON_A_SLOPE = 492                # an R with which V changes by more than a step each millisecond
 BY_HAND = (83, 84)
 UNITS = {BEFORE: '10⁻⁶', NOW: '10⁻⁷'}
+SINCE = '2.3.0'                 # the version that brought it
+HEADER = pathlib.Path(__file__).resolve().parents[2] / 'include' / 'rukeshomaji.h'
 
 
 def at_period(worked, T, s):
@@ -87,8 +91,8 @@ def step_rows(worked):
             V = at_period(worked, T, s).V
             cells += [comma(V), comma(at_period(worked, T - 1, s).V - V), decimal(V - exact_shear(worked, T), 1)]
         rows.append(cells)
-    return table(('T, ms', 'exact V, N', 'V before, N', 'less than 1 ms earlier by, N', 'above the exact V by, N',
-                  'V now, N', 'less than 1 ms earlier by, N', 'above the exact V by, N'), rows)
+    return table(('T, ms', 'exact V, N', 'V before, N', 'fall since the ms before, N', 'above the exact V by, N',
+                  'V now, N', 'fall since the ms before, N', 'above the exact V by, N'), rows)
 
 
 def by_hand_table(worked):
@@ -135,6 +139,13 @@ def example_rows(examples):
     return table(('sheet', 'V, N', 'V_M, N', 'V*, N', 'V_D, N'), rows)
 
 
+def source():
+    """The state of the rules, and since which version it is so, by the header."""
+    text = ' '.join(HEADER.read_text().replace('\n *', ' ').split())
+    said = re.search(r'it is (\d+) since [^()]* \((\d+\.\d+\.\d+)\)', text)
+    return {'source': said[1], 'source_since': said[2]}
+
+
 def names(data, others):
     """What the page may name; `others` are the other examples by their names."""
     worked = read(data)
@@ -144,7 +155,7 @@ def names(data, others):
     same = [str(T) for T, one, other in zip(PERIODS, before, now) if one == other]
     assert same == [str(T) for T in range(int(same[0]), int(same[-1]) + 1)]
     lowest, highest = picture_ends(worked)
-    return {**on_a_slope(worked), 'alike': ' and '.join(same), 'height': str(highest - lowest), 'about': comma(round(min(now), -2)),
+    return {**on_a_slope(worked), **source(), 'alike': ' and '.join(same), 'height': str(highest - lowest), 'about': comma(round(min(now), -2)),
             'sheet': code(data.decode().splitlines()), 'steps_table': step_rows(worked), 'hand_table': by_hand_table(worked),
             'examples_table': example_rows(others | {'light_frame.sheet': worked}),
             'first': str(PERIODS[0]), 'last': str(PERIODS[-1]), 'falls': falls, 'same': str(longest_run(before)), 'jump': str(jump),

@@ -104,6 +104,6 @@ def soft_clay_names():
     assert answer.cls == soil.SOFT and soil.log(*MADE_UP).cls == soil.NORMAL
     return {'range': ranged(soil.VALUE[soil.SOFT_CLAY]), 'least': hundredths(least), 'most': hundredths(most), 'most_q': str(most),
             'slowest': comma(soil.velocity(soil.SOFT_CLAY, least)), 'fastest': comma(soil.velocity(soil.SOFT_CLAY, most)),
-            'last_soft': str(last), 'first_normal': str(last + 1), 'velocities': table(('q', 'q_u, kgf/cm²', '1200·q_u^0.36', 'v, dm/s'), rows),
+            'last_soft': str(last), 'first_normal': str(last + 1), 'velocities': table(('q, 0.01 kgf/cm²', 'q_u, kgf/cm²', '1200·q_u^0.36, dm/s', 'v, dm/s'), rows),
             'boring': asked(), 'by_hand': code(map(worked, *BORING[1:])), 'classed': near(BORING), 'made_up': near(MADE_UP),
             'n_2': comma(soil.velocity(soil.COHESIVE, 2)), 'cls': str(answer.cls)}

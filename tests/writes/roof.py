@@ -8,6 +8,7 @@ from math import ceil
 
 from tests.model import calls, limits, response, sheet, storeys
 from tests.model.job import job
+from tests.writes import finer
 from tests.writes.by_hand.text import code, comma, decimal, table
 from tests.writes.by_hand.worked import read
 
@@ -32,7 +33,7 @@ def rule_table():
         for T in range(1, LONGEST + 1):
             piece = 0 if T <= NONE_UP_TO else RISING * Fraction(T, 1000) * V_D if T < QUARTER_FROM else Fraction(V_D, 4)
             assert storeys.F_t(T, V_D) == ceil(piece), (T, V_D)
-    return table(('T, ms', 'F_t'), (
+    return table(('T, ms', 'F_t, N'), (
         (f'up to {comma(NONE_UP_TO)}', '0'),
         (f'{comma(NONE_UP_TO + 1)} to {comma(QUARTER_FROM - 1)}', '0.07·(T in s)·V_D, rounded up'),
         (f'from {comma(QUARTER_FROM)} on; the longest T of a sheet is {comma(LONGEST)}', 'V_D/4, rounded up')))
@@ -161,4 +162,5 @@ def names(office_data, low_data, tall_data):
     office, low_frame, tall_frame = map(read, (office_data, low_data, tall_data))
     return {'rule_table': rule_table(), 'begins': begins(), **low(low_frame), **tall(tall_frame), **step(office, low_frame.ground), **heights(),
             'none_up_to': comma(NONE_UP_TO), 'rising_to': comma(QUARTER_FROM - 1), 'quarter_from': comma(QUARTER_FROM),
-            'low_rise': rise(low_frame), 'tall_rise': rise(tall_frame), 'low_sheet': code(low_data.decode().splitlines())}
+            'finer_since': finer.SINCE, 'low_rise': rise(low_frame), 'tall_rise': rise(tall_frame),
+            'low_sheet': code(low_data.decode().splitlines())}

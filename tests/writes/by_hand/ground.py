@@ -35,7 +35,7 @@ def site_table(worked):
     """S, F_a, F_v, A, B and T0 of the three shears."""
     rows = [[f'{name}'] for name in ('S_S = mapped · N_A, in 0.0001 g', 'S_1 = mapped · N_V, in 0.0001 g', 'F_a by Table 2, in 0.0001',
                                      'F_v by Table 2, in 0.0001', 'A = F_a · S_S, in 10⁻⁸ g', 'B = F_v · S_1, in 10⁻⁸ g',
-                                     'T0 = 1000 · B / A, in ms', '0.2 · T0, 0.6 · T0, 2.5 · T0')]
+                                     'T0 = 1000 · B / A, in ms', '0.2 · T0, 0.6 · T0, 2.5 · T0, in ms')]
     for S_S, S_1, NA, NV, figures in hazards(worked):
         cls = worked.ground.cls
         a_text, a = between(sites.S_S_COLUMNS, sites.F_A[cls], S_S * NA)
@@ -60,7 +60,7 @@ def corner_cells(A, zone, figures):
 
 def basin_table(worked):
     """A, T0 and B of the three shears in a zone of the Taipei Basin."""
-    rows = [['A, in 10⁻⁸ g'], ['T0 by Table 4, in ms'], ['B = A · T0 / 1000, in 10⁻⁸ g'], ['0.2 · T0, 0.6 · T0, 2.5 · T0']]
+    rows = [['A, in 10⁻⁸ g'], ['T0 by Table 4, in ms'], ['B = A · T0 / 1000, in 10⁻⁸ g'], ['0.2 · T0, 0.6 · T0, 2.5 · T0, in ms']]
     for name, A, figures in (('S_DS', basins.S_DS, worked.design), ('S_MS', basins.S_MS, worked.mce), ('S_DS', basins.S_DS, worked.star)):
         cells = (f'{name} = {decimal(Fraction(A, 10**8))} g: **{comma(A)}**', *corner_cells(A, worked.ground.zone, figures))
         for row, cell in zip(rows, cells):

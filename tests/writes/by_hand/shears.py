@@ -48,9 +48,9 @@ def star_divisor(worked):
 def response_table(worked):
     """Spectrum, roots, factor, ratio and shear of each column."""
     T, equations = worked.T, '(10), (15)' if in_basin(worked) else '(4)'
-    rows = [[f'branch of the spectrum {equations}'], ['Sa, 10⁻⁷ g'], ['capacity'], ['root²'], ['root, 10⁻⁷'],
+    rows = [[f'branch of the spectrum {equations}'], ['Sa, 10⁻⁷ g'], ['capacity, plain number'], ['root², plain number'], ['root, 10⁻⁷'],
             ['branch of the factor (6), (16)'], ['factor, 10⁻⁷'], ['q = Sa / factor, 10⁻⁷'], ['m by (8), (18), 10⁻⁷'],
-            ['p by (19), 10⁻⁷ g'], ['shear']]
+            ['p by (19), 10⁻⁷ g'], ['shear, N']]
     ends = ((*ratio_cells(worked.design, worked.q, worked.m), '', shear_cell(worked, worked.m, SHEAR, worked.V)),
             (*ratio_cells(worked.mce, worked.q_M, worked.m_M), '', shear_cell(worked, worked.m_M, SHEAR, worked.V_M)),
             ('', '', p_cell(worked.star, worked.p), shear_cell(worked, worked.p, star_divisor(worked), worked.V_star)))

@@ -27,7 +27,7 @@ def spectrum_rows(worked):
     _, B_M, _ = corner_cells(basins.S_MS, worked.ground.zone, worked.mce)
     (branch, Sa), (same_branch, Sa_M) = (spectrum_cells(figures, worked.T) for figures in (worked.design, worked.mce))
     assert branch == same_branch and worked.star[:4] == worked.design[:4]
-    return [('T0 by Table 4, ms', T0), ('0.2 · T0, 0.6 · T0, 2.5 · T0', ends), ('B of V and V*, 10⁻⁸ g', B), ('B of V_M, 10⁻⁸ g', B_M),
+    return [('T0 by Table 4, ms', T0), ('0.2 · T0, 0.6 · T0, 2.5 · T0, ms', ends), ('B of V and V*, 10⁻⁸ g', B), ('B of V_M, 10⁻⁸ g', B_M),
             ('branch of the spectrum (10), (15)', branch), ('Sa of V and V*, 10⁻⁷ g', Sa), ('Sa of V_M, 10⁻⁷ g', Sa_M)]
 
 
@@ -106,6 +106,6 @@ def basin_names(worked):
     listings = '\n\n'.join(f'With zone {other.ground.zone} in line 1:\n\n' + code(sheet.listing(other).decode().splitlines()) for other in others)
     return {'basin_table': basin_table(worked), 'zone': str(worked.ground.zone), 'A_design': comma(basins.S_DS), 'A_mce': comma(basins.S_MS),
             'zones': table(('zone', 'T0, ms', 'T0, s', 'B of V and V*, 10⁻⁸ g', 'B of V_M, 10⁻⁸ g'), zones),
-            'other_spectra': across(others, '', spectrum_rows), 'other_shears': across(others, '10⁻⁷; shears in N', shear_rows),
+            'other_spectra': across(others, '', spectrum_rows), 'other_shears': across(others, '10⁻⁷, p in 10⁻⁷ g, x a plain number, shears in N', shear_rows),
             'other_storeys': across(others, '', storey_rows), 'other_listings': listings,
             'other_x': ' and '.join(each for other in others for each in x_fraction(other))}
