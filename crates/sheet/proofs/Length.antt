@@ -30,7 +30,7 @@ unfolding listing
 results-short n ws hs few =
     let r = resultsAt n ws hs in
     let same = forces-cells (n .t) (n .vd) ws hs in
-    results-listing-short n (r .forces) (r .shears) (r .overturnings)
+    results-listing-short n (r .columns .forces) (r .columns .shears) (r .columns .overturnings)
     (record {
       shears =
           shears-cells (n .t) (n .vd) ws hs ∙ sym same;
