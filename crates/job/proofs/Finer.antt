@@ -1,5 +1,5 @@
 -- What a job answers in ten-millionths is not above what it would answer in millionths: V, V_M, V*, V_D, the shear and the overturning moment of
--- every storey and the force of the top level. So the shears and moments of an older listing, of the same job in millionths, are not below. A force
+-- every storey and the force of the top level. So the shears and moments of a listing of the same job in millionths are not below. A force
 -- below the top level is at most one newton above, as it is the difference of two shears that are each rounded.
 --   inMillionths g W h    the five figures of a building in millionths
 --   columnsInMillionths g T ws hs    forces, shears and overturning moments of that V_D, at the period T

@@ -1,4 +1,4 @@
--- The worked sheet's building near a fault, at T = 500 ms: with a pair of near-fault factors for each level, with the larger of the two pairs
+-- The worked sheet's building near a fault, at T = 500 ms: with a pair of near-fault factors for each hazard level, with the larger of the two pairs
 -- for both levels, and with the smaller one for both. The larger overstates V by 111,973 N, and V_D by 51,077 N; the smaller understates
 -- V_M by 175,776 N, and V_D by 60,896 N. The definition, computed.
 --   nearFault nad nvd nam nvm    its job with these factors

@@ -2,8 +2,10 @@
 --   Outcome A             accepted with a value, or refused with a number and a place
 --   number, place         0 on success
 --   refusalOf o           what is refused: number and place, zeros where data is accepted
+--   zeros n               n zeros
 --   values f n            the values f of what is accepted; n zeros where data is refused
 --   do a; b               judgments taken one after the other: the first that refuses is the outcome
+--   Done                  the value of a judgment that hands on none
 --   require t n p         passes where the test t holds, else refused with number n at place p
 --   verdictOutcome v      what the code's answer v says, and so for each answer that is an enum
 use mathlib.Core.Bool.{Bool, true, false}

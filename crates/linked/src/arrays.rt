@@ -11,7 +11,7 @@ ghost use Rattle.soil.specs.Class.{classNumber};
 ghost use Rattle.sheet.specs.Sheet.{siteValues, frameValues};
 ghost use Rattle.linked.specs.Linked.{FiguresReply, ClassReply};
 
-// A sheet's site line with a pair for each level: S_S and S_1 of the design level, S_S and S_1 of the MCE level, in 0.01 g; N_A and N_V of
+// A sheet's site line with a pair for each hazard level: S_S and S_1 of the design level, S_S and S_1 of the MCE level, in 0.01 g; N_A and N_V of
 // the design level, N_A and N_V of the MCE level, in 0.01; class.
 pub fn site_values(l: &[u64; 9]) -> SiteValues
     ensures { λ r. ⌜ r ≡ siteValues (now (l .entry)) ⌝ }

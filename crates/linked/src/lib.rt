@@ -21,9 +21,7 @@ pub const VERSION: u64 = 2_004_000;
 // The edition of the code: Taiwan's of 2005.
 pub const EDITION: u64 = 2_005;
 
-// The state of the rules: 1 is document 01 by itself, 2 has the Taipei Basin with it, 3 a pair of near-fault factors for each level, 4 no roof
-// force up to 700 ms and at most a quarter of V_D, rounded up, 5 spectrum, roots, factors and ratios in ten-millionths, 6 soft clay by its
-// unconfined compression strength. A change of what any call answers takes the next number.
+// The state of the rules (CHANGELOG.md says what each number has). A change of what any call answers takes the next number.
 pub const SOURCE: u64 = 6;
 
 // The job on a site: a force, a shear and an overturning moment of each level in the lent buffers, place and figures in `figures`.

@@ -1,5 +1,6 @@
 -- The reduction factor (6), (16), of a capacity and a root. A and B in 10⁻⁸ g, T in ms.
 --   x A B T, y A B T     (T − 0.6·T0)/(0.4·T0) and (T − 0.2·T0)/(0.2·T0), each with its sign
+--   one                  1
 --   factor A B T c r     capacity c for T ≥ T0; root r + (c − r)·x down to 0.6·T0; r down to 0.2·T0; below that
 --                        r + (r − 1)·y, where y is negative
 --   exactFactor A B T c r      the same as a fraction without a sign

@@ -1,5 +1,4 @@
--- Document 01's 'Figures to hold it to' in ten-millionths, as document 02 has them worked out afresh: those that are proved together, as one
--- table.
+-- Document 01's 'Figures to hold it to' in ten-millionths: those that are proved together, as one table.
 --   computed    what the definitions give
 --   stated      what was worked out, in document 01's order: the hard site 80/45 at T = 112, 113, 563, 1406, 1407; the ratios at both
 --               thresholds and one to each side; the lower roots of R = 480, design and MCE, and of R = 100, design and MCE; the period of

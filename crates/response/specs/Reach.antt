@@ -1,4 +1,4 @@
--- What the leaves are made for, wide enough for every unit, profile and curve to come.
+-- What spectrum, factor and ratio ask for so that their products fit 64 bits, with room beyond what a job has.
 --   FineUnit s       a divisor of 10⁸ up to 10⁷: millionths and ten-millionths among them
 --   Shape a b t      A and B to 2 g, T to 509,000 ms
 --   Thousandths l    lines whose constants are at most 1

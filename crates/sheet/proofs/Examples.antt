@@ -110,7 +110,7 @@ unfolding sheetListing listing
 office-answered =
     ap (λ (o : Outcome Sheet). listing (o >>= jobOfSheet)) office-read ∙ ap listing worked ∙ office-listed
 
--- and near a fault, with a pair for each level, this one
+-- and near a fault, with a pair for each hazard level, this one
 pub near-fault-answered : sheetListing nearFault ≡ bytes "base\t2116869\t2177765\t1904762\t2177765\t500\n"
     ++ (bytes "level\t3\t1088883\t1088883\t108888300\n"
     ++ (bytes "level\t2\t725922\t1814805\t290368800\n" ++ bytes "level\t1\t362960\t2177765\t508145300\n"))

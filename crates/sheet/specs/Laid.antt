@@ -1,10 +1,10 @@
 -- A sheet laid out as 'Sheet and listing' says: the lines and the bytes of a sheet that holds given numbers.
---   siteNumbers v                    the numbers of a site line with a pair for each level, in order
---   onePairNumbers v                 of one with one pair for both levels
+--   siteNumbers v                    the numbers of a site line with a pair for each hazard level, in order
+--   onePairNumbers v                 of one with one pair for both hazard levels
 --   frameNumbers v                   of line 2
 --   siteLine ns                      the line `site` with the numbers ns
---   GroundLine g l                   l is a line 1 that holds the ground g: of a site by nine numbers, or by seven where both levels have the
---                                    same pair; or of a zone
+--   GroundLine g l                   l is a line 1 that holds the ground g: of a site by nine numbers, or by seven where both hazard levels
+--                                    have the same pair; or of a zone
 --   levelLinesOf ws hs               a level line for each weight and height, lowest first
 --   linesOf l r, sheetLaid l r       the lines of what r holds, l being line 1, and their bytes
 --   Laid l r                         l holds the ground, each number has at most 9 digits, there are as many heights as weights, and

@@ -1,5 +1,5 @@
 -- 'Sheet and listing': the lines of a sheet, and what they hold.
---   onePairLayout, twoPairsLayout    the layouts of a site line: one pair of near-fault factors for both levels, or one for each
+--   onePairLayout, twoPairsLayout    the layouts of a site line: one pair of near-fault factors for both hazard levels, or one for each
 --   basinLayout, frameLayout, levelLayout    of the other lines
 --   sheetForm          'Line 1 is `site`', with seven numbers or nine, or `basin` with the zone in its place; 'Line 2 is `frame`', 'All
 --                      later lines are `level`'
@@ -12,6 +12,7 @@
 --   frameValues ns     kind, calculated period, R, I, alpha-y
 --   Levels             weights in kN and heights in dm, lowest level first
 --   levelsOf ls        those of level lines: weight, height
+--   lineAt ls i        line i of ls, from 0
 --   Sheet, sheetOf ls  what a sheet holds; what its lines ls do
 -- A number that a line does not have is 0 here; `sheetForm` says how many there are.
 use mathlib.Core.Bool.{Bool, _&&_}

@@ -1,5 +1,5 @@
 // The lines of a sheet: which line is which, and how many numbers follow its word.
-// Line 1 is `site`, with one pair of near-fault factors for both levels or with a pair for each; or `basin` in its place.
+// Line 1 is `site`, with one pair of near-fault factors for both hazard levels or with a pair for each; or `basin` in its place.
 pub const GROUND_LINE: u64 = 1;
 
 pub const ONE_PAIR_NUMBERS: usize = 7;

@@ -67,7 +67,7 @@ impl SheetRead {
     }
 }
 
-// A pair for each level.
+// A pair for each hazard level.
 fn two_pairs(n: [u64; 10]) -> SiteValues
     ensures { λ r. ⌜ r ≡ siteValues n ⌝ }
 {
@@ -84,7 +84,7 @@ fn two_pairs(n: [u64; 10]) -> SiteValues
     }
 }
 
-// One pair for both levels.
+// One pair for both hazard levels.
 fn one_pair(n: [u64; 10]) -> SiteValues
     ensures { λ r. ⌜ r ≡ siteValues (pairTwice n) ⌝ }
 {

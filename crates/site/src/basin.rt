@@ -38,7 +38,7 @@ fn basin_hazard(s: u64, corner: u64, capacity: Fraction, square: Fraction) -> Ha
     }
 }
 
-// V's, V_M's, and V*'s, which is V's: T0 is the zone's at both levels.
+// V's, V_M's, and V*'s, which is V's: T0 is the zone's at both hazard levels.
 pub fn basin_hazards(zone: Zone, r: u64) -> Hazards
     requires { ⌜ (100 ≤ r) × (r ≤ 600) ⌝ }
     ensures { λ k. ⌜ k ≡ basinHazards zone r ⌝ }

@@ -1,5 +1,5 @@
--- What the functions of this crate ask of their callers: T, V and the levels in the ranges of document 01, as far as 64 bits
--- need them.
+-- What the functions of this crate ask of their callers: T, V and the levels, as far as 64 bits need them; V to 1,400,000,000 N,
+-- above the 1,200,000,000 N that the distribution takes.
 --   Load T v              V of at most 1,400,000,000 N, and an F_t that is a part of V
 --   Weighing ws hs        as many heights as weights; 50 levels of at most 20,000 kN and 2,000 dm make P at most 2,000,000,000
 --   Falling us            no shear is above the one below it: what `shears-fall` (proofs/Telescope.antt) says of the shears

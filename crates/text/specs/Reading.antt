@@ -2,7 +2,9 @@
 --   Reading A       found: a value, and how many bytes it takes; or otherwise
 --   Reader A        what reads an A from the front of any bytes
 --   do r; q         q reads what r leaves; otherwise where one of them is
+--   later n o, next o f    the reading o from n bytes further on; what f reads after o
 --   read a          a, of no byte
+--   starts w bytes  the bytes begin with w
 --   word w          the bytes w
 --   after c n       the cursor c, n bytes further
 --   wordAnswer c o  the code's answer to the reading o of the bytes from c on
