@@ -1,5 +1,5 @@
 -- What is written.
---   digitsOf k v        the k lowest digits of v, as bytes
+--   digitsOf k n        n in decimal, where it has at most k + 1 digits
 --   decimal n           n in decimal, with no leading zero: up to 20 digits, which hold every number of 64 bits
 --   fieldOf n           a field: one tab, and n;  fieldsOf ns    a field for each
 --   laidOut w ns        a line: the word w, the numbers ns, LF
