@@ -5,11 +5,12 @@ use Prim.Native.Nat.{ℕ, _*_, _^_, _≤_, _<_}
 use native.Mathlib.Nat.{lt-of-le-of-lt, lt-of-lt-of-le, mul-le-mul, mul-le-mul-left, mul-le-mul-right, mul-pos}
 use native.Mathlib.Omega.{arith}
 use Rattle.whole.specs.declared.Fraction.{Fraction}
-use Rattle.whole.specs.Fraction.{over, AtMost, upIn, downIn}
+use Rattle.whole.specs.Fraction.{over}
 use Rattle.whole.specs.Root.{lowerRoot, upperRoot}
 use Rattle.whole.specs.Rounding.{up}
 use Rattle.whole.proofs.Root.{lower-root-is, upper-root-is}
-use Rattle.whole.proofs.Rounding.{up-at-most-times, down-at-least-times}
+use Rattle.whole.proofs.Rounding.{up-at-most-times}
+use Rattle.whole.proofs.Shares.{up-finer, down-finer}
 use Rattle.limits.specs.declared.frame.Frame.{Frame}
 use Rattle.site.specs.declared.lines.Lines.{Lines}
 use Rattle.response.specs.Factor.{lowerFactor, upperFactor}
@@ -22,14 +23,6 @@ use Rattle.response.proofs.Exact.{mean-rises}
 use Rattle.response.proofs.Mean.{weights}
 use Rattle.response.proofs.Most.{spectrum-positive}
 use Rattle.base_shear.specs.Shears.{newtons}
-
--- ---- a fraction x in s-ths beside a fraction x′ in (e·s)-ths
-module _ (e s : ℕ) (x x′ : Fraction) (p : 0 < x .den) (p′ : 0 < x′ .den) where
-  up-finer : AtMost x′ x → upIn (e * s) x′ ≤ e * upIn s x
-  up-finer h = up-at-most-times e (s * x .num) (x .den) (e * s * x′ .num) (x′ .den) p p′ (omega (arith, mul-le-mul-right (e * s) h))
-
-  down-finer : AtMost x x′ → e * downIn s x ≤ downIn (e * s) x′
-  down-finer h = down-at-least-times e (s * x .num) (x .den) (e * s * x′ .num) (x′ .den) p p′ (omega (arith, mul-le-mul-right (e * s) h))
 
 -- ---- the spectrum
 pub spectrum-finer : (e s A B T : ℕ) → 0 < B → spectrum (e * s) A B T ≤ e * spectrum s A B T
