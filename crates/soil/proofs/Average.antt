@@ -20,7 +20,7 @@ use Rattle.soil.proofs.Slowness.{slowness-sound, up-above, up-close, do
 use Rattle.soil.proofs.Speeds.{Positive}
 
 module _ (ds vs : List ℕ) (p : Positive vs) where
-  pub down-up : added down ds vs ≤ added up ds vs
+  down-up : added down ds vs ≤ added up ds vs
   down-up =
       le-of-mul-le-mul-right {k = slowness ds vs .den} (omega (arith, down-below ds vs p, up-above ds vs p))
       (slowness-sound ds vs p)
