@@ -43,7 +43,7 @@ module _ (s : ℕ) (k : Hazards) (f : Frame) (T : ℕ) (u : 0 < s) (a : 0 < f .a
   two-positive =
       larger-positive (shearShare s k (k .design) f T) (shearShare s k (k .mce) f T) (share-positive (k .divisor) d) (share-positive (k .divisor) d)
 
-  pub base-share-positive : 0 < baseShare s k f T .den
+  base-share-positive : 0 < baseShare s k f T .den
   base-share-positive = larger-positive two (starShare s k f T) two-positive (share-positive (k .stardivisor) e)
 
   pub base-share : (W : ℕ) → base s k f W T ≡ shareOf (baseShare s k f T) W

@@ -24,7 +24,7 @@ use Rattle.job.proofs.GivenReached.{standing}
 
 -- ---- once its judgments have answered: the lines of `distributionOf`
 module _ (v T : ℕ) (ws hs : List ℕ) (room : ℕ) where
-  pub distribution-refused : {n p : ℕ} → judgedDistribution v T ws hs room ≡ refused n p → distributionOf v T ws hs room ≡ refused n p
+  distribution-refused : {n p : ℕ} → judgedDistribution v T ws hs room ≡ refused n p → distributionOf v T ws hs room ≡ refused n p
   unfolding distributionOf
   distribution-refused e = simp e
 

@@ -70,11 +70,11 @@ pub given-building : (g : Given) (ws hs : List ℕ) → AllowedJob g ws hs → A
 given-building g ws hs a = record { ground = a .ground; frame = a .frame; building = levels-building ws hs (a .levels) }
 
 -- ---- and what is allowed is accepted
-pub building-passes : (W h : ℕ) → AllowedBuilding W h → judgedBuilding W h ≡ accepted tt
+building-passes : (W h : ℕ) → AllowedBuilding W h → judgedBuilding W h ≡ accepted tt
 unfolding judgedBuilding
 building-passes W h a = simp (range-passes 1 1_000_000 W 3 0 (a .weight), range-passes 1 2_000 h 4 0 (a .top))
 
-pub handed-passes : (v t : ℕ) → AllowedHanded v t → judgedHanded v t ≡ accepted tt
+handed-passes : (v t : ℕ) → AllowedHanded v t → judgedHanded v t ≡ accepted tt
 unfolding judgedHanded
 handed-passes v t a = simp (range-passes 1 1_200_000_000 v 19 0 (a .shear), range-passes 0 9_999 t 20 0 (omega arith, a .period))
 

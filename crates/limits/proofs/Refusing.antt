@@ -39,7 +39,7 @@ not-among (v ∷ vs) x e = go (λ h. not-among vs x h) (eqb v x) refl e
     go rest true q h = absurd (differ h)
     go rest false q h = (λ k. eqb-false v x q (sym k), rest h)
 
-pub listed-told : (A : ℕ → ℕ → Type 0) (vs : List ℕ) (x n p : ℕ) → (NotListed vs x → A n p) → Told A (listed vs x n p)
+listed-told : (A : ℕ → ℕ → Type 0) (vs : List ℕ) (x n p : ℕ) → (NotListed vs x → A n p) → Told A (listed vs x n p)
 unfolding listed
 listed-told A vs x n p f = require-told A (among vs x) n p (λ e. f (not-among vs x e))
 
@@ -47,7 +47,7 @@ listed-told A vs x n p f = require-told A (among vs x) n p (λ e. f (not-among v
 next : (p x : ℕ) → p + suc x ≡ p + 1 + x
 next p x = omega arith
 
-pub weighed-told : (A : ℕ → ℕ → Type 0) (p : ℕ) (ws : List ℕ) → ((x : ℕ) → x < length ws → OutOf 1 20_000 (getD ws x 0) → A 3 (p + x))
+weighed-told : (A : ℕ → ℕ → Type 0) (p : ℕ) (ws : List ℕ) → ((x : ℕ) → x < length ws → OutOf 1 20_000 (getD ws x 0) → A 3 (p + x))
     → Told A (weighed p ws)
 unfolding weighed
 weighed-told A p [] f = tt
@@ -56,7 +56,7 @@ weighed-told A p (w ∷ ws) f =
     (within-told A 1 20_000 w 3 p (λ o. subst (A 3) (add-zero p) (f 0 (omega arith) o)))
     (λ _. weighed-told A (p + 1) ws (λ x h o. subst (A 3) (next p x) (f (suc x) (omega arith) o)))
 
-pub raised-told : (A : ℕ → ℕ → Type 0) (b p : ℕ) (hs : List ℕ) → ((x : ℕ) → x < length hs → OutOf 1 2_000 (getD hs x 0) → A 4 (p + x))
+raised-told : (A : ℕ → ℕ → Type 0) (b p : ℕ) (hs : List ℕ) → ((x : ℕ) → x < length hs → OutOf 1 2_000 (getD hs x 0) → A 4 (p + x))
     → ((x : ℕ) → x < length hs → getD hs x 0 ≤ below b hs x → A 4 (p + x)) → Told A (raised b p hs)
 unfolding raised
 raised-told A b p [] f g = tt
@@ -90,7 +90,7 @@ module _ (s : SiteValues) where
   abbrev S : ℕ → ℕ → Type 0
   S = SiteApplies s
 
-  pub site-told : Told S (judgedSite s)
+  site-told : Told S (judgedSite s)
   unfolding judgedSite judgedMapped judgedNearFault judgedClass
   site-told =
       then-told S (judgedMapped s) _

@@ -99,7 +99,7 @@ module _ (s : ℕ) (k : Hazards) (f : Frame) (ws hs : List ℕ) (T : ℕ) where
 
 -- ---- it speaks of each level's shear alone
 module _ (ws hs : List ℕ) (T : ℕ) {u u′ : ℕ → ℕ} (same : (x : ℕ) → x < length ws → u x ≡ u′ x) where
-  pub storeys-of-cells : (s : ℕ) (k : Hazards) (f : Frame) (W : ℕ) → StoreyDemand3 s k f W ws hs T u → StoreyDemand3 s k f W ws hs T u′
+  storeys-of-cells : (s : ℕ) (k : Hazards) (f : Frame) (W : ℕ) → StoreyDemand3 s k f W ws hs T u → StoreyDemand3 s k f W ws hs T u′
   storeys-of-cells s k f W d =
       record {
         margin = d .margin;

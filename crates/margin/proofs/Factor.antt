@@ -3,7 +3,7 @@
 -- Assumes nothing.
 use mathlib.Core.Path.{_≡_, sym, subst}
 use Prim.Native.Nat.{ℕ, _+_, _*_, _≤_, _<_}
-use native.Mathlib.Nat.{mul-le-mul-right, mul-lt-mul-of-pos-right, mul-pos, lt-of-mul-lt-mul-left}
+use native.Mathlib.Nat.{mul-le-mul-right, mul-lt-mul-of-pos-right, lt-of-mul-lt-mul-left}
 use native.Mathlib.Omega.{arith}
 use Rattle.whole.specs.declared.Fraction.{Fraction}
 use Rattle.whole.specs.Fraction.{over, AtMost, Same, upIn, downIn}
@@ -14,7 +14,7 @@ use Rattle.whole.proofs.Rounding.{up-law, down-law}
 use Rattle.site.specs.declared.hazard.Hazard.{Hazard}
 use Rattle.response.specs.Factor.{exactFactor}
 use Rattle.response.specs.Reach.{FineUnit}
-use Rattle.response.proofs.Branches.{weights-positive, lower-is-mean, upper-is-mean}
+use Rattle.response.proofs.Branches.{mean-positive, lower-is-mean, upper-is-mean}
 use Rattle.response.proofs.Exact.{mean-rises, exact-factor-positive, exact-factor-is, exact-factor-least}
 use Rattle.response.proofs.Mean.{Weights, total, mean, weights}
 use Rattle.response.proofs.Reached.{small}
@@ -52,9 +52,8 @@ abbrev meanAt : Hazard → ℕ → Fraction → Fraction
 meanAt h T r = mean (weights (h .a) (h .b) T) r (h .capacity)
 
 module _ (s : ℕ) (h : Hazard) (T : ℕ) (u : FineUnit s) (y : Ready s h T) where
-  mean-positive : (r : Fraction) → 0 < r .den → 0 < meanAt h T r .den
-  mean-positive r p =
-      mul-pos (weights-positive (h .a) (h .b) T (y .shape .b-positive)) (mul-pos p (y .ductile .cap-positive))
+  positive : (r : Fraction) → 0 < r .den → 0 < meanAt h T r .den
+  positive r p = mean-positive (h .a) (h .b) T r (h .capacity) (y .shape .b-positive) p (y .ductile .cap-positive)
 
   lower-is : lowerAt s h T ≡ downIn s (meanAt h T (over (lowerRoot s (h .square)) s))
   lower-is =
@@ -93,28 +92,28 @@ module _ (s : ℕ) (h : Hazard) (T : ℕ) (u : FineUnit s) (y : Ready s h T) whe
     lower-below hi =
         let k = lowerRoot s (h .square) in
         let m = meanAt h T (over k s) in
-        let law = down-law (s * m .num) (m .den) (mean-positive (over k s) (u .positive)) in
+        let law = down-law (s * m .num) (m .den) (positive (over k s) (u .positive)) in
         let rounded : AtMost (over (downIn s m) s) m = omega (arith, law .0) in
         let grown : AtMost m (meanAt h T r) =
         mean-rises (weights (h .a) (h .b) T) (over k s) r (h .capacity)
         (lower-below-high s (h .square) k r (y .ductile .square-positive) lower-root hi) in
         subst (λ (f : ℕ). AtMost (over f s) (factorAt h T r)) (sym lower-is)
-        (at-most-trans (over (downIn s m) s) m (factorAt h T r) (mean-positive (over k s) (u .positive)) rounded
-        (at-most-trans m (meanAt h T r) (factorAt h T r) (mean-positive r (hi .sound)) grown
+        (at-most-trans (over (downIn s m) s) m (factorAt h T r) (positive (over k s) (u .positive)) rounded
+        (at-most-trans m (meanAt h T r) (factorAt h T r) (positive r (hi .sound)) grown
         (same-at-most (factorAt h T r) (meanAt h T r) (factor-is r (hi .sound)) .1)))
 
     pub upper-above : Low (h .square) r → AtMost (factorAt h T r) (over (upperAt s h T) s)
     upper-above lo =
         let k = upperRoot s (h .square) in
         let m = meanAt h T (over k s) in
-        let law = up-law (s * m .num) (m .den) (mean-positive (over k s) (u .positive)) in
+        let law = up-law (s * m .num) (m .den) (positive (over k s) (u .positive)) in
         let rounded : AtMost m (over (upIn s m) s) = omega (arith, law .0) in
         let grown : AtMost (meanAt h T r) m =
         mean-rises (weights (h .a) (h .b) T) r (over k s) (h .capacity)
         (low-below-upper s (h .square) k r (y .ductile .square-positive) upper-root lo) in
         subst (λ (f : ℕ). AtMost (factorAt h T r) (over f s)) (sym upper-is)
-        (at-most-trans (factorAt h T r) m (over (upIn s m) s) (mean-positive (over k s) (u .positive))
-        (at-most-trans (factorAt h T r) (meanAt h T r) m (mean-positive r (lo .sound))
+        (at-most-trans (factorAt h T r) m (over (upIn s m) s) (positive (over k s) (u .positive))
+        (at-most-trans (factorAt h T r) (meanAt h T r) m (positive r (lo .sound))
         (same-at-most (factorAt h T r) (meanAt h T r) (factor-is r (lo .sound)) .0) grown)
         rounded)
 
@@ -123,7 +122,7 @@ module _ (s : ℕ) (h : Hazard) (T : ℕ) (u : FineUnit s) (y : Ready s h T) whe
         let k = lowerRoot s (h .square) in
         let m = meanAt h T (over k s) in
         let f = downIn s m in
-        let law = down-law (s * m .num) (m .den) (mean-positive (over k s) (u .positive)) in
+        let law = down-law (s * m .num) (m .den) (positive (over k s) (u .positive)) in
         subst (λ (f : ℕ). Short s f (factorAt h T r) 2) (sym lower-is)
         (short-same s f 2 (factorAt h T r) (meanAt h T r) (factor-positive r (lo .sound)) (factor-is r (lo .sound))
         (mean-short s k f (weights (h .a) (h .b) T) r (h .capacity) (lo .sound) (law .1)
@@ -134,7 +133,7 @@ module _ (s : ℕ) (h : Hazard) (T : ℕ) (u : FineUnit s) (y : Ready s h T) whe
         let k = upperRoot s (h .square) in
         let m = meanAt h T (over k s) in
         let f = upIn s m in
-        let law = up-law (s * m .num) (m .den) (mean-positive (over k s) (u .positive)) in
+        let law = up-law (s * m .num) (m .den) (positive (over k s) (u .positive)) in
         subst (λ (f : ℕ). Over s f (factorAt h T r) 2) (sym upper-is)
         (over-same s f 2 (factorAt h T r) (meanAt h T r) (factor-positive r (hi .sound)) (factor-is r (hi .sound))
         (mean-over s k f (weights (h .a) (h .b) T) r (h .capacity) (hi .sound) (law .1)

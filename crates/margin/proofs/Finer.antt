@@ -4,8 +4,9 @@
 use mathlib.Core.Path.{refl}
 use mathlib.Core.List.{List}
 use Prim.Native.Nat.{ℕ, _*_, _^_, _≤_, _<_}
-use native.Mathlib.Nat.{mul-comm}
+use native.Mathlib.Nat.{lt-of-lt-of-le, mul-comm}
 use native.Mathlib.Omega.{arith}
+use Rattle.whole.proofs.Root.{unit-most}
 use Rattle.limits.specs.Allowed.{AllowedFrame}
 use Rattle.limits.specs.declared.frame.Frame.{Frame}
 use Rattle.site.specs.declared.hazard.Hazard.{Hazard}
@@ -13,13 +14,14 @@ use Rattle.site.specs.declared.hazard.Hazards.{Hazards}
 use Rattle.response.specs.Period.{periodMost}
 use Rattle.response.specs.Reach.{Meeting}
 use Rattle.response.specs.Unit.{unit}
+use Rattle.response.proofs.Most.{lower-factor-least}
 use Rattle.response.proofs.Reached.{small}
 use Rattle.response.proofs.Spectra.{left-positive}
 use Rattle.base_shear.specs.Ready.{Ready, Shearing, Reached}
 use Rattle.base_shear.specs.Shears.{shear, star, base, lowerAt, upperAt}
 use Rattle.storeys.specs.Storeys.{weightHeight, shearUnder}
 use Rattle.storeys.proofs.Roof.{roof-at-most-one}
-use Rattle.margin.proofs.FinerStages.{spectrum-finer, lower-factor-finer, upper-factor-finer, lower-factor-some, ratio-finer, modified-finer, blended-finer, newtons-finer}
+use Rattle.margin.proofs.FinerStages.{spectrum-finer, small-coarser, lower-factor-finer, upper-factor-finer, ratio-finer, modified-finer, blended-finer, newtons-finer}
 use Rattle.margin.proofs.RisesWithBase.{shear-rises}
 
 module _ (e s : ℕ) (k : Hazards) (T : ℕ) (g : Shearing (e * s) k T) (m : Meeting (k .lines)) (f : Frame) (pa : 0 < f .alpha)
@@ -47,8 +49,10 @@ module _ (e s : ℕ) (k : Hazards) (T : ℕ) (g : Shearing (e * s) k T) (m : Mee
 
     lower-at-some : 0 < lowerAt s h T
     lower-at-some =
-        lower-factor-some e s (h .square) times-positive fits (h .a) (h .b) T (h .capacity) coarser-positive
-        (y .shape .a-positive) (y .shape .b-positive) (y .ductile .cap-positive) (y .ductile .square-one) (y .ductile .cap-one)
+        lt-of-lt-of-le coarser-positive
+        (lower-factor-least s (h .a) (h .b) T (h .capacity) (h .square) coarser-positive (y .shape .a-positive) (y .shape .b-positive)
+        (y .ductile .cap-positive) (unit-most s (h .square) (small-coarser e s (h .square) times-positive fits) (y .ductile .square-one))
+        (y .ductile .cap-one))
 
     -- ---- V and V_M
     pub finer-shear-never-above : shear (e * s) k h f W T ≤ shear s k h f W T

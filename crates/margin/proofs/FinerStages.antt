@@ -5,11 +5,12 @@ use Prim.Native.Nat.{ℕ, _*_, _^_, _≤_, _<_}
 use native.Mathlib.Nat.{lt-of-le-of-lt, lt-of-lt-of-le, mul-le-mul, mul-le-mul-left, mul-le-mul-right, mul-pos}
 use native.Mathlib.Omega.{arith}
 use Rattle.whole.specs.declared.Fraction.{Fraction}
-use Rattle.whole.specs.Fraction.{over, AtMost, upIn, downIn}
+use Rattle.whole.specs.Fraction.{over}
 use Rattle.whole.specs.Root.{lowerRoot, upperRoot}
 use Rattle.whole.specs.Rounding.{up}
-use Rattle.whole.proofs.Root.{lower-root-is, upper-root-is, unit-most}
-use Rattle.whole.proofs.Rounding.{up-at-most-times, down-is, down-at-least-times}
+use Rattle.whole.proofs.Root.{lower-root-is, upper-root-is}
+use Rattle.whole.proofs.Rounding.{up-at-most-times}
+use Rattle.whole.proofs.Shares.{up-finer, down-finer}
 use Rattle.limits.specs.declared.frame.Frame.{Frame}
 use Rattle.site.specs.declared.lines.Lines.{Lines}
 use Rattle.response.specs.Factor.{lowerFactor, upperFactor}
@@ -17,19 +18,11 @@ use Rattle.response.specs.Ratio.{bent, ratio, modified, blended}
 use Rattle.response.specs.Reach.{Meeting}
 use Rattle.response.specs.Spectrum.{exactSpectrum, spectrum}
 use Rattle.response.proofs.Bent.{bent-rises, bent-scale}
-use Rattle.response.proofs.Branches.{weights-positive, lower-is-mean, upper-is-mean}
+use Rattle.response.proofs.Branches.{mean-positive, lower-is-mean, upper-is-mean}
 use Rattle.response.proofs.Exact.{mean-rises}
-use Rattle.response.proofs.Mean.{mean, weights}
-use Rattle.response.proofs.Most.{spectrum-positive, mean-least}
+use Rattle.response.proofs.Mean.{weights}
+use Rattle.response.proofs.Most.{spectrum-positive}
 use Rattle.base_shear.specs.Shears.{newtons}
-
--- ---- a fraction x in s-ths beside a fraction x′ in (e·s)-ths
-module _ (e s : ℕ) (x x′ : Fraction) (p : 0 < x .den) (p′ : 0 < x′ .den) where
-  up-finer : AtMost x′ x → upIn (e * s) x′ ≤ e * upIn s x
-  up-finer h = up-at-most-times e (s * x .num) (x .den) (e * s * x′ .num) (x′ .den) p p′ (omega (arith, mul-le-mul-right (e * s) h))
-
-  down-finer : AtMost x x′ → e * downIn s x ≤ downIn (e * s) x′
-  down-finer h = down-at-least-times e (s * x .num) (x .den) (e * s * x′ .num) (x′ .den) p p′ (omega (arith, mul-le-mul-right (e * s) h))
 
 -- ---- the spectrum
 pub spectrum-finer : (e s A B T : ℕ) → 0 < B → spectrum (e * s) A B T ≤ e * spectrum s A B T
@@ -41,7 +34,7 @@ spectrum-finer e s A B T pb =
 
 -- ---- the roots, of a square below 2^64 in (e·s)-ths
 module _ (e s : ℕ) (ρ : Fraction) (pe : 0 < e) (small : ρ .num * (e * s * (e * s)) < 2 ^ 64 * ρ .den) where
-  small-coarser : ρ .num * (s * s) < 2 ^ 64 * ρ .den
+  pub small-coarser : ρ .num * (s * s) < 2 ^ 64 * ρ .den
   small-coarser =
       let l : s ≤ e * s = omega (arith, mul-le-mul-right s pe) in
       lt-of-le-of-lt (mul-le-mul-left (ρ .num) (mul-le-mul l l)) small
@@ -61,15 +54,12 @@ module _ (e s : ℕ) (ρ : Fraction) (pe : 0 < e) (small : ρ .num * (e * s * (e
     finer-positive : 0 < e * s
     finer-positive = mul-pos pe ps
 
-    mean-positive : (r : Fraction) → 0 < r .den → 0 < mean (weights A B T) r c .den
-    mean-positive r p = mul-pos (weights-positive A B T pb) (mul-pos p pc)
-
     pub lower-factor-finer : e * lowerFactor s A B T c ρ ≤ lowerFactor (e * s) A B T c ρ
     lower-factor-finer =
         let r = over (lowerRoot s ρ) s in
         let r′ = over (lowerRoot (e * s) ρ) (e * s) in
         rw (lower-is-mean s A B T c ρ ps pa pb pc, lower-is-mean (e * s) A B T c ρ finer-positive pa pb pc)
-        (down-finer e s (mean (weights A B T) r c) (mean (weights A B T) r′ c) (mean-positive r ps) (mean-positive r′ finer-positive)
+        (down-finer e s _ _ (mean-positive A B T r c pb ps pc) (mean-positive A B T r′ c pb finer-positive pc)
         (mean-rises (weights A B T) r r′ c (omega (arith, mul-le-mul-right s lower-root-finer))))
 
     pub upper-factor-finer : upperFactor (e * s) A B T c ρ ≤ e * upperFactor s A B T c ρ
@@ -77,18 +67,8 @@ module _ (e s : ℕ) (ρ : Fraction) (pe : 0 < e) (small : ρ .num * (e * s * (e
         let r = over (upperRoot s ρ) s in
         let r′ = over (upperRoot (e * s) ρ) (e * s) in
         rw (upper-is-mean s A B T c ρ ps pa pb pc, upper-is-mean (e * s) A B T c ρ finer-positive pa pb pc)
-        (up-finer e s (mean (weights A B T) r c) (mean (weights A B T) r′ c) (mean-positive r ps) (mean-positive r′ finer-positive)
+        (up-finer e s _ _ (mean-positive A B T r c pb ps pc) (mean-positive A B T r′ c pb finer-positive pc)
         (mean-rises (weights A B T) r′ r c (omega (arith, mul-le-mul-right s upper-root-finer))))
-
-    -- the ratio's divisor in s-ths, of a square and a capacity from 1 on
-    pub lower-factor-some : ρ .den ≤ ρ .num → c .den ≤ c .num → 0 < lowerFactor s A B T c ρ
-    lower-factor-some one cap =
-        let r = over (lowerRoot s ρ) s in
-        let x = mean (weights A B T) r c in
-        let least = mean-least (weights A B T) r c (unit-most s ρ small-coarser one) cap in
-        rw (lower-is-mean s A B T c ρ ps pa pb pc)
-        (lt-of-lt-of-le ps
-        (down-is (s * x .num) (x .den) (mean-positive r ps) .largest s (omega (arith, mul-le-mul-left s least))))
 
 -- ---- q
 pub ratio-finer : (e s S F S′ F′ : ℕ) → 0 < e → 0 < F → S′ ≤ e * S → e * F ≤ F′ → ratio (e * s) S′ F′ ≤ e * ratio s S F

@@ -58,7 +58,7 @@ module _ (l : Lines) (m : Meeting l) where
       (λ j. h (second .1 (omega arith)) (omega (arith, mul-le-mul-right x (m .gentle)))))
 
   -- which line counts, with no test
-  pub bent-is : (x y : ℕ) → bent l x y ≡ min (1000 * x) (max (l .slope * x + l .add * y) (l .last * x))
+  bent-is : (x y : ℕ) → bent l x y ≡ min (1000 * x) (max (l .slope * x + l .add * y) (l .last * x))
   bent-is x y =
       by-line (λ (z : ℕ). z ≡ min (1000 * x) (max (l .slope * x + l .add * y) (l .last * x))) x y
       (λ h. omega arith) (λ h k. omega arith) (λ h k. omega arith)

@@ -15,7 +15,7 @@ use Rattle.response.specs.Factor.{factor, lowerFactor, upperFactor}
 use Rattle.response.proofs.Mean.{Weights, total, mean, weights, factor-stands}
 
 -- ---- no divisor is 0
-pub weights-positive : (A B T : ℕ) → 0 < B → 0 < total (weights A B T)
+weights-positive : (A B T : ℕ) → 0 < B → 0 < total (weights A B T)
 unfolding weights
 weights-positive A B T p =
     by-leb (λ (w : Weights). 0 < total w) (1000 * B * 1) (T * A) _ _ (λ _. omega arith)

@@ -2,7 +2,7 @@
 -- Assumes nothing.
 use mathlib.Core.Path.{_≡_}
 use Prim.Native.Nat.{ℕ, _*_, _≤_, _<_}
-use native.Mathlib.Nat.{mul-le-mul-left, mul-le-mul-right, mul-pos, le-of-mul-le-mul-right}
+use native.Mathlib.Nat.{mul-le-mul-left, mul-le-mul-right, le-of-mul-le-mul-right}
 use native.Mathlib.Omega.{arith}
 use lib.IntN.{pos}
 use Rattle.whole.specs.declared.Fraction.{Fraction}
@@ -15,7 +15,7 @@ use Rattle.response.specs.Factor.{factor, exactFactor}
 use Rattle.response.specs.Ratio.{bent, exactRatio, exactModified, exactBlended}
 use Rattle.response.specs.Reach.{Meeting}
 use Rattle.response.proofs.Bent.{bent-rises, bent-scale}
-use Rattle.response.proofs.Branches.{weights-positive, factor-positive}
+use Rattle.response.proofs.Branches.{factor-positive, mean-positive}
 use Rattle.response.proofs.Mean.{Weights, total, mean, weights, factor-stands}
 use Rattle.response.proofs.Most.{mean-least}
 
@@ -36,22 +36,19 @@ mean-rises-with-capacity w r c c′ h =
     shared n n′ t p d d′ k = omega (arith, mul-le-mul-right (t * p) k)
 
 module _ (A B T : ℕ) (c : Fraction) (pa : 0 < A) (pb : 0 < B) (pc : 0 < c .den) where
-  mean-positive : (r : Fraction) → 0 < r .den → 0 < mean (weights A B T) r c .den
-  mean-positive r pr = mul-pos (weights-positive A B T pb) (mul-pos pr pc)
-
   module _ (r : Fraction) (pr : 0 < r .den) where
     pub exact-factor-positive : 0 < exactFactor A B T c r .den
     exact-factor-positive = factor-positive A B T r c pa pb pr pc
 
     pub exact-factor-is : Same (exactFactor A B T c r) (mean (weights A B T) r c)
     exact-factor-is =
-        unsigned-same (factor A B T c r) (mean (weights A B T) r c) exact-factor-positive (mean-positive r pr)
+        unsigned-same (factor A B T c r) (mean (weights A B T) r c) exact-factor-positive (mean-positive A B T r c pb pr pc)
         (factor-stands A B T r c)
 
     -- the sign that `exactFactor` leaves out is never a minus
     pub factor-natural : factor A B T c r .num ≡ pos (natural (factor A B T c r .num))
     factor-natural =
-        stands-natural (factor A B T c r) (mean (weights A B T) r c) exact-factor-positive (mean-positive r pr)
+        stands-natural (factor A B T c r) (mean (weights A B T) r c) exact-factor-positive (mean-positive A B T r c pb pr pc)
         (factor-stands A B T r c)
 
     pub exact-factor-least : r .den ≤ r .num → c .den ≤ c .num → exactFactor A B T c r .den ≤ exactFactor A B T c r .num
@@ -60,7 +57,7 @@ module _ (A B T : ℕ) (c : Fraction) (pa : 0 < A) (pb : 0 < B) (pc : 0 < c .den
         let x = exactFactor A B T c r in
         le-of-mul-le-mul-right {k = m .den}
         (omega (arith, exact-factor-is, mul-le-mul-left (x .den) (mean-least (weights A B T) r c h k)))
-        (mean-positive r pr)
+        (mean-positive A B T r c pb pr pc)
 
   pub exact-factor-rises : (r r′ : Fraction) → 0 < r .den → 0 < r′ .den → AtMost r r′
       → AtMost (exactFactor A B T c r) (exactFactor A B T c r′)
@@ -69,8 +66,8 @@ module _ (A B T : ℕ) (c : Fraction) (pa : 0 < A) (pb : 0 < B) (pc : 0 < c .den
       let x′ = exactFactor A B T c r′ in
       let m = mean (weights A B T) r c in
       let m′ = mean (weights A B T) r′ c in
-      at-most-trans x m x′ (mean-positive r pr) (same-at-most x m (exact-factor-is r pr) .0)
-      (at-most-trans m m′ x′ (mean-positive r′ pr′) (mean-rises (weights A B T) r r′ c h)
+      at-most-trans x m x′ (mean-positive A B T r c pb pr pc) (same-at-most x m (exact-factor-is r pr) .0)
+      (at-most-trans m m′ x′ (mean-positive A B T r′ c pb pr′ pc) (mean-rises (weights A B T) r r′ c h)
       (same-at-most x′ m′ (exact-factor-is r′ pr′) .1))
 
 -- ---- m and p

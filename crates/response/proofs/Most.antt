@@ -1,8 +1,8 @@
 -- How large the printed stages come: the spectrum at most 2 g, the factors 1 to 6, the ratio at most the spectrum.
 -- Assumes nothing.
-use mathlib.Core.Path.{refl, sym, subst}
+use mathlib.Core.Path.{refl}
 use Prim.Native.Nat.{ℕ, _+_, _*_, _≤_, _<_}
-use native.Mathlib.Nat.{le-refl, mul-le-mul-left, mul-le-mul-right, mul-pos, le-of-mul-le-mul-right}
+use native.Mathlib.Nat.{le-refl, mul-le-mul-left, mul-le-mul-right, le-of-mul-le-mul-right}
 use native.Mathlib.Omega.{arith}
 use Rattle.whole.specs.declared.Fraction.{Fraction}
 use Rattle.whole.specs.Fraction.{over}
@@ -15,9 +15,8 @@ use Rattle.response.specs.Ratio.{bent, ratio, modified, blended}
 use Rattle.response.specs.Reach.{FineUnit, Shape, Ductile, Thousandths, Meeting}
 use Rattle.response.specs.Spectrum.{exactSpectrum, spectrum}
 use Rattle.response.proofs.Bent.{bent-rises, bent-within}
-use Rattle.response.proofs.Branches.{weights-positive, lower-is-mean, upper-is-mean}
+use Rattle.response.proofs.Branches.{mean-positive, lower-is-mean, upper-is-mean}
 use Rattle.response.proofs.Mean.{Weights, mean, weights}
-use Rattle.response.proofs.Reached.{root-least}
 use Rattle.response.proofs.Spectra.{left-positive}
 
 -- ---- the spectrum
@@ -70,29 +69,24 @@ mean-most w r c h k =
       mul-le-mul-right (w .cap * r .den) k,
     )
 
-module _ (s A B T : ℕ) (c ρ : Fraction) (u : FineUnit s) (sh : Shape A B T) (d : Ductile s c ρ) where
-  mean-positive : (k : ℕ) → 0 < mean (weights A B T) (over k s) c .den
-  mean-positive k = mul-pos (weights-positive A B T (sh .b-positive)) (mul-pos (u .positive) (d .cap-positive))
+pub lower-factor-least : (s A B T : ℕ) (c ρ : Fraction) → 0 < s → 0 < A → 0 < B → 0 < c .den → s ≤ lowerRoot s ρ → c .den ≤ c .num
+    → s ≤ lowerFactor s A B T c ρ
+lower-factor-least s A B T c ρ ps pa pb pc root cap =
+    let r = over (lowerRoot s ρ) s in
+    let x = mean (weights A B T) r c in
+    rw (lower-is-mean s A B T c ρ ps pa pb pc)
+    (down-is (s * x .num) (x .den) (mean-positive A B T r c pb ps pc) .largest s
+    (omega (arith, mul-le-mul-left s (mean-least (weights A B T) r c root cap))))
 
-  pub lower-factor-least : s ≤ lowerFactor s A B T c ρ
-  lower-factor-least =
-      let k = lowerRoot s ρ in
-      let x = mean (weights A B T) (over k s) c in
-      let l = mean-least (weights A B T) (over k s) c (root-least s c ρ u d) (d .cap-one) in
-      subst (λ (f : ℕ). s ≤ f)
-      (sym (lower-is-mean s A B T c ρ (u .positive) (sh .a-positive) (sh .b-positive) (d .cap-positive)))
-      (down-is (s * x .num) (x .den) (mean-positive k) .largest s (omega (arith, mul-le-mul-left s l)))
-
-  pub upper-factor-most : upperFactor s A B T c ρ ≤ 6 * s
-  upper-factor-most =
-      let k = upperRoot s ρ in
-      let x = mean (weights A B T) (over k s) c in
-      let small : k ≤ 6 * s =
-      le-of-mul-le-mul-right {k = c .den} (omega (arith, d .root-most, mul-le-mul-left s (d .cap-most))) (d .cap-positive) in
-      let m = mean-most (weights A B T) (over k s) c small (d .cap-most) in
-      subst (λ (f : ℕ). f ≤ 6 * s)
-      (sym (upper-is-mean s A B T c ρ (u .positive) (sh .a-positive) (sh .b-positive) (d .cap-positive)))
-      (up-most (s * x .num) (x .den) (6 * s) (mean-positive k) (omega (arith, mul-le-mul-left s m)))
+pub upper-factor-most : (s A B T : ℕ) (c ρ : Fraction) → FineUnit s → Shape A B T → Ductile s c ρ → upperFactor s A B T c ρ ≤ 6 * s
+upper-factor-most s A B T c ρ u sh d =
+    let r = over (upperRoot s ρ) s in
+    let x = mean (weights A B T) r c in
+    let root : upperRoot s ρ ≤ 6 * s =
+    le-of-mul-le-mul-right {k = c .den} (omega (arith, d .root-most, mul-le-mul-left s (d .cap-most))) (d .cap-positive) in
+    rw (upper-is-mean s A B T c ρ (u .positive) (sh .a-positive) (sh .b-positive) (d .cap-positive))
+    (up-most (s * x .num) (x .den) (6 * s) (mean-positive A B T r c (sh .b-positive) (u .positive) (d .cap-positive))
+    (omega (arith, mul-le-mul-left s (mean-most (weights A B T) r c root (d .cap-most)))))
 
 -- ---- ratio, m and p
 pub ratio-most : (s Sa F : ℕ) → 0 < F → s ≤ F → ratio s Sa F ≤ Sa

@@ -52,7 +52,7 @@ approximate-bounds k h lo hi =
     )
 
 -- so T is at least 1 ms, where a calculated period is none or at least 1, and at most 1.4 times the longest
-pub in-use-bounds : (calculated t : ℕ) → 8 ≤ t → t ≤ 4520 → (1 ≤ inUse calculated t) × (inUse calculated t ≤ periodMost)
+in-use-bounds : (calculated t : ℕ) → 8 ≤ t → t ≤ 4520 → (1 ≤ inUse calculated t) × (inUse calculated t ≤ periodMost)
 unfolding inUse down
 in-use-bounds calculated t lo hi =
     by-test (λ (T : ℕ). (1 ≤ T) × (T ≤ periodMost)) (eqb calculated 0) t (min calculated (14 * t / 10))

@@ -73,7 +73,7 @@ module _ (s : ℕ) (c ρ : Fraction) (u : FineUnit s) (d : Ductile s c ρ) where
   thirds-least =
       le-of-mul-le-mul-right {k = c .den} (omega (arith, thirds-exact, d .root-most)) (d .cap-positive)
 
-  pub thirds-most : 3 * s / c .den * c .num ≤ 18 * s
+  thirds-most : 3 * s / c .den * c .num ≤ 18 * s
   thirds-most =
       le-of-mul-le-mul-right {k = c .den} (omega (arith, thirds-exact, mul-le-mul-left s (d .cap-most))) (d .cap-positive)
 

@@ -36,7 +36,7 @@ nearFault =
 abbrev basin : List ℕ
 basin = bytes "basin\t1\n" ++ building
 
-pub office-read : readSheet office ≡ accepted (record {
+office-read : readSheet office ≡ accepted (record {
   ground = Site (record { ssd = 80; s1d = 45; ssm = 100; s1m = 55; nad = 100; nvd = 100; nam = 100; nvm = 100; class = 1 });
   frame = record { kind = 2; calculated = 1_000; r = 480; i = 100; alpha = 150 };
   levels = record { weights = 5_000 ∷ 5_000 ∷ 5_000 ∷ []; heights = 100 ∷ 200 ∷ 300 ∷ [] };
@@ -77,7 +77,7 @@ pub otherwise-read : (readSheet [] ≡ refused 16 1) × (readSheet (bytes "site\
 unfolding readSheet sheetLines lineIn linesFrom line fields field word starts number digits wellMade inRange valueFrom
 otherwise-read = (refl, refl, refl)
 
-pub office-listed : resultsListing (record { v = 909_704; vm = 818_453; star = 1_071_429; vd = 1_071_429; t = 1_000 })
+office-listed : resultsListing (record { v = 909_704; vm = 818_453; star = 1_071_429; vd = 1_071_429; t = 1_000 })
     (166_071 ∷ 332_143 ∷ 573_215 ∷ []) (1_071_429 ∷ 905_358 ∷ 573_215 ∷ []) (255_000_200 ∷ 147_857_300 ∷ 57_321_500 ∷ [])
     ≡ bytes "base\t909704\t818453\t1071429\t1071429\t1000\n" ++ (bytes "level\t3\t573215\t573215\t57321500\n"
     ++ (bytes "level\t2\t332143\t905358\t147857300\n" ++ bytes "level\t1\t166071\t1071429\t255000200\n"))

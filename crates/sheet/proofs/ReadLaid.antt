@@ -103,7 +103,7 @@ module _ (l : Line) where
       (List·Memᴰ·cases-cons (t .layout))
 
 -- ---- the level lines
-pub record LevelsBack (ls : List Line) : Type 0 where
+record LevelsBack (ls : List Line) : Type 0 where
   pub lines : levelLinesOf (levelsOf ls .weights) (levelsOf ls .heights) ≡ ls
   pub weights : AllShort (levelsOf ls .weights)
   pub heights : AllShort (levelsOf ls .heights)

@@ -32,7 +32,7 @@ abbrev keptSheet : Sheet → GroundValues × (FrameValues × ℕ)
 keptSheet r = (r .ground, (r .frame, length (kept (r .levels .weights))))
 
 -- it says the outcome: ground, frame, and how many levels are kept
-pub sheet-said : (o : Outcome Sheet) → sheetOutcome (sheetRead o .answer) ≡ (o >>= λ r. accepted (keptSheet r))
+sheet-said : (o : Outcome Sheet) → sheetOutcome (sheetRead o .answer) ≡ (o >>= λ r. accepted (keptSheet r))
 unfolding sheetRead
 sheet-said (accepted r) = refl
 sheet-said (refused n p) = refl
@@ -41,7 +41,7 @@ said-refused : (o : Outcome Sheet) (c : SheetRead) (f : Refusal) → c ≡ sheet
     → o ≡ refused (f .number) (f .place)
 said-refused o c f e m = answer-refused keptSheet sheetRead (λ (x : SheetRead). sheetOutcome (x .answer)) sheet-said o c e (ap sheetOutcome m)
 
-pub record SheetTaken (o : Outcome Sheet) (c : SheetRead) (v : GroundValues) (f : FrameValues) (n : ℕ) : Type 0 where
+record SheetTaken (o : Outcome Sheet) (c : SheetRead) (v : GroundValues) (f : FrameValues) (n : ℕ) : Type 0 where
   pub read : Sheet
   pub is : o ≡ accepted read
   pub ground : read .ground ≡ v

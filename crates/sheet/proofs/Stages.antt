@@ -33,7 +33,7 @@ abbrev keptLevels : Levels → ℕ
 keptLevels ls = length (kept (ls .weights))
 
 -- the answer says the outcome, and how many levels are kept
-pub levels-said : (o : Outcome Levels) → levelsOutcome (levelsRead o .answer) ≡ (o >>= λ ls. accepted (keptLevels ls))
+levels-said : (o : Outcome Levels) → levelsOutcome (levelsRead o .answer) ≡ (o >>= λ ls. accepted (keptLevels ls))
 unfolding levelsRead
 levels-said (accepted ls) = refl
 levels-said (refused n p) = refl

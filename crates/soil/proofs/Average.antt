@@ -20,7 +20,7 @@ use Rattle.soil.proofs.Slowness.{slowness-sound, up-above, up-close, do
 use Rattle.soil.proofs.Speeds.{Positive}
 
 module _ (ds vs : List ℕ) (p : Positive vs) where
-  pub down-up : added down ds vs ≤ added up ds vs
+  down-up : added down ds vs ≤ added up ds vs
   down-up =
       le-of-mul-le-mul-right {k = slowness ds vs .den} (omega (arith, down-below ds vs p, up-above ds vs p))
       (slowness-sound ds vs p)
@@ -52,7 +52,7 @@ module _ (ds vs : List ℕ) (p : Positive vs) where
         (slowness-sound ds vs p))
 
     -- ---- faster, or slower, by n ns for n layers
-    module _ (n : ℕ) (some : 0 < length ds) (few : length ds ≤ n) (same : length vs ≡ length ds) where
+    module _ (n : ℕ) (some : 0 < length ds) (few : length ds ≤ n) where
       pub faster-is-hard : 0 < l .hard → AtMost (plus (exactTime ds vs) (over n 1)) (timeAt (l .hard))
           → classOf l (times ds vs) ≡ Hard
       faster-is-hard pos h =
@@ -60,7 +60,7 @@ module _ (ds vs : List ℕ) (p : Positive vs) where
           (lt-of-mul-lt-mul-right (slowness ds vs .den)
           (omega (
             arith,
-            mul-lt-mul-of-pos-left (up-close ds vs p some same) pos,
+            mul-lt-mul-of-pos-left (up-close ds vs p some) pos,
             mul-le-mul-left (l .hard) (mul-le-mul-right (slowness ds vs .den) few),
           )))
 
@@ -71,6 +71,6 @@ module _ (ds vs : List ℕ) (p : Positive vs) where
           (lt-of-mul-lt-mul-right (slowness ds vs .den)
           (omega (
             arith,
-            mul-lt-mul-of-pos-left (down-close ds vs p some same) pos,
+            mul-lt-mul-of-pos-left (down-close ds vs p some) pos,
             mul-le-mul-left (l .soft) (mul-le-mul-right (slowness ds vs .den) few),
           )))

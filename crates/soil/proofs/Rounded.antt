@@ -79,11 +79,11 @@ module _ (ds ks xs vs : List ℕ) (given : velocities 1 ks xs ≡ accepted vs) w
     faster-by-40-ns-is-hard h =
         class-given table3 ds ks xs vs given judged
         ∙ ap accepted
-        (faster-is-hard ds vs positive table3 40 (omega (arith, sound .some)) (sound .few) (same sound) (omega arith) h)
+        (faster-is-hard ds vs positive table3 40 (omega (arith, sound .some)) (sound .few) (omega arith) h)
 
     pub slower-by-40-ns-is-soft : AtMost (plus (timeAt (table3 .soft)) (over 40 1)) (exactTime ds vs)
         → siteClass table3 ds ks xs ≡ accepted Soft
     slower-by-40-ns-is-soft h =
         class-given table3 ds ks xs vs given judged
         ∙ ap accepted
-        (slower-is-soft ds vs positive table3 40 (omega (arith, sound .some)) (sound .few) (same sound) (omega arith) (omega arith) h)
+        (slower-is-soft ds vs positive table3 40 (omega (arith, sound .some)) (sound .few) (omega arith) (omega arith) h)

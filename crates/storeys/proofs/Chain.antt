@@ -16,7 +16,7 @@ use Rattle.storeys.proofs.Telescope.{forces-sum}
 pub load-of : (T v : ℕ) → T ≤ 9_999 → v ≤ 1_400_000_000 → Load T v
 load-of T v t s = record { part = roof-at-most-one T; shear = s }
 
-pub weighing-of : (ws hs : List ℕ) → length ws ≡ length hs → length ws ≤ 50
+weighing-of : (ws hs : List ℕ) → length ws ≡ length hs → length ws ≤ 50
     → ((x : ℕ) → x < length ws → (getD ws x 0 ≤ 20_000) × (getD hs x 0 ≤ 2_000)) → Weighing ws hs
 weighing-of ws hs e n b =
     record { same = e; most = omega (arith, sum-most ws hs 20_000 2_000 b, mul-le-mul-right 40_000_000 n) }

@@ -10,7 +10,7 @@ use Rattle.whole.proofs.Choice.{by-leb}
 use Rattle.whole.proofs.Rounding.{up-most}
 use Rattle.storeys.specs.Storeys.{RoofAtMostOne, roofPart, roofForce}
 
-pub part-most : (t : Fraction) (v : ℕ) → 0 < t .den → t .num ≤ t .den → up (t .num * v) (t .den) ≤ v
+part-most : (t : Fraction) (v : ℕ) → 0 < t .den → t .num ≤ t .den → up (t .num * v) (t .den) ≤ v
 part-most t v p h = up-most (t .num * v) (t .den) v p (mul-le-mul-right v h)
 
 pub roof-most : (T v : ℕ) → RoofAtMostOne T → roofForce T v ≤ v

@@ -98,7 +98,7 @@ roof-force-below-text T v =
     up-mono (roofPart T .num * v) 100_000 (7 * T * v) 100_000 (omega arith) (omega arith) (mul-le-mul-right v (part-below-text T))
 
 -- of a base shear v a smaller roof force leaves no larger shear
-pub shear-rises-with-roof-force : (v a p f g : ℕ) → 0 < p → a ≤ p → f ≤ g → g ≤ v → f + up ((v - f) * a) p ≤ g + up ((v - g) * a) p
+shear-rises-with-roof-force : (v a p f g : ℕ) → 0 < p → a ≤ p → f ≤ g → g ≤ v → f + up ((v - f) * a) p ≤ g + up ((v - g) * a) p
 shear-rises-with-roof-force v a p f g pos h k m =
     let d = g - f in
     let more : (v - g) + d ≡ v - f = omega arith in

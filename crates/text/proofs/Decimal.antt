@@ -43,12 +43,12 @@ digits-enough (suc k) n h = go (leb 10 n) refl (digits-enough k (n / 10) (tenth 
         let s = leb-false 10 n e in
         digits-small (suc (suc k)) n s ∙ sym (digits-small (suc k) n s)
 
-pub decimal-small : (n : ℕ) → n < 10 → decimal n ≡ (48 + n % 10) ∷ []
+decimal-small : (n : ℕ) → n < 10 → decimal n ≡ (48 + n % 10) ∷ []
 unfolding decimal
 decimal-small n h = digits-small 19 n h
 
 -- a number of 64 bits has 20 digits at the most
-pub decimal-big : (n : ℕ) → 10 ≤ n → n < 2 ^ 64 → decimal n ≡ decimal (n / 10) ++ ((48 + n % 10) ∷ [])
+decimal-big : (n : ℕ) → 10 ≤ n → n < 2 ^ 64 → decimal n ≡ decimal (n / 10) ++ ((48 + n % 10) ∷ [])
 unfolding decimal
 decimal-big n h f =
     let few : n / 10 < 10 ^ (18 + 1) = omega arith in

@@ -99,7 +99,7 @@ module _ (b : ℕ) (ds : List ℕ) (d : Digital (b ∷ ds)) (few : length ds ≤
       let e : 10 * 10 ^ length ds ≡ 10 ^ (length ds + 1) = rw (add-one (length ds), pow-suc 10 (length ds)) (omega arith) in
       rw (← e) (lt-of-lt-of-le (value-below (b - 48) ds (d .2)) (mul-le-mul-right (10 ^ length ds) s))
 
-  pub short-back : Short (value (b ∷ ds))
+  short-back : Short (value (b ∷ ds))
   unfolding valueFrom
   short-back =
       let most : length ds + 1 ≤ 9 = omega arith in

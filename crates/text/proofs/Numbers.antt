@@ -17,7 +17,7 @@ use Rattle.text.specs.Number.{digits, value, counted, leadingZero, wellM
 use Rattle.text.specs.Reading.{found, otherwise}
 
 module _ (l : List ℕ) where
-  pub number-none : length (digits l) < 1 → number l ≡ otherwise
+  number-none : length (digits l) < 1 → number l ≡ otherwise
   unfolding number wellMade inRange
   number-none h = simp (lt-leb _ _ h)
 
@@ -26,7 +26,7 @@ module _ (l : List ℕ) where
   number-many h = simp (le-leb 1 (length (digits l)) (omega arith), lt-leb _ _ h)
 
   module _ (some : 1 ≤ length (digits l)) (few : length (digits l) ≤ 9) where
-    pub number-led : leadingZero (length (digits l)) (getD (digits l) 0 0) ≡ true → number l ≡ otherwise
+    number-led : leadingZero (length (digits l)) (getD (digits l) 0 0) ≡ true → number l ≡ otherwise
     unfolding number wellMade inRange
     number-led e = simp (le-leb _ _ some, le-leb _ _ few, e)
 
@@ -37,7 +37,7 @@ module _ (l : List ℕ) where
 
 -- ---- ten digits tell as much as all of them
 module _ (ds : List ℕ) where
-  pub ten-many : 9 < length (take 10 ds) → 9 < length ds
+  ten-many : 9 < length (take 10 ds) → 9 < length ds
   ten-many h = go (leb 10 (length ds)) refl
     where
       go : (t : Bool) → leb 10 (length ds) ≡ t → 9 < length ds
@@ -46,7 +46,7 @@ module _ (ds : List ℕ) where
           let s : length ds ≤ 10 = omega (arith, leb-false 10 (length ds) e) in
           rw (take-all 10 ds s) at h
 
-  pub ten-all : length (take 10 ds) ≤ 9 → take 10 ds ≡ ds
+  ten-all : length (take 10 ds) ≤ 9 → take 10 ds ≡ ds
   ten-all h = go (leb 10 (length ds)) refl
     where
       go : (t : Bool) → leb 10 (length ds) ≡ t → take 10 ds ≡ ds
@@ -54,14 +54,14 @@ module _ (ds : List ℕ) where
       go false e = take-all 10 ds (omega (arith, leb-false 10 (length ds) e))
 
 -- ---- the digits stand at the front of the bytes
-pub digits-short : (l : List ℕ) → length (digits l) ≤ length l
+digits-short : (l : List ℕ) → length (digits l) ≤ length l
 unfolding digits
 digits-short [] = omega arith
 digits-short (b ∷ l) =
     by-test (λ (ds : List ℕ). length ds ≤ suc (length l)) (inRange 48 57 b) (b ∷ digits l) []
     (λ _. omega (arith, digits-short l)) (λ _. omega arith)
 
-pub digits-first : (l : List ℕ) → 1 ≤ length (digits l) → getD (digits l) 0 0 ≡ getD l 0 0
+digits-first : (l : List ℕ) → 1 ≤ length (digits l) → getD (digits l) 0 0 ≡ getD l 0 0
 unfolding digits
 digits-first [] h = refl
 digits-first (b ∷ l) h =

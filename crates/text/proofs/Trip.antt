@@ -48,7 +48,7 @@ module _ (n : ℕ) (l : List ℕ) (ended : Ended l) (f : n < 2 ^ 64) where
       number-found (decimal n ++ l) some few (rw front (printed-lead 19 n fits)) ∙ rw (front, printed-value 19 n fits))
       (λ b. number-many (decimal n ++ l) (rw front (printed-many 9 19 n (omega (arith, b)) fits)))
 
-pub short-read : (n : ℕ) (l : List ℕ) → Short n → Ended l → number (decimal n ++ l) ≡ found n (length (decimal n))
+short-read : (n : ℕ) (l : List ℕ) → Short n → Ended l → number (decimal n ++ l) ≡ found n (length (decimal n))
 short-read n l s ended =
     printed-read n l ended (lt-of-le-of-lt s (lit< tt)) ∙ simp (le-leb n 999_999_999 s)
 

@@ -7,7 +7,7 @@
 --                      where 10·p takes more than r
 --   Place p            p is 1, 10, 100, ..
 -- Each next digit keeps `Left` and carries `Found` one place on; k is the lower root with zeros in place of its digits behind p, and down to the place 1
--- it is the lower root: proofs/Digits.antt.
+-- it is the lower root: proofs/Found.antt.
 use mathlib.Core.Path.{_≡_}
 use Prim.Native.Nat.{ℕ, _+_, _*_, _^_, _≤_, _∣_}
 use Rattle.whole.specs.declared.Fraction.{Fraction}

@@ -5,7 +5,7 @@ use Prim.Native.Nat.{ℕ, _*_, _≤_, _<_}
 use native.Mathlib.Omega.{arith}
 use Rattle.whole.specs.declared.Fraction.{Fraction}
 use Rattle.whole.specs.Digits.{Place}
-use Rattle.whole.proofs.Digits.{place-one, tenth}
+use Rattle.whole.proofs.Places.{place-one, tenth}
 use Rattle.run_exhausted.proofs.on_paper.Statement.{statement}
 use Rattle.run_exhausted.proofs.on_paper.Tie as tie
 

@@ -1,8 +1,9 @@
 -- `base_shear::shears::ratio_at` meets its contract. Assumes nothing.
 use mathlib.Core.Path.{ap₂, _∙_}
 use native.Mathlib.Omega.{arith}
-use Rattle.response.proofs.Most.{spectrum-most, lower-factor-least}
+use Rattle.response.proofs.Most.{spectrum-most}
 use Rattle.response.specs.Ratio.{ratio}
+use Rattle.base_shear.proofs.LowerSome.{lower-least}
 use Rattle.base_shear.proofs.shears.ratio_at.Statement.{statement}
 use Rattle.base_shear.proofs.shears.ratio_at.Tie as tie
 
@@ -24,7 +25,7 @@ ratio-requires c κs =
     let m = u .most in
     let p = u .positive in
     let most = spectrum-most (a .s) (h .a) (h .b) (a .t) (r .shape .b-positive) (r .shape .a-most) in
-    let least = lower-factor-least (a .s) (h .a) (h .b) (a .t) (h .capacity) (h .square) u (r .shape) (r .ductile) in
+    let least = lower-least (a .s) h (a .t) u r in
     (m, omega (arith, c .before .before .before .spectrum .ensures, most), omega (arith, c .lower-factor .ensures, least))
 
 returns : tie.Need-returns

@@ -6,7 +6,7 @@ use native.Mathlib.Nat.{mul-le-mul, zero-lt-suc}
 use native.Mathlib.Decide.{decLe}
 use native.Mathlib.Omega.{arith}
 use Rattle.whole.specs.Digits.{taken}
-use Rattle.whole.proofs.Digits.{taken-some, digit-trial, digit-most}
+use Rattle.whole.proofs.Taken.{taken-some, digit-trial, digit-most}
 use Rattle.whole.proofs.paper.digit.Statement.{statement}
 use Rattle.whole.proofs.paper.digit.Tie as tie
 

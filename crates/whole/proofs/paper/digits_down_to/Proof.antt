@@ -7,7 +7,7 @@ use native.Mathlib.Omega.{arith}
 use Rattle.whole.specs.Fraction.{over}
 use Rattle.whole.specs.Digits.{Found}
 use Rattle.whole.proofs.Root.{radicand}
-use Rattle.whole.proofs.Digits.{Line, first-line, line-small, next-positive, next-small, next-less, ten-more, next-fits, next-line}
+use Rattle.whole.proofs.PaperLine.{Line, first-line, line-small, next-positive, next-small, next-less, ten-more, next-fits, next-line}
 use Rattle.whole.proofs.paper.digits_down_to.Statement.{statement}
 use Rattle.whole.proofs.paper.digits_down_to.Tie as tie
 
