@@ -19,7 +19,7 @@ use Rattle.job.specs.Job.{Answers}
 use Rattle.job.specs.Moves.{withR, withI, withAlpha, withWeight, NoneLower, AsRGrows}
 use Rattle.job.specs.ShearCall.{Sheared}
 use Rattle.job.proofs.CallMoves.{same-period, never-lower, as-r-grows}
-use Rattle.job.proofs.InTurn.{job-parted}
+use Rattle.job.proofs.CalledInTurn.{job-parted}
 
 -- ---- two jobs on one ground at one T
 module _ (G : GroundValues) (f f′ : FrameValues) (ws hs ws′ hs′ : List ℕ) (b b′ c c′ : Buffers) (n n′ : Figures)

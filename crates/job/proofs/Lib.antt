@@ -11,6 +11,8 @@ pub mod Answered
 pub mod FigureBounds
 pub mod FirstRefusal
 pub mod InTurn
+pub mod CalledInTurn
+pub mod Together
 pub mod JobMoves
 pub mod Independent
 pub mod Calls

@@ -18,7 +18,8 @@ use Rattle.limits.specs.Handed.{judgedBaseShear, judgedHandedPeriod, jud
 use Rattle.limits.specs.Judging.{judgedGiven, judgedJob, judgedShearCall, judgedDistribution}
 use Rattle.limits.specs.Levels.{judgedLevels, topHeight}
 use Rattle.limits.specs.Outcome.{Outcome, accepted, Done}
-use Rattle.limits.proofs.Accepted.{given-parts, levels-allowed, top-allowed}
+use Rattle.limits.proofs.Accepted.{given-parts}
+use Rattle.limits.proofs.AcceptedLevels.{levels-allowed, top-allowed}
 use Rattle.limits.proofs.Built.{range-passes}
 use Rattle.limits.proofs.Passed.{one-value, then-passed, then-done, within-passed}
 

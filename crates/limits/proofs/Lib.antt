@@ -5,6 +5,9 @@ pub mod Stages
 pub mod Lists
 pub mod Unique
 pub mod FramePassed
+pub mod Spread
+pub mod AcceptedGround
+pub mod AcceptedLevels
 pub mod Accepted
 pub mod Built
 pub mod AcceptedCalls

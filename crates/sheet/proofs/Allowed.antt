@@ -31,7 +31,9 @@ use Rattle.limits.specs.Ranges.{within, listed}
 use Rattle.limits.specs.Class.{judgedClass}
 use Rattle.limits.specs.Site.{siteOf, judgedMapped, judgedNearFault, judgedSite}
 use Rattle.limits.specs.Zone.{judgedZone}
-use Rattle.limits.proofs.Accepted.{site-allowed, frame-allowed, levels-allowed}
+use Rattle.limits.proofs.AcceptedGround.{site-allowed}
+use Rattle.limits.proofs.Accepted.{frame-allowed}
+use Rattle.limits.proofs.AcceptedLevels.{levels-allowed}
 use Rattle.limits.proofs.Passed.{never, one-value, then-passed, bind-passed}
 use Rattle.text.specs.Bytes.{bytes}
 use Rattle.text.specs.Writing.{AllShort}

@@ -23,3 +23,5 @@ pub mod Cut
 pub mod Examples
 pub mod Demands
 pub mod OnePair
+pub mod OtherCounts
+pub mod EitherLine

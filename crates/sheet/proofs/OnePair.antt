@@ -4,7 +4,7 @@
 --   siteSheet ns x    the line `site` with the numbers ns, and the bytes x after it
 -- Assumes nothing.
 use mathlib.Core.Path.{_≡_, refl, sym, ap, subst, _∙_}
-use mathlib.Core.List.{List, [], _∷_, _++_, List·Memᴰ·head, List·Memᴰ·tail, List·Memᴰ·cases-cons, List·Memᴰ·eq-of-singleton}
+use mathlib.Core.List.{List, [], _∷_, _++_, List·Memᴰ·head, List·Memᴰ·tail, List·Memᴰ·eq-of-singleton}
 use mathlib.Core.Logic.{⊎-elim}
 use Prim.Native.Nat.{ℕ, zero, suc, _≤_}
 use native.Mathlib.Omega.{arith}
@@ -18,24 +18,19 @@ use Rattle.limits.specs.Outcome.{Outcome, accepted, refused, _>>=_}
 use Rattle.limits.proofs.Foremost.{one-pair-lowest, na-lowest}
 use Rattle.limits.proofs.Passed.{one-value, bind-passed, only}
 use Rattle.job.specs.Job.{Results, resultsOf, jobOf}
-use Rattle.job.proofs.Stages.{job-accepted}
 use Rattle.text.specs.Reading.{starts}
 use Rattle.text.specs.Writing.{Short, AllShort}
-use Rattle.text.proofs.OneWay.{laid-once}
-use Rattle.sheet.proofs.Demands.{SheetKept}
 use Rattle.sheet.proofs.Allowed.{judgedSheet, allowed-laid}
-use Rattle.sheet.proofs.LaidRead.{sheet-lines, sheet-worded, laid-read}
-use Rattle.sheet.proofs.Listable.{read-listed}
+use Rattle.sheet.proofs.LaidRead.{sheet-lines, sheet-worded}
 use Rattle.sheet.proofs.Lines.{read-on, read-lines-laid}
 use Rattle.sheet.proofs.OneLine.{standing-line}
-use Rattle.sheet.proofs.Otherwise.{read-refused, otherwise-refused}
+use Rattle.sheet.proofs.Otherwise.{read-refused}
 use Rattle.sheet.proofs.ReadLaid.{read-lines, lines-back}
 use Rattle.sheet.proofs.Refused.{bind-refused}
-use Rattle.sheet.specs.Laid.{siteLine, GroundLine, sheetLaid}
+use Rattle.sheet.specs.Laid.{siteLine}
 use Rattle.sheet.specs.Layouts.{Layout, Line, layoutOf, firstOf, past, lineLaid, LaidLine}
 use Rattle.sheet.specs.Lines.{readFrom}
 use Rattle.sheet.specs.Listing.{listing, jobOfSheet, outcomeOf, sheetListing}
-use Rattle.sheet.specs.Otherwise.{here}
 use Rattle.sheet.specs.Reading.{sheetLines, readSheet}
 use Rattle.sheet.specs.Sheet.{onePairLayout, sheetForm, siteValues, pairTwice, groundOf, Sheet, sheetOf}
 
@@ -174,30 +169,3 @@ module _ (ns x : List ℕ) (one : LaidLine (onePairLayout ∷ []) (siteLine ns))
 
     pub bad-na-first : OutOf 100 150 (getD ns 4 0) → p ≡ 1
     bad-na-first o = na-lowest _ _ _ _ _ p (given-6 .is) o
-
--- ---- another count of numbers: no line that line 1 may be stands there
-module _ (ns x : List ℕ) (short : AllShort ns) (not-seven : length ns ≡ 7 → ⊥) (not-nine : length ns ≡ 9 → ⊥) where
-  none-stands : (l : Line) (y : List ℕ) → LaidLine (firstOf sheetForm) l → siteSheet ns x ≡ lineLaid l ++ y → ⊥
-  none-stands l y t is =
-      let once =
-      laid-once (siteLine ns .word) (l .word) ns (l .numbers) x y (omega arith) (sheet-worded 0 (layoutOf l) (t .layout)) short (t .short) is in
-      let same : siteLine ns ≡ l = λ i. record { word = once .0 i; numbers = once .1 i } in
-      let layout = ap layoutOf same in
-      ⊎-elim (λ e. not-seven (ap (λ (k : Layout). k .numbers) (layout ∙ e)))
-      (λ m. ⊎-elim (λ e. not-nine (ap (λ (k : Layout). k .numbers) (layout ∙ e)))
-      (λ m′. let z : ⊥ = omega (arith, ap (λ (k : Layout). getD (k .word) 0 0) (layout ∙ List·Memᴰ·eq-of-singleton m′)) in z)
-      (List·Memᴰ·cases-cons m))
-      (List·Memᴰ·cases-cons (t .layout))
-
-  pub other-counts : length (siteSheet ns x) ≤ 4_096 → outcomeOf (siteSheet ns x) ≡ refused 16 1
-  other-counts fits =
-      ap (λ (o : Outcome Sheet). o >>= jobOfSheet) (otherwise-refused (siteSheet ns x) 1 fits (here refl none-stands))
-
--- ---- an accepted sheet, with any other line 1 that holds the same ground
-pub either-line : (s : List ℕ) (k : SheetKept s) (l : Line) → GroundLine (k .sheet .ground) l
-    → sheetListing (sheetLaid l (k .sheet)) ≡ sheetListing s
-either-line s k l holds =
-    let laid = allowed-laid l (k .sheet) _ (k .given) holds (k .judged) in
-    read-listed (sheetLaid l (k .sheet)) (k .sheet) (laid-read l (k .sheet) laid)
-    ∙ ap listing (job-accepted (k .sheet .ground) (k .sheet .frame) (k .sheet .levels .weights) (k .sheet .levels .heights) _ (k .judged))
-    ∙ sym (k .printed)

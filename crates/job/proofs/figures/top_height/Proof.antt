@@ -1,7 +1,7 @@
 -- `job::figures::top_height` meets its contract. Assumes nothing.
 use borrow.Author.Needs.{needs}
 use mathlib.Core.Path.{sym}
-use Rattle.limits.proofs.Accepted.{top-last}
+use Rattle.limits.proofs.AcceptedLevels.{top-last}
 use Rattle.job.proofs.figures.top_height.Statement.{statement}
 use Rattle.job.proofs.figures.top_height.Tie as tie
 
