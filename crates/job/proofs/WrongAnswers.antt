@@ -1,4 +1,4 @@
--- Answers to document 01's worked sheet that the contract of `job` rules out: any refusal, where each buffer has a cell for each level; and figures with
+-- Answers to document 01's worked sheet that the contract of `job` rules out: any refusal, where the shortest buffer has just one cell for each level; and figures with
 -- buffers in which nothing is written. 'A core that refuses every job breaks demand 1, one that writes nothing demand 2's cells.'
 -- Assumes nothing.
 use mathlib.Core.Path.{_≡_, ap, _∙_}

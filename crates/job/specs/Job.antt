@@ -2,7 +2,7 @@
 -- what the shear call and the distribution make together (InTurn.antt), judged once.
 --   Results                    V, V_M, V*, V_D and T, and the columns of the levels
 --   resultsAt n ws hs          those of five figures: the storeys at V_D and T
---   jobFigures g ws hs       the five figures of a judged ground and frame: W is the sum of the weights, h the last height
+--   jobFigures g ws hs         the five figures of a judged ground and frame: W is the sum of the weights, h the last height
 --   resultsOf g ws hs          the results of these
 --   jobOf G f ws hs room       the results, or the first refusal; room is the length of the shortest result buffer
 --   figuresOnly o, columnsOnly o    what is left of an outcome without the levels, and without the figures

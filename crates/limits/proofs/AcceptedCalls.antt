@@ -1,5 +1,6 @@
--- What the two calls accept is allowed, and what the shear call judges of ground and frame it judges of them alone; a building, and a base shear and a period, that are allowed pass their judgment. The levels of a job are a
--- building that the shear call takes: its W and h are in range. So a job is judged as the two calls are in turn.
+-- What the two calls accept is allowed, and what the shear call judges of ground and frame it judges of them alone; a building, and a base shear and a
+-- period, that are allowed pass their judgment. The levels of a job are a building that the shear call takes: its W and h are in range. So a job is
+-- judged as the two calls are in turn.
 -- Assumes nothing.
 use mathlib.Core.Path.{_≡_, sym, ap, _∙_}
 use mathlib.Core.List.{List}

@@ -1,6 +1,6 @@
 -- What is given where the shear call accepts: the ground as it was judged, and a frame that has kind, R, I, alpha-y and calculated period of the frame
 -- line.
---   GivenIs s f g    g is what the judgments make of a ground s and a frame line f
+--   GivenIs G f g    g is what the judgments make of a ground G and a frame line f
 -- Assumes nothing.
 use mathlib.Core.Path.{_≡_, sym, ap, _∙_}
 use Prim.Native.Nat.{ℕ}

@@ -3,7 +3,7 @@
 --   AllowedGround g       of a site these; of a zone nothing is left to say
 --   AllowedFrame f        R, I, alpha-y in 0.01, the calculated period in ms
 --   AllowedLevels ws hs   1 to 50 levels, weights in kN, heights in dm that rise strictly
---   AllowedJob g ws hs  a judged ground and frame with such levels, and the top height
+--   AllowedJob g ws hs    a judged ground and frame with such levels, and the top height
 --   AllowedBuilding W h   a total weight in kN, a top height in dm
 --   AllowedShearCall g W h    a judged ground and frame with such a building
 --   AllowedHanded v t     a base shear in N, a period in ms

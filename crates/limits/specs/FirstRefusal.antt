@@ -1,4 +1,4 @@
--- 'The lowest number that applies is given, at its lowest place', where which is lowest is the order in which they are judged; and 'data to which no
+-- 'The lowest number that applies is given, at its lowest place', where 'lowest' means first in the order in which they are judged; and 'data to which no
 -- refusal number applies is accepted'. Of any outcome o, whatever A says when a refusal applies: A n p, number n applies at place p.
 --   FirstRefusal A o
 --     refused-applies            a refusal that is given applies

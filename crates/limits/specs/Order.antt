@@ -8,7 +8,7 @@
 --   Before m n    m is judged before n
 --   NoLater m n   m is judged no later than n
 -- That these sentences hold of it: `lowest-first`, `sheet-first`, `zone-between`, `handed-after` (proofs/Ascending.antt). That calls, logs and sheets are
--- judged in it: their `first-number`. That every number that applies stands there, and two at two places: `in-order`, `one-rank`
+-- judged in it: their `FirstRefusal`. That every number that applies stands there, and two at two places: `in-order`, `one-rank`
 -- (proofs/InOrder.antt).
 use mathlib.Core.List.{List, [], _∷_}
 use Prim.Native.Nat.{ℕ, suc, _≤_, _<_}

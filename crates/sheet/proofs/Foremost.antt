@@ -2,7 +2,7 @@
 -- Assumes nothing.
 use mathlib.Core.Path.{_≡_, refl, sym, ap, subst, _∙_}
 use mathlib.Core.List.{List}
-use mathlib.Core.Logic.{⊎-elim}
+use mathlib.Core.Logic.{_⊎_, inl, inr, ⊎-elim}
 use Prim.Native.Nat.{ℕ, _+_, _≤_}
 use native.Mathlib.Omega.{arith}
 use lib.ListN.{length}
@@ -12,6 +12,7 @@ use Rattle.limits.specs.Order.{InOrder, NoLater}
 use Rattle.limits.specs.Outcome.{Outcome, accepted, refused}
 use Rattle.limits.proofs.InOrder.{in-order}
 use Rattle.limits.proofs.Numbers.{numbered-levels, never-17, applies-in-order as given-in-order}
+use Rattle.limits.proofs.Places.{NamedIn, named-job}
 use Rattle.limits.proofs.Passed.{never, one-value, bind-passed}
 use Rattle.job.specs.Job.{Results}
 use Rattle.job.proofs.FirstRefusal.{results-first}
@@ -20,9 +21,9 @@ use Rattle.sheet.proofs.Otherwise.{read-refused, otherwise-lines, other
 use Rattle.sheet.proofs.ReadLaid.{read-lines}
 use Rattle.sheet.proofs.Refused.{bind-refused}
 use Rattle.sheet.specs.Applies.{HeldApplies, SheetApplies, long, line, of-job}
-use Rattle.sheet.specs.Layouts.{Line, linesLaid, LaidLines}
+use Rattle.sheet.specs.Layouts.{Line, Form, linesLaid, LaidLines}
 use Rattle.sheet.specs.Listing.{jobOfSheet, outcomeOf}
-use Rattle.sheet.specs.Otherwise.{FirstOtherwise}
+use Rattle.sheet.specs.Otherwise.{FirstOtherwise, here, after}
 use Rattle.sheet.specs.Reading.{sheetLines, readSheet}
 use Rattle.sheet.specs.Sheet.{sheetForm, Sheet, sheetOf}
 
@@ -34,6 +35,11 @@ held-17 : (r : Sheet) (q : ℕ) → HeldApplies r 17 q → ⊥
 held-17 r q a =
     let ws = r .levels .weights in
     never-17 (LevelsApply ws (r .levels .heights) (length ws)) (λ n p. numbered-levels) (r .frame) (r .ground) a refl
+
+-- lines are counted from 1
+line-above : {f : Form} {p : ℕ} {x : List ℕ} → FirstOtherwise f p x → 1 ≤ p
+line-above (here e n) = omega arith
+line-above (after l t o) = omega arith
 
 -- refusal n at place p is the first of the two: judged no later, and where it is the same at a place above 0, at such a place and no higher up
 record First (n p m q : ℕ) : Type 0 where
@@ -70,6 +76,12 @@ module _ (s : List ℕ) where
   applies-in-order n p (long h) = in-order 17 (omega arith)
   applies-in-order n p (line f) = in-order 16 (omega arith)
   applies-in-order n p (of-job ls t is a) = given-in-order _ (λ n p. numbered-levels) _ _ a
+
+  -- which numbers name a place: 16 its line, 3 to 6 as in a job; the others have place 0
+  pub named-sheet : (n p : ℕ) → SheetApplies s n p → ((n ≡ 16) × (1 ≤ p)) ⊎ NamedIn 3 6 n p
+  named-sheet n p (long h) = inr (inr (inr (omega arith), refl))
+  named-sheet n p (line f) = inl (refl, line-above f)
+  named-sheet n p (of-job ls t is a) = inr (named-job a)
 
   module _ (n p : ℕ) (e : outcomeOf s ≡ refused n p) where
     applies : SheetApplies s n p

@@ -1,6 +1,5 @@
 -- A sheet whose site line has seven numbers, one pair of near-fault factors for both hazard levels: where it is accepted, or both have at most 4,096
--- bytes, it gets what the sheet of nine numbers with the pair repeated gets, byte for byte; and 6 at place 1 or 2, never at 3 or 4. A site
--- line of another count of numbers is 16 at line 1.
+-- bytes, it gets what the sheet of nine numbers with the pair repeated gets, byte for byte; and 6 at place 1 or 2, never at 3 or 4.
 --   siteSheet ns x    the line `site` with the numbers ns, and the bytes x after it
 -- Assumes nothing.
 use mathlib.Core.Path.{_≡_, refl, sym, ap, subst, _∙_}

@@ -4,7 +4,7 @@
 --   hazardOf c ss s1 na nv k q      these, with a capacity k and its square q
 --   designHazard c ss s1 na nv R    with the design capacity of R
 --   mceHazard c ss s1 na nv R       with R itself
---   siteHazards site R    V's with the near-fault factors of the design level, V_M's with those of the MCE level, and V*'s with both taken
+--   siteHazards site R  V's with the near-fault factors of the design level, V_M's with those of the MCE level, and V*'s with both taken
 --                       as 100; the divisors 1.4 of (7), (17) and 4.2 of (19), in tenths
 use Prim.Native.Nat.{ℕ, _≤_}
 use Rattle.whole.specs.declared.Fraction.{Fraction}

@@ -16,7 +16,7 @@ use Rattle.limits.specs.declared.class.ClassAnswer.{ClassAnswer}
 use Rattle.limits.specs.FirstRefusal.{FirstRefusal}
 use Rattle.limits.specs.Lengths.{sameLength}
 use Rattle.limits.specs.Order.{InOrder, Before}
-use Rattle.limits.specs.Outcome.{accepted, refused, require, _>>=_, _>>_}
+use Rattle.limits.specs.Outcome.{Outcome, accepted, refused, require, _>>=_, _>>_}
 use Rattle.limits.specs.Ranges.{within}
 use Rattle.limits.specs.Class.{classOutcome}
 use Rattle.soil.specs.declared.class.ClassLimits.{ClassLimits}
@@ -161,9 +161,8 @@ class-first l ds ks xs = first-refusal (Applies ds ks xs) (siteClass l ds ks xs)
 pub log-first : (ds ks xs : List ℕ) (a : ClassAnswer) → Answers ds ks xs a → FirstRefusal (Applies ds ks xs) (classOutcome a)
 log-first ds ks xs a e = subst (FirstRefusal (Applies ds ks xs)) (sym e) (class-first table3 ds ks xs)
 
--- the first number is the lowest
-pub lowest-number : (ds ks xs : List ℕ) (a : ClassAnswer) (n p m q : ℕ) → Answers ds ks xs a → classOutcome a ≡ refused n p
+-- ---- of any outcome that gives the first refusal of a log, by any class limits or an answer: the first number is the lowest
+pub lowest-number : (ds ks xs : List ℕ) {X : Type 0} (o : Outcome X) (n p m q : ℕ) → o ≡ refused n p → FirstRefusal (Applies ds ks xs) o
     → Applies ds ks xs m q → n ≤ m
-lowest-number ds ks xs a n p m q answers e w =
-    let h = log-first ds ks xs a answers in
+lowest-number ds ks xs o n p m q e h w =
     lowest-first n m (numbered (h .refused-applies n p e)) (numbered w) (h .first-number n p m q e w)
