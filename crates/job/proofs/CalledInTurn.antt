@@ -1,5 +1,6 @@
 -- A job's answer is what the answers of the shear call and of the distribution make in turn, and the other way; and neither gives 19 or 20 for V_D and T of a
 -- shear call.
+--   both n a    what the two calls answer together: the figures n, or what the distribution refuses with
 -- Assumes nothing.
 use mathlib.Core.Path.{_≡_, refl, sym, ap, _∙_}
 use mathlib.Core.List.{List}

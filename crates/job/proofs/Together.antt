@@ -22,7 +22,6 @@ use Rattle.job.proofs.Answered as job
 use Rattle.job.proofs.Distributed.{stands, handed-kept}
 use Rattle.job.proofs.Sheared as call
 
--- ---- demand 3 of the two together: of any shear call, and the distribution of its V_D at its T over any levels
 module _ (G : GroundValues) (f : FrameValues) (W h : ℕ) (ws hs : List ℕ) (b : Buffers) where
   pub record Kept (n : Figures) (b′ : Buffers) : Type 0 where
     pub given : Given

@@ -16,7 +16,6 @@ use Rattle.limits.specs.Outcome.{accepted}
 use Rattle.limits.specs.Ranges.{within}
 use Rattle.limits.proofs.Passed.{then-passed, require-passed, within-passed}
 
--- ---- the levels
 weights-allowed : (p : ℕ) (ws : List ℕ) → weighed p ws ≡ accepted tt → (x : ℕ) → x < length ws
     → (1 ≤ getD ws x 0) × (getD ws x 0 ≤ 20_000)
 unfolding weighed

@@ -7,7 +7,7 @@
 --   AllowedBuilding W h   a total weight in kN, a top height in dm
 --   AllowedShearCall g W h    a judged ground and frame with such a building
 --   AllowedHanded v t     a base shear in N, a period in ms
--- That what is accepted is so: proofs/Accepted.antt, AcceptedCalls.antt.
+-- That what is accepted is so: proofs/AcceptedGround.antt, AcceptedLevels.antt, Accepted.antt, AcceptedCalls.antt.
 use mathlib.Core.Path.{_≡_}
 use mathlib.Core.List.{List}
 use Prim.Native.Nat.{ℕ, _+_, _≤_, _<_}

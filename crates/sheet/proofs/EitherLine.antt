@@ -12,7 +12,6 @@ use Rattle.sheet.specs.Laid.{GroundLine, sheetLaid}
 use Rattle.sheet.specs.Layouts.{Line}
 use Rattle.sheet.specs.Listing.{listing, sheetListing}
 
--- ---- an accepted sheet, with any other line 1 that holds the same ground
 pub either-line : (s : List ℕ) (k : SheetKept s) (l : Line) → GroundLine (k .sheet .ground) l
     → sheetListing (sheetLaid l (k .sheet)) ≡ sheetListing s
 either-line s k l holds =

@@ -1,4 +1,5 @@
--- A sheet is given the first refusal that applies, in the order in which they are judged (`order`): 17, then 16, then what its job is given.
+-- A sheet is given the first refusal that applies, in the order in which they are judged (`order`): 17, then 16, then what its job is given; and which of
+-- its numbers name a place.
 -- Assumes nothing.
 use mathlib.Core.Path.{_≡_, refl, sym, ap, subst, _∙_}
 use mathlib.Core.List.{List}

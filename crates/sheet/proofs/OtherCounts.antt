@@ -18,7 +18,6 @@ use Rattle.sheet.specs.Listing.{jobOfSheet, outcomeOf}
 use Rattle.sheet.specs.Otherwise.{here}
 use Rattle.sheet.specs.Sheet.{sheetForm, Sheet}
 
--- ---- another count of numbers: no line that line 1 may be stands there
 module _ (ns x : List ℕ) (short : AllShort ns) (not-seven : length ns ≡ 7 → ⊥) (not-nine : length ns ≡ 9 → ⊥) where
   none-stands : (l : Line) (y : List ℕ) → LaidLine (firstOf sheetForm) l → siteSheet ns x ≡ lineLaid l ++ y → ⊥
   none-stands l y t is =
