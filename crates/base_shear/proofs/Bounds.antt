@@ -1,8 +1,8 @@
--- Between which numbers the base shear comes, of hazards within reach: at least 1 N, and at most what `Bounded` says. The ratio
--- is at most 2.
+-- Between which numbers the base shear comes, of hazards within reach: at least 1 N, and at most what `Bounded` says, of the largest weight and for each
+-- kN of any. The ratio is at most 2.
 -- Assumes nothing.
 use Prim.Native.Nat.{ℕ, _*_, _≤_, _<_}
-use native.Mathlib.Nat.{le-trans, mul-le-mul, mul-le-mul-right, mul-pos, le-max-left, max-le}
+use native.Mathlib.Nat.{le-refl, le-trans, mul-le-mul, mul-le-mul-right, mul-pos, le-max-left, max-le}
 use native.Mathlib.Omega.{arith}
 use Rattle.whole.proofs.Rounding.{up-most}
 use Rattle.limits.specs.Allowed.{AllowedFrame}
@@ -38,37 +38,52 @@ module _ (k : Hazards) (f : Frame) (W T : ℕ) (c : Reached k) (b : AllowedFrame
   abbrev g : Shearing unit k T
   g = c .shearing T t
 
-  -- ---- at most v
-  module _ (v : ℕ) (e : Bounded v k) (w : W ≤ totalMost) where
-    newtons-most : (n x y : ℕ) → 0 < n → x ≤ y → Within v n y → newtons unit n f W x ≤ v
-    unfolding newtons
-    newtons-most n x y p l h =
-        let ix : f .i * x ≤ 150 * y = mul-le-mul (b .i .1) l in
-        let ixw : f .i * x * W ≤ 150 * y * totalMost = mul-le-mul ix w in
-        let small : 100 * (n * v) ≤ f .alpha * (n * v) = mul-le-mul-right (n * v) (b .alpha .0) in
-        up-most (10_000 * (f .i * x * W)) (n * unit * f .alpha) v (mul-pos (mul-pos p (omega arith)) (omega (arith, b .alpha)))
-        (omega (arith, ixw, small, h))
+  -- ---- at most u, of a weight of up to w, where what is within v at the largest weight is within u at w
+  module _
+      (v : ℕ) (e : Bounded v k) (w u : ℕ) (l : W ≤ w)
+      (carried : (n x : ℕ) → Within v n x → 10_000 * (150 * x * w) ≤ n * unit * 100 * u)
+    where
+      newtons-most : (n x y : ℕ) → 0 < n → x ≤ y → Within v n y → newtons unit n f W x ≤ u
+      unfolding newtons
+      newtons-most n x y p l′ h =
+          let ix : f .i * x ≤ 150 * y = mul-le-mul (b .i .1) l′ in
+          let ixw : f .i * x * W ≤ 150 * y * w = mul-le-mul ix l in
+          let small : 100 * (n * u) ≤ f .alpha * (n * u) = mul-le-mul-right (n * u) (b .alpha .0) in
+          up-most (10_000 * (f .i * x * W)) (n * unit * f .alpha) u (mul-pos (mul-pos p (omega arith)) (omega (arith, b .alpha)))
+          (omega (arith, ixw, small, carried n y h))
 
-    shear-most : (h : Hazard) → Ready unit h T → unit * h .a ≤ 100_000_000 * e .most → shear unit k h f W T ≤ v
-    unfolding shear
-    shear-most h y a =
-        let x = spectrum-below unit (h .a) (h .b) T (e .most) (y .shape .b-positive) a in
-        let q = le-trans (ratio-within unit h T (g .unit) y) x in
-        newtons-most (k .divisor) _ _ (g .divisor .0) (modified-rises (k .lines) (c .meeting) unit _ _ q) (e .shears-within)
+      shear-most : (h : Hazard) → Ready unit h T → unit * h .a ≤ 100_000_000 * e .most → shear unit k h f W T ≤ u
+      unfolding shear
+      shear-most h y a =
+          let x = spectrum-below unit (h .a) (h .b) T (e .most) (y .shape .b-positive) a in
+          let q = le-trans (ratio-within unit h T (g .unit) y) x in
+          newtons-most (k .divisor) _ _ (g .divisor .0) (modified-rises (k .lines) (c .meeting) unit _ _ q) (e .shears-within)
 
-    star-most : star unit k f W T ≤ v
-    unfolding star
-    star-most =
-        let h = k .star in
-        newtons-most (k .stardivisor) _ _ (g .stardivisor .0)
-        (le-trans (blended-within (k .lines) (c .meeting) _ _)
-        (spectrum-below unit (h .a) (h .b) T (e .most) (g .star .shape .b-positive) (e .star)))
-        (e .star-within)
+      star-most : star unit k f W T ≤ u
+      unfolding star
+      star-most =
+          let h = k .star in
+          newtons-most (k .stardivisor) _ _ (g .stardivisor .0)
+          (le-trans (blended-within (k .lines) (c .meeting) _ _)
+          (spectrum-below unit (h .a) (h .b) T (e .most) (g .star .shape .b-positive) (e .star)))
+          (e .star-within)
 
-    pub base-most : base unit k f W T ≤ v
-    unfolding base
-    base-most =
-        max-le (max-le (shear-most (k .design) (g .design) (e .design)) (shear-most (k .mce) (g .mce) (e .mce))) star-most
+      base-carried : base unit k f W T ≤ u
+      unfolding base
+      base-carried =
+          max-le (max-le (shear-most (k .design) (g .design) (e .design)) (shear-most (k .mce) (g .mce) (e .mce))) star-most
+
+  pub base-most : (v : ℕ) → Bounded v k → W ≤ totalMost → base unit k f W T ≤ v
+  base-most v e w = base-carried v e totalMost v w (λ n x h. h)
+
+  -- what the largest weight comes to, shared over its kilonewtons, holds for each of them
+  pub base-for-each : (v : ℕ) → Bounded (v * totalMost) k → base unit k f W T ≤ v * W
+  base-for-each v e = base-carried (v * totalMost) e W (v * W) (le-refl W) each
+    where
+      each : (n x : ℕ) → Within (v * totalMost) n x → 10_000 * (150 * x * W) ≤ n * unit * 100 * (v * W)
+      each n x h =
+          let one : 10_000 * (150 * x) ≤ n * unit * 100 * v = omega arith in
+          omega (arith, mul-le-mul-right W one)
 
   -- ---- at least 1
   shear-some : 0 < W → 0 < shear unit k (k .design) f W T

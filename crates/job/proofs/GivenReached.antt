@@ -4,7 +4,7 @@
 -- Assumes nothing.
 use mathlib.Core.Path.{sym}
 use mathlib.Core.List.{List}
-use Prim.Native.Nat.{ℕ, _≤_, _<_}
+use Prim.Native.Nat.{ℕ, _*_, _≤_, _<_}
 use native.Mathlib.Omega.{arith}
 use lib.ListN.{length}
 use Rattle.limits.specs.declared.judging.Given.{Given}
@@ -13,7 +13,7 @@ use Rattle.response.proofs.Periods.{period-bounds}
 use Rattle.base_shear.specs.declared.Figures.{Figures}
 use Rattle.base_shear.specs.Ready.{Bounded, Reached}
 use Rattle.base_shear.specs.Shears.{figuresAt}
-use Rattle.base_shear.proofs.Bounds.{base-most, base-least}
+use Rattle.base_shear.proofs.Bounds.{base-most, base-least, base-for-each}
 use Rattle.storeys.specs.Reach.{Load, Standing}
 use Rattle.storeys.proofs.Chain.{load-of, standing-of}
 use Rattle.job.specs.ShearCall.{givenHazards, buildingFigures}
@@ -45,6 +45,11 @@ module _ (g : Given) (W h : ℕ) (a : AllowedShearCall g W h) where
       let least = base-least _ (g .frame) W _ given-reached (a .frame) (period .1) (a .building .weight .0) in
       let most = base-most _ (g .frame) W _ given-reached (a .frame) (period .1) _ given-bounded (a .building .weight .1) in
       (least, most, period .0, period .1)
+
+  -- V_D over W, N over kN, is at most 1,125 thousandths
+  pub given-for-each : buildingFigures g W h .vd ≤ 1_125 * W
+  unfolding figuresAt
+  given-for-each = base-for-each _ (g .frame) W _ given-reached (a .frame) (period .1) 1_125 given-bounded
 
 -- so the distribution takes V_D and T: it never refuses them with 19 or 20
 pub between-handed : (n : Figures) → Between n → AllowedHanded (n .vd) (n .t)

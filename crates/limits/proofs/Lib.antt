@@ -31,4 +31,5 @@ pub mod GivenStage
 pub mod BuildingStage
 pub mod HandedStage
 pub mod Foremost
+pub mod DistrictStage
 pub mod Room

@@ -1,4 +1,4 @@
--- When each refusal of a job, of the shear call and of the distribution applies: 'What comes back when data is bad', 1 to 12 and 18 to 20,
+-- When each refusal of a job, of the shear call, of the distribution and of a district applies: 'What comes back when data is bad', 1 to 12 and 18 to 22,
 -- part by part, then of each call. Refusal n applies at place p. Level x, from 0, has place 1 + x.
 --   OutOf least most x           x is not from least to most
 --   NotListed vs x               x is none of the values
@@ -17,6 +17,9 @@
 --   JobApplies G f ws hs room n p           of a job, which judges its levels first
 --   ShearCallApplies G f W h n p            of the shear call, which judges its building first
 --   DistributionApplies v t ws hs room n p  of the distribution: of its levels, or of the base shear and the period that are handed in
+--   StretchApplies store start count n p    21: a stretch outside a store of so many levels
+--   RowApplies G f start count ws hs n p    of a row of a district with the store ws and hs: of its stretch; where that is inside, of the job on it
+--   DistrictApplies jobs weights heights rows n p    22 of a whole district, by how many jobs, weights, heights and rows there are
 use mathlib.Core.Path.{_≡_}
 use mathlib.Core.List.{List, [], _∷_}
 use mathlib.Core.Logic.{_⊎_}
@@ -27,6 +30,7 @@ use Rattle.limits.specs.declared.ground.GroundValues.{GroundValues}
 use Rattle.limits.specs.declared.ground.GroundValues.the-variants.{Site, Basin}
 use Rattle.limits.specs.declared.site.SiteValues.{SiteValues}
 use Rattle.whole.specs.Cells.{below}
+use Rattle.limits.specs.District.{stretch}
 
 abbrev pub OutOf : ℕ → ℕ → ℕ → Type 0
 OutOf least most x = (x < least) ⊎ (most < x)
@@ -102,3 +106,17 @@ ShearCallApplies G f W h = GivenApplies (BuildingApplies W h) G f
 pub data DistributionApplies (v t : ℕ) (ws hs : List ℕ) (room n p : ℕ) : Type 0 where
   of-levels : LevelsApply ws hs room n p → DistributionApplies v t ws hs room n p
   of-handed : HandedApplies v t n p → DistributionApplies v t ws hs room n p
+
+pub data StretchApplies (store start count : ℕ) : ℕ → ℕ → Type 0 where
+  outside : store < start + count → StretchApplies store start count 21 0
+
+pub data RowApplies (G : GroundValues) (f : FrameValues) (start count : ℕ) (ws hs : List ℕ) (n p : ℕ) : Type 0 where
+  of-stretch : StretchApplies (length ws) start count n p → RowApplies G f start count ws hs n p
+  of-job : start + count ≤ length ws
+      → JobApplies G f (stretch start count ws) (stretch start count hs) (length (stretch start count ws)) n p
+      → RowApplies G f start count ws hs n p
+
+pub data DistrictApplies (jobs weights heights rows : ℕ) : ℕ → ℕ → Type 0 where
+  jobs-many : 256 < jobs → DistrictApplies jobs weights heights rows 22 0
+  store-lists : (heights ≡ weights → ⊥) → DistrictApplies jobs weights heights rows 22 0
+  row-buffer : rows < jobs → DistrictApplies jobs weights heights rows 22 0

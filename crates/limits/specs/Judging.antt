@@ -1,18 +1,21 @@
--- All that is judged of a job and of the two calls that it is parted into, in order. room is the length of the shortest result buffer.
+-- All that is judged of a job, of the two calls that it is parted into and of a row of a district, in order. room is the length of the shortest result buffer.
 --   judgedGiven o G f                    after a first judgment o: ground (5 to 7 of a site, 18 of a zone), frame (8 to 12); the judged ones, or
 --                                        the first refusal
 --   judgedJob G f ws hs room             of a job: levels (1 to 4), ground, frame
 --   judgedShearCall G f W h              of the shear call: total weight (3), top height (4), ground, frame
 --   judgedDistribution v t ws hs room    of the distribution: levels (1 to 4), base shear (19), period (20)
+--   judgedRow G f start count ws hs      of a row of a district with the store ws and hs: its stretch (21), then the job on that stretch, with no buffer
 --   givenOutcome a                       what the code's answer a says
 use mathlib.Core.List.{List}
 use Prim.Native.Nat.{ℕ}
+use lib.ListN.{length}
 use Rattle.limits.specs.declared.frame.FrameValues.{FrameValues}
 use Rattle.limits.specs.declared.ground.GroundValues.{GroundValues}
 use Rattle.limits.specs.declared.judging.Given.{Given}
 use Rattle.limits.specs.declared.judging.GivenAnswer.{GivenAnswer}
 use Rattle.limits.specs.declared.judging.GivenAnswer.the-variants.{Taken, Refused}
 use Rattle.limits.specs.Building.{judgedBuilding}
+use Rattle.limits.specs.District.{stretch, judgedStretch}
 use Rattle.limits.specs.Frame.{judgedFrame}
 use Rattle.limits.specs.Ground.{judgedGround}
 use Rattle.limits.specs.Handed.{judgedHanded}
@@ -36,6 +39,11 @@ unfoldable pub judgedDistribution : ℕ → ℕ → List ℕ → List ℕ → �
 judgedDistribution v t ws hs room = do
   judgedLevels ws hs room
   judgedHanded v t
+
+unfoldable pub judgedRow : GroundValues → FrameValues → ℕ → ℕ → List ℕ → List ℕ → Outcome Given
+judgedRow G f start count ws hs = do
+  judgedStretch (length ws) start count
+  judgedJob G f (stretch start count ws) (stretch start count hs) (length (stretch start count ws))
 
 abbrev pub givenOutcome : GivenAnswer → Outcome Given
 givenOutcome (Taken g) = accepted g

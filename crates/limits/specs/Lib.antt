@@ -5,6 +5,7 @@ pub mod Lengths
 pub mod Levels
 pub mod Building
 pub mod Handed
+pub mod District
 pub mod Class
 pub mod Site
 pub mod Zone

@@ -1,7 +1,8 @@
-// The quantities of a job, of its two calls, of a soil log and of a sheet: their limits, who judges them, and what a refusal says.
+// The quantities of a job, of its two calls, of a soil log, of a sheet and of a district: their limits, who judges them, and what a refusal says.
 
 pub mod building;
 pub mod class;
+pub mod district;
 pub mod frame;
 pub mod ground;
 pub mod handed;

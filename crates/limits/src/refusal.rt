@@ -50,6 +50,10 @@ impl Refusal {
     pub const BASE_SHEAR: u64 = 19;
     // period handed in out of range
     pub const PERIOD_HANDED: u64 = 20;
+    // a stretch outside the store, of a row of a district
+    pub const STRETCH: u64 = 21;
+    // over 256 jobs, lists of unequal length or a row buffer too short, of a whole district
+    pub const DISTRICT: u64 = 22;
     // the place of a refusal for which none is named
     pub const NOWHERE: u64 = 0;
 
