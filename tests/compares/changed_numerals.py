@@ -2,9 +2,9 @@
 
 The numerals of the chain are tried on the jobs of crates/vectors, those of the soil log on the logs of crates/run_logs, those of
 the ranges and refusals on the changed jobs of crates/run_refusals, the jobs of crates/vectors and the shear calls and
-distributions of crates/run_calls: the files that stand there, which the unchanged model must meet first. What they do not see,
-and the numerals of towers, are tried on the figures of tests/compares/check_model.py. A numeral of an assertion is left alone,
-and so are the names of LEFT, each with its reason.
+distributions of crates/run_calls, those of districts on crates/run_districts and on the file of sheets of crates/district: the files
+that stand there, which the unchanged model must meet first. What they do not see, and the numerals of towers, are tried on the figures
+of tests/compares/check_model.py. A numeral of an assertion is left alone, and so are the names of LEFT, each with its reason.
 
 usage: python3 -m tests.compares.changed_numerals
 """
@@ -19,11 +19,11 @@ import re
 import signal
 import sys
 
-from tests.compares import check_model
-from tests.compares.checks import basin as basin_figures, errors, figures, towers as tower_figures
-from tests.model import basin, calls, exact, limits, response, shears, site, soil, storeys, towers
+from tests.compares import check_model, stored_districts
+from tests.compares.checks import basin as basin_figures, errors, figures, sheet_files, towers as tower_figures
+from tests.model import basin, calls, district, exact, limits, response, shears, sheets, site, soil, storeys, towers
 from tests.model.job import job
-from tests.writes import call_cases, log_cases, refusal_cases, vectors
+from tests.writes import call_cases, district_sheets, districts, log_cases, refusal_cases, vectors
 
 LEFT = {
     **dict.fromkeys(('DIGITS', 'low_fraction', 'high_fraction', 'squares', 'bounds', 'base_margin', 'check', 'check_distribution'),
@@ -108,6 +108,11 @@ def log_or_velocity(*case):
     return log_cases.outcome(*case) if len(case) == 3 else str(log_cases.velocity(*case))
 
 
+def in_district(case):
+    """What the program `run_districts` says of a case, or the program `district` of a file of sheets."""
+    return sheets.listing(case) if isinstance(case, bytes) else case.said()
+
+
 def late(*_):
     """The changed model took too long."""
     raise TimeoutError
@@ -139,13 +144,17 @@ def suites():
     known = [*answers(CRATES / 'run_refusals' / 'stdout'), *(vector(*row) for row in rows), *call_cases.stored(cases)]
     yield (limits, calls), judged, [*jobs, *rows, *((case,) for case in cases)], known
     yield (towers,), towers.holds, [], []        # no stored case says what towers add up to
+    if stored_districts.there():
+        cases = districts.all_cases()
+        known = [*districts.stored(cases), district_sheets.stored()]
+        yield (district, sheets), in_district, [(case,) for case in (*cases, district_sheets.file_of_sheets())], known
 
 
 def by_figures():
     """Do the figures that the model is checked against see it?"""
     if any(towers.holds(*case) != known for case, known in tower_figures.HOLDS.items()):
         return True
-    return any(got != wanted for module in (figures, basin_figures, errors) for _, got, wanted in check_model.answers(module))
+    return any(got != wanted for module in (figures, basin_figures, errors, sheet_files) for _, got, wanted in check_model.answers(module))
 
 
 def main():

@@ -10,49 +10,14 @@ import platform
 import subprocess
 import sys
 
+from tests.compares.structs import U64, DistrictJob, Figures, Frame, Listing, Report, Row, Site, SiteClass
 from tests.model import limits
 
 ROOT = pathlib.Path(__file__).resolve().parents[2]
 ARCHIVE = ROOT / 'target' / 'staticlib' / 'liblinked.a'
 SHARED = ROOT / 'target' / 'staticlib' / 'liblinked.so'
 GIVEN = os.environ.get('RUKESHOMAJI_LIBRARY')
-U64 = ctypes.c_uint64
 LONGEST = 4_610
-
-
-def fields(names):
-    """The fields of a struct of u64."""
-    return [(name, U64) for name in names.split()]
-
-
-class Site(ctypes.Structure):
-    """RukeshomajiSite"""
-
-    _fields_ = fields('ssd s1d ssm s1m na nv nam nvm cls')
-
-
-class Frame(ctypes.Structure):
-    """RukeshomajiFrame"""
-
-    _fields_ = fields('kind calculated r i alpha')
-
-
-class Figures(ctypes.Structure):
-    """RukeshomajiFigures"""
-
-    _fields_ = fields('place v vm star vd t')
-
-
-class SiteClass(ctypes.Structure):
-    """RukeshomajiClass"""
-
-    _fields_ = fields('place cls')
-
-
-class Listing(ctypes.Structure):
-    """RukeshomajiListing"""
-
-    _fields_ = fields('place length')
 
 
 def needs_x86_64():
@@ -85,8 +50,9 @@ def load():
     library.rukeshomaji_distribution.argtypes = [U64, U64, *slices * 5, ctypes.POINTER(U64)]
     library.rukeshomaji_site_class.argtypes = [*slices * 3, ctypes.POINTER(SiteClass)]
     library.rukeshomaji_sheet.argtypes = [ctypes.c_char_p, U64, ctypes.c_char_p, ctypes.POINTER(Listing)]
+    library.rukeshomaji_district.argtypes = [ctypes.POINTER(DistrictJob), U64, *slices * 2, ctypes.POINTER(Row), U64, ctypes.POINTER(Report)]
     for name in ('job', 'figures', 'basin_job', 'basin_figures', 'shear_call', 'basin_shear_call', 'distribution', 'site_class', 'sheet',
-                 'version', 'edition', 'source'):
+                 'district', 'version', 'edition', 'source'):
         getattr(library, f'rukeshomaji_{name}').restype = U64
     return library
 
@@ -120,7 +86,8 @@ def numbers_of(struct):
 
 def painted(kind):
     """A struct to be answered through, between guards, all cells painted: a field that is not written, or one beside it that is, shows."""
-    array = (U64 * (len(kind._fields_) + 2 * GUARD))(*[PAINT] * (len(kind._fields_) + 2 * GUARD))
+    cells = ctypes.sizeof(kind) // ctypes.sizeof(U64) + 2 * GUARD
+    array = (U64 * cells)(*[PAINT] * cells)
     return array, ctypes.cast(ctypes.byref(array, GUARD * ctypes.sizeof(U64)), ctypes.POINTER(kind))
 
 
@@ -186,3 +153,15 @@ def sheet(library, data):
     length = said[2] if said else 0
     rest = room.raw[:GUARD] + room.raw[GUARD + length:] == held[:GUARD] + held[GUARD + length:]
     return said, room.raw[GUARD:GUARD + length], rest and length <= LONGEST
+
+
+def district(library, jobs, weights, heights, rows):
+    """The number, what the rows hold after and the report, and whether what is only read is as it was; a job and a row are their numbers, and None
+    stands for rows or a report beside which something was written."""
+    given, lists = (DistrictJob * len(jobs))(*jobs), [lent(weights), lent(heights)]
+    (held, place, _), (array, reply) = lent_out([cell for row in rows for cell in row]), painted(Report)
+    number = library.rukeshomaji_district(given, len(jobs), *lists[0], *lists[1], ctypes.cast(place, ctypes.POINTER(Row)), len(rows), reply)
+    same = [numbers_of(job) for job in given] == jobs and [list(each) for each, _ in lists] == [list(weights), list(heights)]
+    cells, width = cells_of(held), len(Row._fields_)
+    after = cells if cells is None else [tuple(cells[first:first + width]) for first in range(0, len(cells), width)]
+    return (number, after, cells_of(array)), same

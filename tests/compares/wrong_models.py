@@ -1,10 +1,11 @@
-"""Errors that look right, each put into the model: how many of the comparisons with the compiled core show it, and of the two calls how many of
-the stored cases of crates/run_calls.
+"""Errors that look right, each put into the model: how many of the comparisons with the compiled core show it, and of the two calls and of districts
+how many of the stored cases of crates/run_calls and crates/run_districts.
 
 usage: python3 -m tests.compares.wrong_models [JOBS [SEED]]        after tests/compares/compare.py has built the archive
 
 The errors stand beside the jobs and calls that are to show them: wrong_sites.py, wrong_basin.py, wrong_pairs.py, wrong_roof.py, wrong_unit.py,
-wrong_calls.py, wrong_logs.py, wrong_roots.py, wrong_towers.py, wrong_moves.py.
+wrong_calls.py, wrong_logs.py, wrong_roots.py, wrong_towers.py, wrong_moves.py, wrong_districts.py. Those of a file of sheets, wrong_sheets.py, are tried
+by run_district.py, which runs the program.
 """
 
 import random
@@ -12,14 +13,15 @@ import sys
 from contextlib import contextmanager
 from unittest import mock
 
-from tests.compares import (core, wrong_basin, wrong_calls, wrong_logs, wrong_moves, wrong_pairs, wrong_roof, wrong_roots, wrong_sites, wrong_towers,
-                            wrong_unit)
+from tests.compares import (core, wrong_basin, wrong_calls, wrong_districts, wrong_logs, wrong_moves, wrong_pairs, wrong_roof, wrong_roots, wrong_sites,
+                            wrong_towers, wrong_unit)
 from tests.compares.compare_calls import expected_distribution, expected_shear, got_distribution
+from tests.compares.compare_districts import expected_district, got_district
 from tests.compares.compare_jobs import expected_job, got_job
 from tests.compares.compare_logs import expected_log
 from tests.compares.compare_moves import got_moves
 from tests.compares.compare_towers import got_towers
-from tests.writes import call_cases
+from tests.writes import call_cases, stored_districts
 
 JOBS, SEED = 10_000, 1
 DISTRIBUTION_ERRORS = {
@@ -53,17 +55,20 @@ def unseen(calls, answers, expected, where, errors):
     return count
 
 
-def unseen_stored(kind, where, errors):
+def unseen_stored(stored, kind, where, errors):
     """The same of the stored cases of a kind."""
-    cases, answers = zip(*wrong_calls.stored(kind))
+    cases, answers = zip(*stored)
     return unseen([(case,) for case in cases], answers, kind.said, where, errors)
 
 
 def main(jobs=JOBS, seed=SEED):
     """Try the errors on sites, those of the Basin, of two pairs, of the roof force, of the finer unit, of the two calls, of soft clay, of the
-    roots, of towers and of moves; 1 where one is not seen at all."""
-    count = unseen_stored(call_cases.Shear, 'stored shear calls', wrong_calls.SHEAR_ERRORS)
-    count += unseen_stored(call_cases.Distribution, 'stored distributions', DISTRIBUTION_ERRORS)
+    roots, of towers, of moves and of districts; 1 where one is not seen at all."""
+    count = 0
+    for kind, where, errors in ((call_cases.Shear, 'stored shear calls', wrong_calls.SHEAR_ERRORS),
+                                (call_cases.Distribution, 'stored distributions', DISTRIBUTION_ERRORS)):
+        count += unseen_stored(wrong_calls.stored(kind), kind, where, errors)
+    count += unseen_stored(wrong_districts.stored(), stored_districts.Case, 'stored districts', wrong_districts.ERRORS)
     rng, library = random.Random(seed), core.load()
     for calls, got, expected, where, errors in (
             (wrong_sites.drawn, got_job, expected_job, 'on sites', wrong_sites.ERRORS),
@@ -76,7 +81,8 @@ def main(jobs=JOBS, seed=SEED):
             (wrong_logs.logs, core.site_class, expected_log, 'soil logs', wrong_logs.ERRORS),
             (wrong_roots.drawn, got_job, expected_job, 'at exact roots and beside them', wrong_roots.ERRORS),
             (wrong_towers.drawn, got_towers, wrong_towers.claimed, 'towers', wrong_towers.ERRORS),
-            (wrong_moves.drawn, got_moves, wrong_moves.claimed, 'moves', wrong_moves.ERRORS)):
+            (wrong_moves.drawn, got_moves, wrong_moves.claimed, 'moves', wrong_moves.ERRORS),
+            (wrong_districts.drawn, got_district, expected_district, 'districts', wrong_districts.ERRORS)):
         drawn = list(calls(rng, jobs))
         count += unseen(drawn, [got(library, *call) for call in drawn], expected, where, errors)
     return 1 if count else 0

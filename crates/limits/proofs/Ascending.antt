@@ -1,6 +1,7 @@
 -- What the order comes to. For 1 to 15, the refusals of a job and of a log, to be judged no later is to have no higher number: 'the lowest
 -- number that applies is given'. And '17, then 16, precede everything for a sheet'; 18 stands where 5 to 7 stand,
--- after 1 to 4 and before 8 to 12; 19, then 20, stand after 1 to 4; 22 stands before all others, and 21 next.
+-- after 1 to 4 and before 8 to 12; 19, then 20, stand after 1 to 4; 22, then 21, stand before all of
+-- a job.
 --   OfBasin n         n is 1 to 4, 18 or 8 to 12
 --   OfDistribution n  n is 1 to 4, 19 or 20
 -- Assumes nothing.
@@ -62,10 +63,11 @@ pub handed-after : ((n : ℕ) → (1 ≤ n) × (n ≤ 4) → Before n 19) × Bef
 unfolding before allBelow
 handed-after = (λ n h. ltb→lt (rank n) (rank 19) (all-from (λ k. before k 19) 1 4 tt n (h .0) (omega arith)), omega arith)
 
--- of a row 21 comes before 1 to 20, and 22, of the whole call, before that
-pub stretch-first : ((n : ℕ) → (1 ≤ n) × (n ≤ 20) → Before 21 n) × Before 22 21
+-- 21 comes before all that a row's job can be refused with, and 22, of the whole call, before that
+pub stretch-first : ((n : ℕ) → (1 ≤ n) × (n ≤ 12) → Before 21 n) × Before 21 18 × Before 22 21
 unfolding before allBelow
-stretch-first = (λ n h. ltb→lt (rank 21) (rank n) (all-from (before 21) 1 20 tt n (h .0) (omega arith)), omega arith)
+stretch-first =
+    (λ n h. ltb→lt (rank 21) (rank n) (all-from (before 21) 1 12 tt n (h .0) (omega arith)), omega arith, omega arith)
 
 -- of the distribution the first number is the lowest
 abbrev pub OfDistribution : ℕ → Type 0

@@ -7,6 +7,9 @@
 --   ShearCallReplies g m W h n r  so for the shear call of a total weight W and a top height h
 --   DistributionReplies v T ws hs b n p b′    n is the number of the distribution of a base shear v at a period T, p its place; b′ is what the buffers
 --                                 hold that held b
+--   reportNumbers r               a report as numbers: jobs accepted and refused, the sum of V_D, how often V, V_M and V* governed, the cells
+--   DistrictReplies js ws hs old n r held    n is the number of a district of the jobs js and the store ws and hs, r its report; held is what the row
+--                                 buffer holds that held old
 --   SheetReplies s old n held r   n is the number of the outcome of a sheet s; an array that held old holds its listing in the first bytes, the
 --                                 rest as it was; r is its place, and the length of the listing
 --   version, edition, source      of the library, of the code, of the rules: three things
@@ -25,6 +28,8 @@ use Rattle.soil.specs.Log.{siteClass}
 use Rattle.job.specs.Distribution.{distributionOf, Buffers, shortest, filled}
 use Rattle.job.specs.Job.{jobOf, figuresOnly, written}
 use Rattle.job.specs.ShearCall.{shearCallOf, five}
+use Rattle.district_call.specs.declared.report.Report.{Report}
+use Rattle.district_call.specs.District.{answersTo, districtOf, reported, filledRows}
 use Rattle.sheet.specs.Sheet.{siteValues, frameValues}
 use Rattle.sheet.specs.Listing.{outcomeOf, sheetListing}
 
@@ -60,6 +65,21 @@ pub record DistributionReplies (v T : ℕ) (ws hs : List ℕ) (b : Buffers) (n p
   pub placed : p ≡ place (distributionOf v T ws hs (shortest b))
   pub buffers : b′ ≡ filled (distributionOf v T ws hs (shortest b)) b
 
+abbrev pub reportNumbers : Report → List ℕ
+reportNumbers r =
+    r .totals .accepted
+    ∷ r .totals .refused
+    ∷ r .totals .sum
+    ∷ r .totals .v
+    ∷ r .totals .vm
+    ∷ r .totals .star
+    ∷ r .cells
+
+pub record DistrictReplies (js : List (List ℕ)) (ws hs : List ℕ) (old : List (List ℕ)) (n : ℕ) (r : List ℕ) (held : List (List ℕ)) : Type 0 where
+  pub returned : n ≡ number (districtOf js ws hs (length old))
+  pub replied : r ≡ reportNumbers (reported (districtOf js ws hs (length old)))
+  pub rows : held ≡ filledRows (districtOf js ws hs (length old)) (answersTo js ws hs) old
+
 abbrev pub LogReplies : List ℕ → List ℕ → List ℕ → ℕ → List ℕ → Type 0
 LogReplies ds ks xs n r = ClassReply (siteClass table3 ds ks xs) n r
 
@@ -69,7 +89,7 @@ pub record SheetReplies (s old : List ℕ) (n : ℕ) (held r : List ℕ) : Type 
   pub listed : held ≡ laid (sheetListing s) old
 
 abbrev pub version : ℕ
-version = 2_004_000
+version = 2_005_000
 
 abbrev pub edition : ℕ
 edition = 2_005

@@ -1,15 +1,18 @@
 // The arrays that a program in C lends, read as lines and written as replies.
+use district_call::report::CELLS;
+use district_call::report::Report;
 use job::FiguresAnswer;
 use limits::class::Class;
 use limits::class::ClassAnswer;
 use limits::frame::FrameValues;
 use limits::site::SiteValues;
 ghost use mathlib.Core.Path.{_≡_};
+ghost use lib.ListN.{length};
 ghost use Rattle.limits.specs.Class.{classOutcome};
 ghost use Rattle.job.specs.ShearCall.{answerOutcome};
 ghost use Rattle.soil.specs.Class.{classNumber};
 ghost use Rattle.sheet.specs.Sheet.{siteValues, frameValues};
-ghost use Rattle.linked.specs.Linked.{FiguresReply, ClassReply};
+ghost use Rattle.linked.specs.Linked.{FiguresReply, ClassReply, reportNumbers};
 
 // A sheet's site line with a pair for each hazard level: S_S and S_1 of the design level, S_S and S_1 of the MCE level, in 0.01 g; N_A and N_V of
 // the design level, N_A and N_V of the MCE level, in 0.01; class.
@@ -82,5 +85,28 @@ pub fn put_class(out: &mut [u64; 2], a: ClassAnswer) -> u64
             *out = [r.place, 0];
             r.number
         }
+    }
+}
+
+// How many numbers a report has: its six totals, then its cells.
+pub const REPORT: usize = 6 + CELLS;
+
+// Jobs accepted and refused; the sum of V_D in N; how often V, V_M and V* governed; the cells.
+pub fn put_report(out: &mut [u64; REPORT], r: Report)
+    requires { ⌜ length (r .cells) ≡ 113 ⌝ }
+    ensures { λ _. ⌜ now (out .exit) ≡ reportNumbers r ⌝ }
+{
+    let t = r.totals;
+    let cells = r.cells;
+    out[0] = t.accepted;
+    out[1] = t.refused;
+    out[2] = t.sum;
+    out[3] = t.v;
+    out[4] = t.vm;
+    out[5] = t.star;
+    let mut i = 6;
+    while i < REPORT {
+        out[i] = cells[i - 6];
+        i += 1;
     }
 }

@@ -1,10 +1,15 @@
 // The entries as a program in C, or in any language that calls C, sees them: pointers and 64-bit numbers alone. Each returns the number
 // of its refusal, 0 on success, and answers through an array that the caller lends, whose every cell is written; the distribution through a cell for
 // the place.
+use arrays::REPORT;
 use arrays::frame_values;
 use arrays::put_class;
 use arrays::put_figures;
+use arrays::put_report;
 use arrays::site_values;
+use district_call::district;
+use district_call::entered::JOB;
+use district_call::row::ROW;
 use job::distribution::distribution;
 use limits::ground::GroundValues;
 use sheet::listing::LONGEST;
@@ -13,10 +18,10 @@ use sheet::put_in_array;
 pub mod arrays;
 
 ghost use mathlib.Core.Path.{_≡_};
-ghost use Rattle.linked.specs.Linked.{onSite, inBasin, JobReplies, FiguresReplies, ShearCallReplies, DistributionReplies, LogReplies, SheetReplies, version, edition, source};
+ghost use Rattle.linked.specs.Linked.{onSite, inBasin, JobReplies, FiguresReplies, ShearCallReplies, DistributionReplies, DistrictReplies, LogReplies, SheetReplies, version, edition, source};
 
 // The version of the library: 1,000,000 times the major number, 1,000 times the minor one, and the last.
-pub const VERSION: u64 = 2_004_000;
+pub const VERSION: u64 = 2_005_000;
 
 // The edition of the code: Taiwan's of 2005.
 pub const EDITION: u64 = 2_005;
@@ -164,6 +169,25 @@ pub extern "C" fn rukeshomaji_distribution(
     let r = a.refusal();
     *place = r.place;
     r.number
+}
+
+// A whole district: a row for each job in the lent buffer, the report in `report`. The one refusal of the whole call, 22, has no place.
+#[no_mangle]
+pub extern "C" fn rukeshomaji_district(
+    jobs: &[[u64; JOB]],
+    weights: &[u64],
+    heights: &[u64],
+    rows: &mut [[u64; ROW]],
+    report: &mut [u64; REPORT],
+) -> u64
+    ensures { λ n. ⌜ DistrictReplies (now (jobs .entry)) (now (weights .entry)) (now (heights .entry)) (now (rows .entry)) n (now (report .exit)) (now (rows .exit)) ⌝ }
+{
+    let a = district(jobs, weights, heights, rows);
+    let r = a.report;
+    put_report(report, r);
+    let v = a.verdict;
+    let refusal = v.refusal();
+    refusal.number
 }
 
 // The site class of a soil log: place and class.
