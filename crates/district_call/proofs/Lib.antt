@@ -4,3 +4,4 @@ pub mod CellOf
 pub mod Counting
 pub mod Tallied
 pub mod Districts
+pub mod Reports

@@ -53,7 +53,7 @@ module _ (G : GroundValues) (m : List ℕ) (W h : ℕ) where
   one-shear-call-reply p q = replies-unique p q
 
 -- `rukeshomaji_distribution`
-done-refusal : {A : Type 0} (o : Outcome A) → refusalOf (doneOnly o) ≡ refusalOf o
+pub done-refusal : {A : Type 0} (o : Outcome A) → refusalOf (doneOnly o) ≡ refusalOf o
 done-refusal (accepted a) = refl
 done-refusal (refused n p) = refl
 

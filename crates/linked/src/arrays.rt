@@ -92,8 +92,8 @@ pub fn put_class(out: &mut [u64; 2], a: ClassAnswer) -> u64
 pub const REPORT: usize = 6 + CELLS;
 
 // Jobs accepted and refused; the sum of V_D in N; how often V, V_M and V* governed; the cells.
-pub fn put_report(out: &mut [u64; REPORT], r: Report)
-    requires { ⌜ length (r .cells) ≡ 113 ⌝ }
+pub fn put_report(out: &mut [u64], r: Report)
+    requires { ⌜ (length (now out) ≡ 119) × (length (r .cells) ≡ 113) ⌝ }
     ensures { λ _. ⌜ now (out .exit) ≡ reportNumbers r ⌝ }
 {
     let t = r.totals;

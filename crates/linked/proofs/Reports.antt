@@ -1,0 +1,83 @@
+-- The report of a district in a lent array, six totals and behind them the cells; and what is replied to a district is what the core answered. Where 0 is
+-- returned it was taken, and no second reply meets the contract.
+--   Behind h cs i out    the first i numbers of out are the six of h and the first i − 6 of the cells cs
+-- Assumes nothing.
+use mathlib.Core.Path.{_≡_, refl, sym, ap, ap₂, _∙_}
+use mathlib.Core.List.{List, [], _∷_, _++_, append-assoc}
+use Prim.Native.Nat.{ℕ, suc, _+_, _-_, _≤_, _<_}
+use native.Mathlib.Numerals.{add-one}
+use native.Mathlib.Omega.{arith}
+use lib.ListN.{length, getD, set, take, length-set}
+use lib.Seq.{take-suc, take-suc-set, take-all}
+use Rattle.whole.proofs.Unique.{determined}
+use Rattle.limits.specs.declared.refusal.Refusal.{Refusal}
+use Rattle.limits.specs.Outcome.{refusalOf, verdictOutcome}
+use Rattle.district_call.specs.declared.DistrictAnswer.{DistrictAnswer}
+use Rattle.district_call.specs.District.{districtOf, DistrictAnswers}
+use Rattle.linked.specs.Linked.{reportNumbers, DistrictReplies}
+use Rattle.linked.proofs.CallReplies.{done-refusal}
+use Rattle.linked.proofs.Replies.{refused-number}
+
+pub record Behind (h cs : List ℕ) (i : ℕ) (out : List ℕ) : Type 0 where
+  pub from : 6 ≤ i
+  pub most : i ≤ 119
+  pub size : length out ≡ 119
+  pub held : take i out ≡ h ++ take (i - 6) cs
+
+append-none : (l : List ℕ) → l ++ [] ≡ l
+append-none [] = refl
+append-none (a ∷ l) = ap (λ (m : List ℕ). a ∷ m) (append-none l)
+
+pub behind-none : (h cs out : List ℕ) → length out ≡ 119 → take 6 out ≡ h → Behind h cs 6 out
+behind-none h cs out n e =
+    record { from = omega arith; most = omega arith; size = n; held = e ∙ sym (append-none h) }
+
+pub behind-more : (h cs : List ℕ) (i : ℕ) (out : List ℕ) → length cs ≡ 113 → i < 119 → Behind h cs i out
+    → Behind h cs (i + 1) (set out i (getD cs (i - 6) 0))
+behind-more h cs i out n l r =
+    let j : suc (i - 6) ≡ i + 1 - 6 = omega (arith, r .from) in
+    let a = getD cs (i - 6) 0 in
+    record {
+      from = omega (arith, r .from);
+      most = omega arith;
+      size = length-set out i a ∙ r .size;
+      held =
+          rw add-one (take-suc-set out i a (omega (arith, r .size)))
+          ∙ ap (λ (p : List ℕ). p ++ (a ∷ [])) (r .held)
+          ∙ append-assoc h (take (i - 6) cs) (a ∷ [])
+          ∙ ap (λ (p : List ℕ). h ++ p) (sym (take-suc cs (i - 6) 0 (omega (arith, n, r .from))))
+          ∙ ap (λ (k : ℕ). h ++ take k cs) j;
+    }
+
+pub behind-all : (h cs : List ℕ) (i : ℕ) (out : List ℕ) → length cs ≡ 113 → 119 ≤ i → Behind h cs i out → out ≡ h ++ cs
+behind-all h cs i out n l r =
+    sym (take-all i out (omega (arith, r .size))) ∙ r .held ∙ ap (λ (p : List ℕ). h ++ p) (take-all (i - 6) cs (omega (arith, n)))
+
+-- six numbers stored one after the other
+pub six-set : (a b c d e f : ℕ) (out : List ℕ) → length out ≡ 119
+    → take 6 (set (set (set (set (set (set out 0 a) 1 b) 2 c) 3 d) 4 e) 5 f) ≡ a ∷ b ∷ c ∷ d ∷ e ∷ f ∷ []
+six-set a b c d e f [] n = absurd (let z : ⊥ = omega arith in z)
+six-set a b c d e f (_ ∷ []) n = absurd (let z : ⊥ = omega arith in z)
+six-set a b c d e f (_ ∷ (_ ∷ [])) n = absurd (let z : ⊥ = omega arith in z)
+six-set a b c d e f (_ ∷ (_ ∷ (_ ∷ []))) n = absurd (let z : ⊥ = omega arith in z)
+six-set a b c d e f (_ ∷ (_ ∷ (_ ∷ (_ ∷ [])))) n = absurd (let z : ⊥ = omega arith in z)
+six-set a b c d e f (_ ∷ (_ ∷ (_ ∷ (_ ∷ (_ ∷ []))))) n = absurd (let z : ⊥ = omega arith in z)
+six-set a b c d e f (_ ∷ (_ ∷ (_ ∷ (_ ∷ (_ ∷ (_ ∷ l)))))) n = refl
+
+-- ---- the reply
+module _ (js : List (List ℕ)) (ws hs : List ℕ) (old : List (List ℕ)) where
+  pub district-replies : (a : DistrictAnswer) (r : Refusal) (numbers : List ℕ) (held : List (List ℕ)) → DistrictAnswers js ws hs old a held
+      → r ≡ refusalOf (verdictOutcome (a .verdict)) → numbers ≡ reportNumbers (a .report) → DistrictReplies js ws hs old (r .number) numbers held
+  district-replies a r numbers held t e p =
+      let o = districtOf js ws hs (length old) in
+      let same = e ∙ ap refusalOf (t .verdict) ∙ done-refusal o in
+      record {
+        returned = ap (λ (x : Refusal). x .number) same ∙ refused-number o .0;
+        replied = p ∙ ap reportNumbers (t .report);
+        rows = t .rows;
+      }
+
+  pub one-district-reply : {n n′ : ℕ} {r r′ : List ℕ} {c c′ : List (List ℕ)} → DistrictReplies js ws hs old n r c
+      → DistrictReplies js ws hs old n′ r′ c′ → (n ≡ n′) × (r ≡ r′) × (c ≡ c′)
+  one-district-reply x y =
+      (determined (x .returned) (y .returned), determined (x .replied) (y .replied), determined (x .rows) (y .rows))
