@@ -5,3 +5,5 @@ pub mod Counting
 pub mod Tallied
 pub mod Districts
 pub mod Reports
+pub mod Answered
+pub mod JobRows

@@ -1,0 +1,157 @@
+-- 'Row by row it equals a single job on that stretch, refused in 01's order, and a refused job leaves the others' rows as they would have been': each of
+-- any rows of any calls that were taken.
+-- Assumes nothing.
+use mathlib.Core.Path.{_≡_, refl, sym, ap, ap₂, subst, _∙_}
+use mathlib.Core.List.{List, [], _∷_}
+use Prim.Native.Nat.{ℕ, _+_, _≤_, _<_}
+use native.Mathlib.Omega.{arith}
+use lib.ListN.{length, getD, set, length-set}
+use lib.Seq.{getD-set-other}
+use borrow.Author.Tests.{le-leb, lt-leb}
+use Rattle.limits.specs.declared.frame.FrameValues.{FrameValues}
+use Rattle.limits.specs.declared.ground.GroundValues.{GroundValues}
+use Rattle.limits.specs.Applies.{RowApplies}
+use Rattle.limits.specs.District.{stretch, judgedStretch}
+use Rattle.limits.specs.FirstRefusal.{FirstRefusal}
+use Rattle.limits.specs.Judging.{judgedJob, judgedRow}
+use Rattle.limits.specs.Outcome.{Outcome, accepted, refused, Done, number, place, values, _>>=_, _>>_}
+use Rattle.limits.proofs.DistrictStage.{row-first as judged-first}
+use Rattle.limits.proofs.First.{first-of-value}
+use Rattle.whole.specs.Cells.{sum}
+use Rattle.base_shear.specs.declared.Figures.{Figures}
+use Rattle.job.specs.declared.FiguresAnswer.{FiguresAnswer}
+use Rattle.job.specs.Distribution.{Buffers, shortest}
+use Rattle.job.specs.Job.{Results, jobOf, jobFigures, resultsOf, figuresOnly, Figured, Answers}
+use Rattle.job.specs.ShearCall.{five, answerOutcome}
+use Rattle.job.proofs.Calls.{answerOf, says-outcome}
+use Rattle.job.proofs.Independent.{figured-answer}
+use Rattle.district_call.specs.declared.DistrictAnswer.{DistrictAnswer}
+use Rattle.district_call.specs.declared.weighed.Weighed.{Weighed}
+use Rattle.district_call.specs.Entered.{Entered, entered}
+use Rattle.district_call.specs.Row.{answerTo, rowOf, Named, named}
+use Rattle.district_call.specs.Weighed.{weighedJob}
+use Rattle.district_call.proofs.Answered.{TakenCall, row-at}
+use Rattle.district_call.proofs.Rows.{row-outside, row-inside}
+use Rattle.district_call.proofs.WeighedJobs.{weighed-refused, weighed-accepted}
+
+-- ---- the row of an answer to a job, as numbers
+abbrev pub rowOfJob : Outcome Figures → List ℕ
+rowOfJob o = number o ∷ place o ∷ values five 5 o
+
+weighed-row : (G : GroundValues) (f : FrameValues) (ws hs : List ℕ) → rowOf (weighedJob G f ws hs) ≡ rowOfJob (figuresOnly (jobOf G f ws hs (length ws)))
+unfolding rowOf
+weighed-row G f ws hs = go (figuresOnly (jobOf G f ws hs (length ws))) refl
+  where
+    go : (o : Outcome Figures) → figuresOnly (jobOf G f ws hs (length ws)) ≡ o → rowOf (weighedJob G f ws hs) ≡ rowOfJob (figuresOnly (jobOf G f ws hs (length ws)))
+    go (accepted n) e = ap rowOf (weighed-accepted G f ws hs e) ∙ sym (ap rowOfJob e)
+    go (refused n p) e = ap rowOf (weighed-refused G f ws hs e) ∙ sym (ap rowOfJob e)
+
+module _ (store start count : ℕ) where
+  inside-passes : start + count ≤ store → judgedStretch store start count ≡ accepted tt
+  unfolding judgedStretch
+  inside-passes h = simp (le-leb _ _ h)
+
+  outside-stops : store < start + count → judgedStretch store start count ≡ refused 21 0
+  unfolding judgedStretch
+  outside-stops h = simp (lt-leb _ _ h)
+
+-- ---- a row of a call that was taken
+module _ (js : List (List ℕ)) (ws hs : List ℕ) (old : List (List ℕ)) (a : DistrictAnswer) (held : List (List ℕ)) (t : TakenCall js ws hs old a held) where
+  module _ (i : ℕ) (h : i < length js) where
+    abbrev e : Entered
+    e = entered (getD js i [])
+
+    abbrev ownWeights : List ℕ
+    ownWeights = stretch (e .start) (e .count) ws
+
+    abbrev ownHeights : List ℕ
+    ownHeights = stretch (e .start) (e .count) hs
+
+    -- 21, 'a stretch outside the store, for that row, first', at 0
+    pub row-21 : length ws < e .start + e .count → getD held i [] ≡ 21 ∷ 0 ∷ 0 ∷ 0 ∷ 0 ∷ 0 ∷ 0 ∷ []
+    unfolding rowOf
+    row-21 o = row-at js ws hs old a held t i h ∙ ap rowOf (row-outside ws hs e (outside-stops (length ws) (e .start) (e .count) o))
+
+    -- else what `figures` answers to the job on that stretch; and `job`, with any buffers that hold its levels
+    pub row-is-figures : e .start + e .count ≤ length ws → (x : FiguresAnswer) → Figured (e .ground) (e .frame) ownWeights ownHeights x
+        → getD held i [] ≡ rowOfJob (answerOutcome x)
+    row-is-figures o x f =
+        row-at js ws hs old a held t i h
+        ∙ ap rowOf (row-inside ws hs e (inside-passes (length ws) (e .start) (e .count) o))
+        ∙ weighed-row (e .ground) (e .frame) ownWeights ownHeights
+        ∙ ap rowOfJob (sym f)
+
+    pub row-is-job : e .start + e .count ≤ length ws → (b b′ : Buffers) (x : FiguresAnswer) → length ownWeights ≤ shortest b
+        → Answers (e .ground) (e .frame) ownWeights ownHeights b x b′ → getD held i [] ≡ rowOfJob (answerOutcome x)
+    row-is-job o b b′ x l s =
+        let q = figuresOnly (jobOf (e .ground) (e .frame) ownWeights ownHeights (length ownWeights)) in
+        row-is-figures o (answerOf q) (says-outcome q)
+        ∙ ap (λ (y : FiguresAnswer). rowOfJob (answerOutcome y))
+        (sym (figured-answer (e .ground) (e .frame) ownWeights ownHeights b x (answerOf q) b′ l s (says-outcome q)))
+
+-- ---- the first refusal of a row
+-- judgments of which each only makes something of a value are one
+as-one : {G R F X : Type 0} (j : Outcome Done) (o : Outcome G) (r : G → R) (f : R → F) (w : F → X)
+    → (j >> (((o >>= λ g. accepted (r g)) >>= λ x. accepted (f x)) >>= λ n. accepted (w n))) ≡ ((j >> o) >>= λ g. accepted (w (f (r g))))
+as-one (accepted u) (accepted g) r f w = refl
+as-one (accepted u) (refused n p) r f w = refl
+as-one (refused n p) o r f w = refl
+
+module _ (ws hs : List ℕ) (e : Entered) where
+  abbrev W : List ℕ
+  W = stretch (e .start) (e .count) ws
+
+  abbrev H : List ℕ
+  H = stretch (e .start) (e .count) hs
+
+  answer-judged : answerTo ws hs e ≡ (judgedRow (e .ground) (e .frame) (e .start) (e .count) ws hs >>= λ g.
+      accepted (record { figures = jobFigures g W H; weight = sum W }))
+  unfolding answerTo judgedRow weighedJob jobOf
+  answer-judged =
+      as-one (judgedStretch (length ws) (e .start) (e .count)) (judgedJob (e .ground) (e .frame) W H (length W)) (λ g. resultsOf g W H)
+      (λ (r : Results). r .figures) (λ n. record { figures = n; weight = sum W })
+
+  pub row-first : FirstRefusal (RowApplies (e .ground) (e .frame) (e .start) (e .count) ws hs) (answerTo ws hs e)
+  row-first =
+      let A = RowApplies (e .ground) (e .frame) (e .start) (e .count) ws hs in
+      subst (FirstRefusal A) (sym answer-judged)
+      (first-of-value A (judgedRow (e .ground) (e .frame) (e .start) (e .count) ws hs) (λ g. record { figures = jobFigures g W H; weight = sum W })
+      (judged-first (e .ground) (e .frame) (e .start) (e .count) ws hs))
+
+-- ---- an answer goes by the ground, the frame and the levels of the stretch alone
+by-named : (ws hs : List ℕ) (e : Entered) → answerTo ws hs e ≡ (named ws hs e >>= λ l. weighedJob (e .ground) (e .frame) (l .weights) (l .heights))
+unfolding answerTo named
+by-named ws hs e = go (judgedStretch (length ws) (e .start) (e .count)) (record { weights = stretch (e .start) (e .count) ws; heights = stretch (e .start) (e .count) hs })
+  where
+    go : (j : Outcome Done) (l : Named)
+        → (j >> weighedJob (e .ground) (e .frame) (l .weights) (l .heights))
+        ≡ ((j >> accepted l) >>= λ m. weighedJob (e .ground) (e .frame) (m .weights) (m .heights))
+    go (accepted u) l = refl
+    go (refused n p) l = refl
+
+pub answers-alike : (ws hs ws′ hs′ : List ℕ) (e e′ : Entered) → e .ground ≡ e′ .ground → e .frame ≡ e′ .frame → named ws hs e ≡ named ws′ hs′ e′
+    → answerTo ws hs e ≡ answerTo ws′ hs′ e′
+answers-alike ws hs ws′ hs′ e e′ g f l =
+    by-named ws hs e
+    ∙ (λ i. l i >>= λ m. weighedJob (g i) (f i) (m .weights) (m .heights))
+    ∙ sym (by-named ws′ hs′ e′)
+
+-- two calls that share a job and the levels of its stretch give it the same row, wherever it stands in each
+pub rows-alike : (js : List (List ℕ)) (ws hs : List ℕ) (old : List (List ℕ)) (a : DistrictAnswer) (held : List (List ℕ))
+    → TakenCall js ws hs old a held → (js′ : List (List ℕ)) (ws′ hs′ : List ℕ) (old′ : List (List ℕ)) (a′ : DistrictAnswer)
+    (held′ : List (List ℕ)) → TakenCall js′ ws′ hs′ old′ a′ held′ → (i i′ : ℕ) → i < length js → i′ < length js′
+    → (let e = entered (getD js i []) in let e′ = entered (getD js′ i′ []) in
+    e .ground ≡ e′ .ground → e .frame ≡ e′ .frame → named ws hs e ≡ named ws′ hs′ e′ → getD held i [] ≡ getD held′ i′ [])
+rows-alike js ws hs old a held t js′ ws′ hs′ old′ a′ held′ t′ i i′ h h′ g f l =
+    row-at js ws hs old a held t i h
+    ∙ ap rowOf (answers-alike ws hs ws′ hs′ (entered (getD js i [])) (entered (getD js′ i′ [])) g f l)
+    ∙ sym (row-at js′ ws′ hs′ old′ a′ held′ t′ i′ h′)
+
+-- whatever job stands at k in place of another, refused or not, the rows of the others stay
+pub others-stay : (js : List (List ℕ)) (ws hs : List ℕ) (old : List (List ℕ)) (k : ℕ) (j : List ℕ) (a a′ : DistrictAnswer)
+    (held held′ : List (List ℕ)) → TakenCall js ws hs old a held → TakenCall (set js k j) ws hs old a′ held′ → (i : ℕ) → i < length js
+    → (i ≡ k → ⊥) → getD held i [] ≡ getD held′ i []
+others-stay js ws hs old k j a a′ held held′ t t′ i h apart =
+    row-at js ws hs old a held t i h
+    ∙ ap (λ (x : List ℕ). rowOf (answerTo ws hs (entered x))) (sym (getD-set-other js k i j [] apart))
+    ∙ sym (row-at (set js k j) ws hs old a′ held′ t′ i (omega (arith, h, length-set js k j)))
