@@ -12,12 +12,13 @@ use Rattle.whole.proofs.Unique.{determined}
 use Rattle.limits.specs.declared.refusal.Refusal.{Refusal}
 use Rattle.limits.specs.declared.refusal.Verdict.{Verdict}
 use Rattle.limits.specs.declared.refusal.Verdict.the-variants.{Passed, Refused}
-use Rattle.limits.specs.Applies.{DistrictApplies, jobs-many, store-lists, row-buffer}
+use Rattle.limits.specs.Applies.{DistrictApplies}
 use Rattle.limits.specs.District.{judgedDistrict}
 use Rattle.limits.specs.FirstRefusal.{FirstRefusal}
 use Rattle.limits.specs.Outcome.{Outcome, accepted, refused, Done, verdictOutcome}
 use Rattle.limits.proofs.DistrictStage as judged
 use Rattle.limits.proofs.First.{first-of-value, first-then-value}
+use Rattle.limits.proofs.Numbers.{district-is-22}
 use Rattle.limits.proofs.Passed.{never, one-refusal}
 use Rattle.limits.proofs.Unique.{verdict-unique}
 use Rattle.job.specs.Distribution.{doneOnly}
@@ -88,7 +89,7 @@ module _ (js : List (List ℕ)) (ws hs : List ℕ) (old : List (List ℕ)) where
     pub refused-call : (r : Refusal) → a .verdict ≡ Refused r → RefusedCall a held
     refused-call r v =
         let applies = district-first a held t .refused-applies (r .number) (r .place) (ap verdictOutcome v) in
-        let is = only-22 applies in
+        let is = district-is-22 applies in
         let o = district-refused js ws hs (length old) (judged-refused v) in
         record {
           refusal = v ∙ (λ i. Refused (record { number = is .0 i; place = is .1 i }));
@@ -96,11 +97,6 @@ module _ (js : List (List ℕ)) (ws hs : List ℕ) (old : List (List ℕ)) where
           rows = t .rows ∙ ap (λ (x : Outcome Report). filledRows x (answersTo js ws hs) old) o;
         }
       where
-        only-22 : {n p : ℕ} → DistrictApplies (length js) (length ws) (length hs) (length old) n p → (n ≡ 22) × (p ≡ 0)
-        only-22 (jobs-many x) = (refl, refl)
-        only-22 (store-lists x) = (refl, refl)
-        only-22 (row-buffer x) = (refl, refl)
-
         judged-refused : a .verdict ≡ Refused r → judgedDistrict (length js) (length ws) (length hs) (length old) ≡ refused (r .number) (r .place)
         judged-refused v = go (judgedDistrict (length js) (length ws) (length hs) (length old)) refl
           where

@@ -17,12 +17,17 @@ use Rattle.limits.specs.Judging.{judgedJob, judgedRow}
 use Rattle.limits.specs.Outcome.{Outcome, accepted, refused, Done, number, place, values, _>>=_, _>>_}
 use Rattle.limits.proofs.DistrictStage.{row-first as judged-first}
 use Rattle.limits.proofs.First.{first-of-value}
+use Rattle.limits.proofs.Passed.{one-value, then-passed, bind-passed}
+use Rattle.limits.specs.declared.judging.Given.{Given}
+use Rattle.response.specs.Unit.{unit}
+use Rattle.margin.specs.Demand3.{BaseDemand3}
+use Rattle.job.proofs.Demand3.{demand3-accepted}
 use Rattle.whole.specs.Cells.{sum}
 use Rattle.base_shear.specs.declared.Figures.{Figures}
 use Rattle.job.specs.declared.FiguresAnswer.{FiguresAnswer}
 use Rattle.job.specs.Distribution.{Buffers, shortest}
 use Rattle.job.specs.Job.{Results, jobOf, jobFigures, resultsOf, figuresOnly, Figured, Answers}
-use Rattle.job.specs.ShearCall.{five, answerOutcome}
+use Rattle.job.specs.ShearCall.{five, answerOutcome, givenHazards}
 use Rattle.job.proofs.Calls.{answerOf, says-outcome}
 use Rattle.job.proofs.Independent.{figured-answer}
 use Rattle.district_call.specs.declared.DistrictAnswer.{DistrictAnswer}
@@ -31,7 +36,7 @@ use Rattle.district_call.specs.Entered.{Entered, entered}
 use Rattle.district_call.specs.Row.{answerTo, rowOf, Named, named}
 use Rattle.district_call.specs.Weighed.{weighedJob}
 use Rattle.district_call.proofs.Answered.{TakenCall, row-at}
-use Rattle.district_call.proofs.Rows.{row-outside, row-inside}
+use Rattle.district_call.proofs.Rows.{stretch-inside, row-outside, row-inside}
 use Rattle.district_call.proofs.WeighedJobs.{weighed-refused, weighed-accepted}
 
 -- ---- the row of an answer to a job, as numbers
@@ -117,6 +122,32 @@ module _ (ws hs : List ℕ) (e : Entered) where
       subst (FirstRefusal A) (sym answer-judged)
       (first-of-value A (judgedRow (e .ground) (e .frame) (e .start) (e .count) ws hs) (λ g. record { figures = jobFigures g W H; weight = sum W })
       (judged-first (e .ground) (e .frame) (e .start) (e .count) ws hs))
+
+-- ---- an accepted row: its stretch is inside the store, its figures are those of the job on it, its weight is theirs; and V_D keeps demand 3
+pub record AcceptedRow (ws hs : List ℕ) (e : Entered) (w : Weighed) : Type 0 where
+  pub inside : e .start + e .count ≤ length ws
+  pub given : Given
+  pub judged : judgedJob (e .ground) (e .frame) (W ws hs e) (H ws hs e) (length (W ws hs e)) ≡ accepted given
+  pub figures : w .figures ≡ jobFigures given (W ws hs e) (H ws hs e)
+  pub weight : w .weight ≡ sum (W ws hs e)
+  pub kept : BaseDemand3 unit (givenHazards given) (given .frame) (w .weight) (w .figures .t) (w .figures .vd)
+
+pub accepted-row : (ws hs : List ℕ) (e : Entered) (w : Weighed) → answerTo ws hs e ≡ accepted w → AcceptedRow ws hs e w
+unfolding judgedRow
+accepted-row ws hs e w q =
+    let r = bind-passed (judgedRow (e .ground) (e .frame) (e .start) (e .count) ws hs) _ (sym (answer-judged ws hs e) ∙ q) in
+    let g = r .0 in
+    let j = then-passed (judgedStretch (length ws) (e .start) (e .count)) _ (r .1) in
+    let is = one-value (r .2) in
+    let base = demand3-accepted (e .ground) (e .frame) (W ws hs e) (H ws hs e) (length (W ws hs e)) g (j .1) .base in
+    record {
+      inside = stretch-inside (length ws) (e .start) (e .count) (j .0);
+      given = g;
+      judged = j .1;
+      figures = sym (ap (λ (x : Weighed). x .figures) is);
+      weight = sym (ap (λ (x : Weighed). x .weight) is);
+      kept = subst (λ (x : Weighed). BaseDemand3 unit (givenHazards g) (g .frame) (x .weight) (x .figures .t) (x .figures .vd)) is base;
+    }
 
 -- ---- an answer goes by the ground, the frame and the levels of the stretch alone
 by-named : (ws hs : List ℕ) (e : Entered) → answerTo ws hs e ≡ (named ws hs e >>= λ l. weighedJob (e .ground) (e .frame) (l .weights) (l .heights))

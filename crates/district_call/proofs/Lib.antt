@@ -7,3 +7,4 @@ pub mod Districts
 pub mod Reports
 pub mod Answered
 pub mod JobRows
+pub mod RowCounts

@@ -13,7 +13,8 @@ ghost use Rattle.district_call.specs.Weighed.{weighedOutcome};
 // V_D over W in thousandths, N over kN, is at most 1,125: cells of ten, from 0 on, hold every accepted job.
 pub const CELLS: usize = 113;
 
-const CELL_THOUSANDTHS: u64 = 10;
+// How many thousandths a cell is of.
+pub const CELL_THOUSANDTHS: u64 = 10;
 
 // How many jobs were accepted and how many refused; the sum of V_D in N; how often V, V_M and V* governed.
 pub struct Totals {

@@ -1,5 +1,5 @@
 -- Which numbers refusals have: 1 to 4 of levels and of a building, 5 to 7 of a site, 18 of a zone, 8 to 12 of a frame, 19 and 20 of what is handed in.
--- So of a ground and a frame after any first judgment of numbers 1 to 4, and of the distribution.
+-- So of a ground and a frame after any first judgment of numbers 1 to 4, of the distribution, of a row of a district and of a district: 22 at 0.
 -- Assumes nothing.
 use mathlib.Core.Path.{_≡_, refl}
 use mathlib.Core.List.{List}
@@ -15,6 +15,7 @@ use Rattle.limits.specs.Applies.{SiteApplies, ss-design, s1-design, ss-m
 use Rattle.limits.specs.Applies.{FrameApplies, r, i, alpha, kind, period, BuildingApplies, total, top}
 use Rattle.limits.specs.Applies.{HandedApplies, base-shear, handed-period, GivenApplies, of-first, of-ground, of-frame}
 use Rattle.limits.specs.Applies.{DistributionApplies, of-levels, of-handed}
+use Rattle.limits.specs.Applies.{outside, RowApplies, of-stretch, of-job, DistrictApplies, jobs-many, store-lists, row-buffer}
 use Rattle.limits.specs.Order.{InOrder}
 use Rattle.limits.proofs.Ascending.{OfBasin, OfDistribution}
 use Rattle.limits.proofs.InOrder.{in-order}
@@ -89,3 +90,17 @@ numbered-distribution (of-handed a) = inr (numbered-handed a)
 
 pub distribution-in-order : {v t : ℕ} {ws hs : List ℕ} {room n p : ℕ} → DistributionApplies v t ws hs room n p → InOrder n
 distribution-in-order {n = n} a = ⊎-elim (λ k. in-order n (omega arith)) (λ k. in-order n (omega arith)) (numbered-distribution a)
+
+-- ---- of a row of a district, and of a whole district
+pub numbered-row : {G : GroundValues} {f : FrameValues} {start count : ℕ} {ws hs : List ℕ} {n p : ℕ} → RowApplies G f start count ws hs n p
+    → (1 ≤ n) × (n ≤ 21)
+numbered-row (of-stretch (outside o)) = omega arith
+numbered-row {G = G} {f = f} (of-job l a) = let h = at-most-18 _ (λ n p. numbered-levels) f G a in omega arith
+
+pub row-in-order : {G : GroundValues} {f : FrameValues} {start count : ℕ} {ws hs : List ℕ} {n p : ℕ} → RowApplies G f start count ws hs n p → InOrder n
+row-in-order {n = n} a = in-order n (let h = numbered-row a in omega arith)
+
+pub district-is-22 : {jobs weights heights rows n p : ℕ} → DistrictApplies jobs weights heights rows n p → (n ≡ 22) × (p ≡ 0)
+district-is-22 (jobs-many o) = (refl, refl)
+district-is-22 (store-lists o) = (refl, refl)
+district-is-22 (row-buffer o) = (refl, refl)

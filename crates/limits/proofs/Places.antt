@@ -1,5 +1,5 @@
 -- Which refusals name a place: of a job 3 to 6 do, the others have place 0; of the shear call 5 and 6 do, and no other number; of the distribution 3 and
--- 4, as 5 and 6 are none of its numbers. Where both hazard levels have one pair of near-fault factors, 6 applies at place 1 or 2 wherever it applies.
+-- 4, as 5 and 6 are none of its numbers; of a row of a district 3 to 6, as of a job. Where both hazard levels have one pair of near-fault factors, 6 applies at place 1 or 2 wherever it applies.
 -- Assumes nothing.
 use mathlib.Core.Path.{_≡_, refl, subst}
 use mathlib.Core.List.{List}
@@ -15,6 +15,7 @@ use Rattle.limits.specs.Applies.{SiteApplies, ss-design, s1-design, ss-m
 use Rattle.limits.specs.Applies.{GroundApplies, FrameApplies, r, i, alpha, kind, period, BuildingApplies, total, top}
 use Rattle.limits.specs.Applies.{base-shear, handed-period, of-first, of-ground, of-frame}
 use Rattle.limits.specs.Applies.{JobApplies, ShearCallApplies, DistributionApplies, of-levels, of-handed}
+use Rattle.limits.specs.Applies.{outside, RowApplies, of-stretch, of-job}
 use Rattle.limits.proofs.Numbers.{numbered-levels, numbered-site, numbered-frame}
 
 -- the numbers from lo to hi name a place, the others have place 0
@@ -81,6 +82,11 @@ pub named-distribution : {v t : ℕ} {ws hs : List ℕ} {room n p : ℕ} → Dis
 named-distribution (of-levels a) = named-levels a
 named-distribution (of-handed (base-shear o)) = inr (inr (omega arith), refl)
 named-distribution (of-handed (handed-period o)) = inr (inr (omega arith), refl)
+
+pub named-row : {G : GroundValues} {f : FrameValues} {start count : ℕ} {ws hs : List ℕ} {n p : ℕ} → RowApplies G f start count ws hs n p
+    → NamedIn 3 6 n p
+named-row (of-stretch (outside o)) = inr (inr (omega arith), refl)
+named-row (of-job l a) = named-job a
 
 -- ---- where both hazard levels have one pair of near-fault factors
 module _ (s : SiteValues) (na-same : s .nam ≡ s .nad) (nv-same : s .nvm ≡ s .nvd) where

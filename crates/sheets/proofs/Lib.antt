@@ -1,0 +1,13 @@
+pub mod Parts
+pub mod Edges
+pub mod Joined
+pub mod Answered
+pub mod Alone
+pub mod Numbered
+pub mod Lines
+pub mod Answering
+pub mod Listed
+pub mod Unique
+pub mod Foremost
+pub mod ReadSound
+pub mod Cut
