@@ -8,3 +8,5 @@ pub mod Reports
 pub mod Answered
 pub mod JobRows
 pub mod RowCounts
+pub mod WorkedDistrict
+pub mod WrongDistricts
