@@ -131,5 +131,4 @@ def entries():
     sheet_places = {'17': [0], '16': [1, 2, 3, BETWEEN], **COUNTED, **at_levels(MOST_LEVELS, '3', '4')}
     for entry in on_grounds('sheet', [*stored_cases.sheets()], sheet_places, LEVELS + BYTES):
         yield entry._replace(cannot=CANNOT | NOT_ON_A_SHEET)
-    if stored_districts.there():
-        yield from district_entries()
+    yield from district_entries()

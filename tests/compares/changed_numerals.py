@@ -19,7 +19,7 @@ import re
 import signal
 import sys
 
-from tests.compares import check_model, stored_districts
+from tests.compares import check_model
 from tests.compares.checks import basin as basin_figures, errors, figures, sheet_files, towers as tower_figures
 from tests.model import basin, calls, district, exact, limits, response, shears, sheets, site, soil, storeys, towers
 from tests.model.job import job
@@ -53,9 +53,11 @@ def numerals(tree):
 
 
 def changed(module):
-    """Yield (place, text, key of SAME) with the module changed at that place; it is as it was afterwards."""
+    """Yield (place, text, key of SAME) with the module changed at that place; it is as it was afterwards. A class without a numeral stays the
+    same one, as other modules hold it."""
     source = inspect.getsource(module)
     tree, lines = ast.parse(source), source.splitlines()
+    tree.body = [node for node in tree.body if not isinstance(node, ast.ClassDef) or any(numerals(node))]
     for number, node in enumerate(numerals(tree)):
         other = copy.deepcopy(tree)
         list(numerals(other))[number].value += 1
@@ -144,10 +146,9 @@ def suites():
     known = [*answers(CRATES / 'run_refusals' / 'stdout'), *(vector(*row) for row in rows), *call_cases.stored(cases)]
     yield (limits, calls), judged, [*jobs, *rows, *((case,) for case in cases)], known
     yield (towers,), towers.holds, [], []        # no stored case says what towers add up to
-    if stored_districts.there():
-        cases = districts.all_cases()
-        known = [*districts.stored(cases), district_sheets.stored()]
-        yield (district, sheets), in_district, [(case,) for case in (*cases, district_sheets.file_of_sheets())], known
+    cases = districts.all_cases()
+    known = [*districts.stored(cases), district_sheets.stored()]
+    yield (district, sheets), in_district, [(case,) for case in (*cases, district_sheets.file_of_sheets())], known
 
 
 def by_figures():

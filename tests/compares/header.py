@@ -3,13 +3,13 @@ of its comments to the model and to the manual.
 
 usage: python3 -m tests.compares.header
 
-- every constant of the header is the core's: one of crates/limits/src, crates/sheet/src or crates/linked/src, by the table below; every
-  refusal number of the core is in the header
+- every constant of the header is the core's: one of crates/limits/src, crates/sheet/src, crates/district_call/src or crates/linked/src, by the
+  table below; every refusal number of the core is in the header
 - every range that the header prints is the core's
 - the lines `Refused`, the places, classes, kinds, bounds, versions and equations of the comments are as tests/compares/header_words.py says, and no
   numeral of a comment is held by nothing
-- every entry is declared, with the types in the order in which the core takes them; a struct has as many fields as the core's array has
-  cells, and those of site and frame are in the core's order
+- every entry is declared, with the types in the order in which the core takes them; a struct has as many numbers as the core's array has
+  cells, and those of site, frame, job, row and report of a district are in the core's order
 
 It prints what is wrong and one line of counts, and exits with 1 where anything is.
 """
@@ -28,7 +28,7 @@ CONSTANTS = {
     'VERSION': 'linked/lib VERSION', 'EDITION': 'linked/lib EDITION', 'SOURCE': 'linked/lib SOURCE',
     'MOST_LEVELS': 'limits/level MOST', 'MOST_LAYERS': 'limits/layer MOST', 'MOST_BYTES': 'limits/sheet BYTES_MOST',
     'LONGEST_LISTING': 'sheet/listing LONGEST', 'MOST_TOTAL_WEIGHT': 'limits/building WEIGHT_MOST',
-    'MOST_BASE_SHEAR': 'limits/handed SHEAR_MOST',
+    'MOST_BASE_SHEAR': 'limits/handed SHEAR_MOST', 'DISTRICT_JOBS': 'limits/district JOBS_MOST', 'CELLS': 'district_call/report CELLS',
     'HARD': 'limits/class HARD', 'NORMAL': 'limits/class NORMAL', 'SOFT': 'limits/class SOFT',
     'STEEL': 'limits/kind STEEL', 'CONCRETE': 'limits/kind CONCRETE', 'BRACED': 'limits/kind BRACED', 'OTHER': 'limits/kind OTHER',
     'NO_PERIOD': 'limits/frame NO_PERIOD',
@@ -55,6 +55,8 @@ RANGES = [
     ('bytes: 1 to ', 'sheet/listing LONGEST'), ('micro-zone of the Basin: ', 'limits/zone ONE FOUR'), ('zone not ', 'limits/zone ONE FOUR'),
     ('total weight, kN: ', 'limits/building WEIGHT_LEAST WEIGHT_MOST'), ('top height, dm: ', 'limits/level HEIGHT_LEAST HEIGHT_MOST'),
     ('among the levels, N: ', 'limits/handed SHEAR_LEAST SHEAR_MOST'), ('roof force, ms: ', 'limits/handed PERIOD_LEAST PERIOD_MOST'),
+    ('of the stretch, levels: ', 'limits/level FEWEST MOST'), ('see above: at most ', 'limits/district JOBS_MOST'),
+    ('of a whole district: over ', 'limits/district JOBS_MOST'),
 ]
 # what the core takes, as C declares it; the array of a struct by the parameter's name
 TYPES = {
@@ -64,7 +66,13 @@ TYPES = {
 STRUCTS = {
     'site': 'RukeshomajiSite', 'frame': 'RukeshomajiFrame', 'figures': 'RukeshomajiFigures',
     'site_class reply': 'RukeshomajiClass', 'sheet reply': 'RukeshomajiListing',
+    'jobs': 'RukeshomajiDistrictJob', 'rows': 'RukeshomajiRow', 'report': 'RukeshomajiReport',
 }
+# where the core says how many cells an array has
+SIZES = {'JOB': 'district_call/entered', 'ROW': 'district_call/row', 'REPORT': 'linked/arrays', 'CELLS': 'district_call/report'}
+# names of the core that are others in the header
+RENAMED = {'class': 'class_number', 'alpha': 'alpha_y'}
+BY = {'v': 'by_v', 'vm': 'by_vm', 'star': 'by_star'}
 
 
 def source(name):
@@ -122,9 +130,18 @@ def check_ranges():
 
 
 def fields(struct):
-    """The fields of a struct of the header."""
+    """The numbers of a struct of the header by their names, those of a struct in it in their place, those of an array by the array's name."""
     body = re.search(r'typedef struct \{([^}]*)\} ' + struct + ';', HEADER)[1]
-    return re.findall(r'^\s*uint64_t (\w+);', body, re.M)
+    found = []
+    for kind, name, count in re.findall(r'^\s*(uint64_t|Rukeshomaji\w+) (\w+)(?:\[RUKESHOMAJI_(\w+)\])?;', body, re.M):
+        found += fields(kind) if kind != 'uint64_t' else [name] * (core_constant(CONSTANTS[count]) if count else 1)
+    return found
+
+
+def size(words):
+    """How many cells an array of the core has: a number, the name of a constant, or a sum of these."""
+    return sum(int(word) if word.isdigit() else size(re.search(rf'\bconst {word}: usize = ([^;]+);', source(SIZES[word]))[1])
+               for word in words.split(' + '))
 
 
 def check_entries():
@@ -134,22 +151,42 @@ def check_entries():
     entries = dict(re.findall(r'extern "C" fn (rukeshomaji_\w+)\(([^)]*)\) -> u64', text))
     for name in sorted(declared.keys() | entries.keys()):
         expected = []
-        for parameter, kind in re.findall(r'(\w+): (&(?:mut )?\[[^\]]*\]|&mut u64\b|u64\b)', entries.get(name, '')):
-            sized = re.fullmatch(r'&(mut )?\[u64; (\d+)\]', kind)
+        for parameter, kind in re.findall(r'(\w+): (&(?:mut )?\[(?:\[[^\]]*\]|[^\[\]])*\]|&mut u64\b|u64\b)', entries.get(name, '')):
+            sized = re.fullmatch(r'&(mut )?(\[)?\[u64; (\w+)\](?(2)\])', kind)
             if not sized:
                 expected.append(TYPES[kind])
                 continue
             struct = STRUCTS.get(parameter) or STRUCTS[f"{name.split('_', 1)[1]} {parameter}"]
-            expected.append(f"{'' if sized[1] else 'const '}{struct} *")
-            yield len(fields(struct)) == int(sized[2]), f'{struct} has {len(fields(struct))} fields, the core {sized[2]} cells'
+            expected.append(f"{'' if sized[1] else 'const '}{struct} *{', uint64_t' if sized[2] else ''}")
+            yield len(fields(struct)) == size(sized[3]), f'{struct} has {len(fields(struct))} fields, the core {size(sized[3])} cells'
         given = ', '.join(re.sub(r'\s*\w+$', '', re.sub(r'(char) (\w+)\[\w+\]$', r'\1 *\2', each.strip()))
                           for each in declared.get(name, 'not declared').split(',') if each != 'void')
         yield given == ', '.join(expected), f"{name}: the header takes ({given}), the core ({', '.join(expected)})"
-    arrays = source('linked/arrays')
-    for struct, function in (('RukeshomajiSite', 'site_values'), ('RukeshomajiFrame', 'frame_values')):
-        order = re.findall(r'(\w+): l\[\d\]', re.search(rf'fn {function}\b.*?^}}', arrays, re.S | re.M)[0])
-        names = [{'class': 'class_number', 'alpha': 'alpha_y'}.get(each, each) for each in order]
+    for struct, names in orders():
         yield fields(struct) == names, f'{struct} has {fields(struct)}, the core {names}'
+
+
+def function(file, name):
+    """The text of a function of the core."""
+    return re.search(rf'fn {name}\b.*?^}}', source(file), re.S | re.M)[0]
+
+
+def orders():
+    """The names of a struct's numbers in the order of the core's array."""
+    for struct, name in (('RukeshomajiSite', 'site_values'), ('RukeshomajiFrame', 'frame_values')):
+        yield struct, [RENAMED.get(each, each) for each in re.findall(r'(\w+): l\[\d\]', function('linked/arrays', name))]
+    entered = source('district_call/entered')
+    places = {int(place): RENAMED.get(name, name) for name, place in re.findall(r'(\w+): j\[(\d+)\]', entered)}
+    places |= {int(re.search(r'if j\[(\d+)\] == ON_SITE', entered)[1]): 'basin', int(re.search(r'Basin\(j\[(\d+)\]\)', entered)[1]): 'zone'}
+    yield 'RukeshomajiDistrictJob', [places[place] for place in range(len(places))]
+    taken, refused = (re.search(rf'{variant}\(\w\) => (?:{{.*?)?\[([^\]]*)\]', function('district_call/row', 'row_of'), re.S)[1].split(', ')
+                      for variant in ('Taken', 'Refused'))
+    yield 'RukeshomajiRow', [(one if one != '0' else other).split('.')[1] for one, other in zip(taken, refused)]
+    put = function('linked/arrays', 'put_report')
+    totals = {int(place): name for place, name in re.findall(r'out\[(\d+)\] = t\.(\w+);', put)}
+    first = int(re.search(r'let mut i = (\d+);', put)[1])
+    assert sorted(totals) == list(range(first)) and f'out[i] = cells[i - {first}];' in put
+    yield 'RukeshomajiReport', [BY.get(totals[place], totals[place]) for place in range(first)] + ['cells'] * (size('REPORT') - first)
 
 
 def check_comments():

@@ -7,19 +7,21 @@ its own sentences; a numeral in none of them is wrong.
 import pathlib
 import re
 
-from tests.model import limits, sheet, site as sites, soil, storeys
+from tests.model import district, limits, sheet, site as sites, soil, storeys
 from tests.stated import held, plain, releases, runs
 
 ROOT = pathlib.Path(__file__).resolve().parents[2]
 NAME = 'include/rukeshomaji.h'
 RELEASES = releases((ROOT / 'CHANGELOG.md').read_text())
-PARTED, SOFT_CLAY = (RELEASES[title] for title in ('the shear parted from its distribution', 'soft clay by its strength'))
+PARTED, SOFT_CLAY, DISTRICT = (RELEASES[title] for title in (
+    'the shear parted from its distribution', 'soft clay by its strength', 'a whole district in one call'))
 HANDED_IN = 2           # N: "less than two newtons above", of a shear that is handed in
 PART = 4                # "never more than a quarter of V_D"
 SCALES = '3.4'          # the section of 000 by which V_D scales a dynamic analysis
 OF_STOREYS = ('F_t', 'shear under level x', 'force at level x', 'overturning')      # rows of the rules
 # what is said in digits and is no number of the rules
-SAID = ('x86-64 Linux', '64-bit numbers', 'An entry returns 0, or the number', "a listing's length are 0.",
+SAID = ('x86-64 Linux', '64-bit numbers', 'An entry returns 0, or the number', 'A district returns 0 also', "a listing's length are 0.",
+        '/* 0: on the site, and the zone', 'counted from 0 in the store', 'cell k, from 0 on:',
         'With a count of 0 the pointer', 'Three numbers name what you link', 'where it does not return 0;', 'of the refusal; 0 on success',
         '0 where data is refused', 'or 0 for none', 'strength in 0.01 kgf/cm2')
 RETURNED = 'Returned 0, or the refusal'
@@ -40,6 +42,25 @@ def wrong_everywhere():
 
 
 REFUSALS = wrong_everywhere()
+
+
+def of_district():
+    """What is refused of a district with everything wrong as a whole, and of its row; each is the only answer."""
+    site, frame = limits.Site(*[0] * len(limits.Site._fields)), limits.Frame(0, limits.CALCULATED_PERIOD[-1] + 1, 0, 0, 0)
+    jobs = [district.DistrictJob(0, 0, site, frame, 2, 1)] * (district.MOST_JOBS + 1)
+    whole, rows, report = district.district(jobs, [0], [0, 0], 0)
+    assert not rows and report == district.Report()
+    row = district.answer_of(jobs[0], [0], [0]).row
+    return whole, row.number, row.place
+
+
+def most_thousandths():
+    """The most thousandths that V_D over W comes to, which are in the last cell: the largest V_D of the heaviest building."""
+    site, frame = limits.Site(80, 45, 100, 55, 150, 200, 150, 200, 1), limits.Frame(4, 0, 100, 150, 100)
+    W = limits.WEIGHT[-1]
+    row = district.answer(site, frame, [W], [100]).row
+    assert district.cell_of(row.V_D, W) == district.CELLS - 1
+    return district.thousandths(row.V_D, W)
 
 
 def order(call, without=()):
@@ -114,6 +135,8 @@ def general(constant):
     yield f'In a distribution {handed[0]}, then {handed[1]}, follow {runs(before)}.'
     too_long, not_laid_out = order('sheet')
     yield f'For a sheet {too_long}, then {not_laid_out}, come before all others.'
+    whole, row, _ = of_district()
+    yield f'A district is refused with {whole} alone, as a whole; a row of it with {row} before all others.'
     yield from places_said()
     classes = ', '.join(f'{constant(f"limits/class {name.upper()}")} {name}' for name in ('hard', 'normal', 'soft'))
     yield f'site class: {classes}'
@@ -121,6 +144,10 @@ def general(constant):
     kinds = (('STEEL', 'steel'), ('CONCRETE', 'RC or SRC'), ('BRACED', 'eccentrically braced'), ('OTHER', 'other'))
     yield 'of frame: ' + ', '.join(f'{constant(f"limits/kind {name}")} {words}' for name, words in kinds)
     yield f'since {SOFT_CLAY} */'
+    yield f'how many cells its report has; since {DISTRICT} */'
+    yield from (f'{words}, since {DISTRICT}' for words in ('A job of a district', 'A row of a district', 'The report of a district'))
+    cell = district.CELL
+    yield f'vd over W, rounded down, of {cell}*k to {cell}*k + {cell - 1} */'
     factors = {4: 'four'}[len(limits.FACTORS)]
     yield f'far from a fault all {factors} are {sites.NO_NEAR_FAULT}.'
     yield 'the largest of the three'
@@ -149,6 +176,9 @@ def places_said():
     yield f'zone not {limits.ZONE[0]} to {limits.ZONE[-1]}' + at('basin_job', 18)
     yield 'base shear of a distribution out of range' + at('distribution', 19)
     yield 'period of a distribution out of range' + at('distribution', 20)
+    whole, row, place = of_district()
+    yield f'{row} /* of a row of a district: its stretch is outside the store: {place} */'
+    yield f'{whole} /* of a whole district: over {district.MOST_JOBS} jobs, lists of unequal length, or fewer rows than jobs: 0 */'
 
 
 def entries(constant):
@@ -174,6 +204,12 @@ def entries(constant):
         f"Reference {of['distribution']} {of['roof']} is 0 for a period up to {storeys.NO_ROOF_FORCE} ms and at most base_shear/{PART}, rounded up"]
     kinds = ', '.join(f'{constant(f"limits/layer {name}")} {words}' for name, words in (
         ('MEASURED', 'measured'), ('COHESIVE', 'cohesive'), ('COHESIONLESS', 'cohesionless'), ('SOFT_CLAY', 'soft clay')))
+    whole, row, _ = of_district()
+    yield 'district', [
+        f'since {DISTRICT}: many jobs over one store', RETURNED, 'all fields, 0 where there is no job', 'then the figures, 0 where the row is refused.',
+        f"Refused {whole}, at no place, as none is written. Of a row {row}, then on a site {runs(order('job', without=[2]))}, "
+        f"in the Basin {runs(order('basin_job', without=[2]))}; {three} and {four} at their level of the stretch Written",
+        f'vd over W is at most {most_thousandths():,} thousandths, which is in the last cell']
     yield 'site_class', [
         f'the upper {soil.THICKNESS_SUM // 100} m', 'cm: above 0', f'{kinds} (N below {soil.VALUE[soil.COHESIVE][0]}', 'q, 0.01 kgf/cm2', RETURNED,
         f"A library before {SOFT_CLAY} refuses soft clay with {order('site_class')[-1]}", f"Refused {runs(order('site_class'))} Written",

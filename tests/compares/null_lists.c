@@ -60,12 +60,29 @@ static void distributions(void) {
     }
 }
 
+/* the district with each set of jobs, weights, heights and rows */
+static void districts(void) {
+    for (unsigned set = 0; set < 16; set++) {
+        RukeshomajiDistrictJob each[LEVELS] = {{0, 0, site, frame, 0, 3}, {1, 3, site, frame, 1, 2}, {0, 0, site, frame, 0, 0}};
+        union { RukeshomajiRow rows[LEVELS]; uint64_t cells[7 * LEVELS]; } held;
+        union { RukeshomajiReport report; uint64_t cells[6 + RUKESHOMAJI_CELLS]; } reply;
+        for (int i = 0; i < 7 * LEVELS; i++) held.cells[i] = 7;
+        for (int i = 0; i < 6 + RUKESHOMAJI_CELLS; i++) reply.cells[i] = PAINT;
+        uint64_t number = rukeshomaji_district(LIST(each, 0), LIST(weights, 1), LIST(heights, 2), LIST(held.rows, 3), &reply.report);
+        printf("district %u: %" PRIu64, set, number);
+        for (int i = 0; i < 7 * LEVELS; i++) printf(" %" PRIu64, held.cells[i]);
+        for (int i = 0; i < 6 + RUKESHOMAJI_CELLS; i++) printf(" %" PRIu64, reply.cells[i]);
+        printf("\n");
+    }
+}
+
 int main(void) {
     jobs("job", 0);
     jobs("basin_job", 3);
     without_buffers("figures", 0);
     without_buffers("basin_figures", 3);
     distributions();
+    districts();
     for (unsigned set = 0; set < 8; set++) {
         RukeshomajiClass c = {PAINT, PAINT};
         uint64_t number = rukeshomaji_site_class(LIST(thicknesses, 0), LIST(kinds, 1), LIST(values, 2), &c);

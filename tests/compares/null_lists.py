@@ -14,14 +14,17 @@ import sys
 import tempfile
 
 from tests.compares import core
-from tests.model import calls, job as jobs, limits, sheet, soil
+from tests.model import calls, district, job as jobs, limits, sheet, soil
 
 SITE, FRAME = limits.one_pair(80, 45, 100, 55, 100, 100, 1), limits.Frame(2, 1000, 480, 100, 150)
 LEVELS, BASE_SHEAR, PERIOD = 3, 1_071_429, 1_000
 BASIN = limits.Basin(3)
 JOB, FIGURES = ([5000] * LEVELS, [100, 200, 300], [7] * LEVELS, [8] * LEVELS, [9] * LEVELS), ([5000] * LEVELS, [100, 200, 300])
+ROW, OLD = len(district.Row._fields), 7
+DISTRICT = [district.DistrictJob(basin, zone, SITE, FRAME, *stretch) for basin, zone, *stretch in ((0, 0, 0, 3), (1, BASIN.zone, 1, 2), (0, 0, 0, 0))]
 LISTS = {
     'job': JOB, 'basin_job': JOB, 'figures': FIGURES, 'basin_figures': FIGURES, 'distribution': JOB,
+    'district': (DISTRICT, *FIGURES, [OLD] * (ROW * LEVELS)),
     'site_class': ([1000] * LEVELS, [1, 2, 3], [3000, 20, 40]),
     'sheet': (sheet.write(SITE, FRAME, [5000] * LEVELS, [100, 200, 300]),),
 }
@@ -59,6 +62,10 @@ def by_model(entry, lists):
         return [*(result[1:] if result[0] == 'refused' else (0, 0)), *held_after(result)]
     if entry.endswith('figures'):
         return job_line(jobs.job(ground_of(entry), FRAME, *empty, (len(empty[0]),) * 3))
+    if entry == 'district':
+        number, rows, report = district.district(*empty[:3], len(empty[3]) // ROW)
+        written = [cell for row in rows for cell in row]
+        return [number, *written, *[OLD] * (ROW * LEVELS - len(written)), *report[:-1], *report.cells]
     if entry == 'site_class':
         answer = soil.log(*empty)
         return [0, 0, answer.cls] if isinstance(answer, soil.Log) else [*answer[1:], 0]
@@ -72,8 +79,19 @@ def lent(each):
     return (None, 0) if each is None else core.lent(each)
 
 
+def district_by_ctypes(library, jobs, weights, heights, rows):
+    """What the core answers to a district; rows that are not lent are as they were."""
+    numbers = [each.numbers() for each in jobs or ()]
+    given, (held, place, _), (array, reply) = (core.DistrictJob * len(numbers))(*numbers), core.lent_out(rows or ()), core.painted(core.Report)
+    lent_rows = (None, 0) if rows is None else (ctypes.cast(place, ctypes.POINTER(core.Row)), len(rows) // ROW)
+    number = library.rukeshomaji_district(None if jobs is None else given, len(numbers), *lent(weights), *lent(heights), *lent_rows, reply)
+    return [number, *([OLD] * (ROW * LEVELS) if rows is None else core.cells_of(held)), *core.cells_of(array)]
+
+
 def by_ctypes(library, entry, lists):
     """What the core answers to Python."""
+    if entry == 'district':
+        return district_by_ctypes(library, *lists)
     if entry == 'sheet':
         room, (array, reply) = ctypes.create_string_buffer(core.LONGEST), core.painted(core.Listing)
         *refused, length = core.answer(library.rukeshomaji_sheet(lists[0], len(lists[0] or b''), room, reply), array)

@@ -5,7 +5,6 @@ usage: python3 -m tests.compares.run_program
 """
 
 import array
-import ast
 import fcntl
 import itertools
 import os
@@ -17,6 +16,7 @@ import termios
 import threading
 import time
 
+from tests.compares.said import meaning
 from tests.model import sheet
 
 ROOT = pathlib.Path(__file__).resolve().parents[2]
@@ -25,10 +25,10 @@ END = b'\x04'          # what Ctrl-D sends
 TWO_PAIRS = b'site\t80\t45\t100\t55\t120\t150\t110\t130\t1\n'
 
 
-def run(pieces):
+def run(pieces, name='shear'):
     """What the program prints and says, and its status, for input that arrives in pieces, each read before the next comes; it may end before
     it has read them all, and is ended where it does not end."""
-    program = subprocess.Popen([ROOT / 'shear'], stdin=subprocess.PIPE, stdout=subprocess.PIPE, stderr=subprocess.PIPE)
+    program = subprocess.Popen([ROOT / name], stdin=subprocess.PIPE, stdout=subprocess.PIPE, stderr=subprocess.PIPE)
     deadline = threading.Timer(SECONDS, program.kill)
     deadline.start()
     try:
@@ -51,10 +51,10 @@ def ended(program, deadline):
     return printed, said, program.returncode
 
 
-def run_typed(data):
+def run_typed(data, name='shear'):
     """The same for lines typed at a terminal, whose end is said once; it is ended where it waits for more."""
     keyboard, terminal = pty.openpty()
-    program = subprocess.Popen([ROOT / 'shear'], stdin=terminal, stdout=subprocess.PIPE, stderr=subprocess.PIPE)
+    program = subprocess.Popen([ROOT / name], stdin=terminal, stdout=subprocess.PIPE, stderr=subprocess.PIPE)
     deadline = threading.Timer(SECONDS, program.kill)
     deadline.start()
     for line in [*data.splitlines(keepends=True), END]:
@@ -65,9 +65,9 @@ def run_typed(data):
     return answer
 
 
-def run_with(words, **files):
+def run_with(words, name='shear', **files):
     """The same for arguments, and files in place of the three."""
-    run_once = subprocess.run([ROOT / 'shear', *words], **{'stdin': subprocess.DEVNULL, 'stdout': subprocess.PIPE, **files}, check=False,
+    run_once = subprocess.run([ROOT / name, *words], **{'stdin': subprocess.DEVNULL, 'stdout': subprocess.PIPE, **files}, check=False,
                               stderr=subprocess.PIPE)
     return run_once.stdout, run_once.stderr, run_once.returncode
 
@@ -84,24 +84,12 @@ def bytes_of(data):
     return (data[place:place + 1] for place in range(len(data)))
 
 
-def from_module(name):
-    """What the module for Python assigns to a name: the texts of refusals stand there."""
-    tree = ast.parse((ROOT / 'examples' / 'rukeshomaji.py').read_text())
-    return next(ast.literal_eval(each.value) for each in tree.body if isinstance(each, ast.Assign) and each.targets[0].id == name)
-
-
-TEXTS, PLACES = from_module('TEXTS'), from_module('PLACES')
-
-
 def answer(listing, seen=''):
     """What is printed, said and returned where a listing is printed; seen is what can be seen of a line that is refused."""
     if not listing.startswith(b'refused'):
         return listing, b'', 0
     number, place = map(int, listing.split()[1:])
-    names = PLACES.get(number, '')
-    where = f'{names} {place}' if isinstance(names, str) else names[place - 1]
-    text = f"shear: refusal {number}{f' at {where}' if place else ''}: {TEXTS[number]}{f': {seen}' if seen else ''}\n"
-    return listing, text.encode(), 1
+    return listing, f'shear: {meaning(number, place, seen)}\n'.encode(), 1
 
 
 def bad_lines(worked):
@@ -170,11 +158,11 @@ def cases():
     os.close(folder)
 
 
-def main():
+def compared(every, program='shear'):
     """Try all, say how each went; 1 where one differs."""
-    run_with([])        # what is to be built is built, and said, here
+    run_with([], program)       # what is to be built is built, and said, here
     wrong = 0
-    for name, tried, given, expected in cases():
+    for name, tried, given, expected in every:
         got = tried(given)
         wrong += got != expected
         print('same' if got == expected else f'DIFFERS, {got}, wanted {expected}:', name)
@@ -183,4 +171,4 @@ def main():
 
 
 if __name__ == '__main__':
-    sys.exit(main())
+    sys.exit(compared(cases()))

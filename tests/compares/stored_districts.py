@@ -13,11 +13,6 @@ CRATE, HEAD, JOB = 'run_districts', 6, 2 + NINE + FRAME + 2
 WIDTH = len(district.Row._fields)
 
 
-def there():
-    """Whether they have been written, and the file of sheets of the program `district` too."""
-    return all((stored_cases.CRATES / crate / 'stdout').exists() for crate in (CRATE, 'district'))
-
-
 def job_of(numbers):
     """A job by its 18 numbers."""
     basin, zone, *rest = numbers

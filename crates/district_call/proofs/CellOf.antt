@@ -3,7 +3,7 @@
 use Prim.Native.Nat.{ℕ, _*_, _≤_, _<_}
 use native.Mathlib.Omega.{arith}
 use Rattle.whole.specs.Rounding.{down}
-use Rattle.whole.proofs.Rounding.{down-law, down-most}
+use Rattle.whole.proofs.Rounding.{down-most}
 use Rattle.district_call.specs.declared.weighed.Weighed.{Weighed}
 use Rattle.district_call.specs.Report.{thousandths, cellOf, cellsMost}
 use Rattle.district_call.specs.Tally.{Ratio}
@@ -14,5 +14,5 @@ module _ (w : Weighed) (r : Ratio w) where
   thousandths-most = down-most (w .figures .vd) (w .weight) 1_125 (r .weight) (omega (arith, r .most))
 
   pub cell-low : cellOf w < cellsMost
-  unfolding cellOf
-  cell-low = let h = down-law (thousandths w) 10 (omega arith) .0 in omega (arith, h, thousandths-most)
+  unfolding cellOf down
+  cell-low = omega (arith, thousandths-most)
