@@ -1,13 +1,11 @@
 /* Times one call of each kind: the core, and the same rules in plain C, turn by turn. */
 #define _POSIX_C_SOURCE 200809L
 #include <stdio.h>
-#include <stdlib.h>
-#include <string.h>
-#include <time.h>
+#include "clock.h"
 #include "inputs.h"
 #include "sides.h"
 
-enum { ROUNDS = 201, COMPARED = 20000 };
+enum { COMPARED = 20000 };
 
 typedef enum { JOB, LOG, SHEET } Call;
 
@@ -25,13 +23,6 @@ static SheetInput sheets[POOL];
 static char texts[POOL][BYTES + 64];
 static volatile u64 kept;
 static u64 forces[LEVELS], shears[LEVELS], moments[LEVELS];
-
-static double now(void)
-{
-    struct timespec t;
-    clock_gettime(CLOCK_MONOTONIC, &t);
-    return t.tv_sec * 1e9 + t.tv_nsec;
-}
 
 /* V_D, the class, the length of the listing */
 static u64 job_call(Job *job, const JobInput *p)
@@ -78,20 +69,6 @@ static double round_of(const Kind *k, const Side *side)
 }
 
 static int has(const Side *side, Call call) { return call == JOB || (side->log && side->sheet); }
-
-static int ascending(const void *a, const void *b)
-{
-    double x = *(const double *)a, y = *(const double *)b;
-    return (x > y) - (x < y);
-}
-
-static double median(const double *of)
-{
-    double sorted[ROUNDS];
-    memcpy(sorted, of, sizeof sorted);
-    qsort(sorted, ROUNDS, sizeof *sorted, ascending);
-    return sorted[ROUNDS / 2];
-}
 
 /* The median time of the core, and the median of its ratio over each other side, both sides of a ratio in one round. */
 static void timed(const char *name, Call call, size_t count, double guess)

@@ -54,6 +54,30 @@ JobInput spoilt_job(size_t levels)
     return p;
 }
 
+RukeshomajiDistrictJob district_job(const JobInput *p, u64 basin, u64 start)
+{
+    return (RukeshomajiDistrictJob){basin, 1 + drawn(4), p->site, p->frame, start, p->levels};
+}
+
+static void add_job(DistrictInput *d, const JobInput *p, u64 basin)
+{
+    d->job[d->jobs++] = district_job(p, basin, d->levels);
+    for (size_t x = 0; x < p->levels; x++, d->levels++) d->weights[d->levels] = p->weights[x], d->heights[d->levels] = p->heights[x];
+}
+
+static void lay_district(DistrictInput *d, size_t jobs, size_t levels, JobInput draw(size_t), u64 grounds)
+{
+    d->jobs = d->levels = 0;
+    while (d->jobs < jobs) {
+        JobInput p = draw(levels ? levels : 1 + drawn(LEVELS));
+        add_job(d, &p, drawn(grounds));
+    }
+}
+
+void fixed_district(DistrictInput *d, size_t jobs, size_t levels) { lay_district(d, jobs, levels, fixed_job, 1); }
+void drawn_district(DistrictInput *d, size_t jobs, size_t levels) { lay_district(d, jobs, levels, drawn_job, 2); }
+void spoilt_district(DistrictInput *d, size_t jobs, size_t levels) { lay_district(d, jobs, levels, spoilt_job, 1); }
+
 LogInput fixed_log(void)
 {
     LogInput p;

@@ -10,6 +10,7 @@ static uint8_t *before;
 static volatile u64 kept;
 
 static JobInput job;
+static DistrictInput district;
 static LogInput soil;
 static char text[BYTES + 64];
 static u64 forces[LEVELS], shears[LEVELS], moments[LEVELS];
@@ -73,6 +74,15 @@ static void *one_distribution(void *p)
     return p;
 }
 
+static void *one_district(void *p)
+{
+    static RukeshomajiRow rows[JOBS];
+    static RukeshomajiReport report;
+    HERE();
+    kept += rukeshomaji_district(district.job, district.jobs, district.weights, district.levels, district.heights, district.levels, rows, JOBS, &report);
+    return p;
+}
+
 static void *one_log(void *p)
 {
     static ClassReply reply;
@@ -112,9 +122,12 @@ int main(void)
 {
     job = fixed_job(LEVELS);
     soil = fixed_log();
+    fixed_district(&district, 1, LEVELS);
+    long least = depth(one_district);
+    drawn_district(&district, JOBS, LEVELS);
     printf("stack touched below the call: job %ld, in the Basin %ld, figures %ld, in the Basin %ld, shear call %ld, in the Basin %ld, "
-           "distribution %ld, soil log %ld, sheet %ld bytes\n",
+           "distribution %ld, district of 1 job %ld, of 256 %ld, soil log %ld, sheet %ld bytes\n",
            depth(one_job), depth(one_basin_job), depth(one_figures), depth(one_basin_figures), depth(one_shear_call), depth(one_basin_shear_call),
-           depth(one_distribution), depth(one_log), depth(one_sheet));
+           depth(one_distribution), least, depth(one_district), depth(one_log), depth(one_sheet));
     return 0;
 }

@@ -2,9 +2,10 @@
 
     python3 examples/rukeshomaji.py
 
-job, figures, basin_job, basin_figures, shear_call, basin_shear_call, distribution, site_class and sheet take whole numbers in the units of
+job, figures, basin_job, basin_figures, shear_call, basin_shear_call, distribution, district, site_class and sheet take whole numbers in the units of
 include/rukeshomaji.h. A number that 64 bits do not hold is an OverflowError before anything is called, as ctypes would cut it (2**64 to 0, which
-of a calculated period means none). A refusal is raised as Refused, with its number, place and text. The library is
+of a calculated period means none). A refusal is raised as Refused, with its number, place and text. A district raises what is refused of the whole
+call; a refused job of it has a row with number and place, and Refused(row.number, row.place) says in words what they mean. The library is
 target/lib/librukeshomaji.so, or what RUKESHOMAJI_LIBRARY names.
 """
 
@@ -19,6 +20,10 @@ Frame = namedtuple('Frame', 'kind calculated r i alpha_y')
 Figures = namedtuple('Figures', 'v vm star vd t')
 Job = namedtuple('Job', 'figures forces shears overturnings')
 Storeys = namedtuple('Storeys', 'forces shears overturnings')
+DistrictJob = namedtuple('DistrictJob', 'basin zone site frame start count')     # on_site and in_basin make one
+Row = namedtuple('Row', 'number place v vm star vd t')
+Report = namedtuple('Report', 'accepted refused sum by_v by_vm by_star cells')
+District = namedtuple('District', 'rows report')
 
 # kinds of layer
 MEASURED = 1        # its value is a velocity in dm/s
@@ -27,8 +32,9 @@ COHESIONLESS = 3    # its value is N
 SOFT_CLAY = 4       # its value is q, the unconfined compression strength in 0.01 kgf/cm²
 
 MAJOR = 2
-LEAST = 2_004_000
+LEAST = 2_005_000
 LONGEST = 4_610
+CELLS = 113         # of a report; cell k counts jobs with V_D over W of 10*k to 10*k + 9 thousandths
 TEXTS = {
     1: 'no level, or over 50',
     2: 'lists of unequal length, or a result buffer shorter than them',
@@ -50,6 +56,8 @@ TEXTS = {
     18: 'zone not 1 to 4',
     19: 'base shear out of its range',
     20: 'period out of its range',
+    21: 'stretch outside the store',
+    22: 'over 256 jobs, lists of unequal length, or fewer rows than jobs',
 }
 OF_A_SHEAR_CALL = {3: 'total weight out of its range', 4: 'top height out of its range'}    # at place 0
 PLACES = {
@@ -85,10 +93,11 @@ _core.rukeshomaji_basin_figures.argtypes = [U64, _numbers, *_list * 2, _numbers]
 _core.rukeshomaji_shear_call.argtypes = [_numbers, _numbers, U64, U64, _numbers]
 _core.rukeshomaji_basin_shear_call.argtypes = [U64, _numbers, U64, U64, _numbers]
 _core.rukeshomaji_distribution.argtypes = [U64, U64, *_list * 5, _numbers]
+_core.rukeshomaji_district.argtypes = [*_list * 4, _numbers]
 _core.rukeshomaji_site_class.argtypes = [*_list * 3, _numbers]
 _core.rukeshomaji_sheet.argtypes = [ctypes.c_char_p, U64, ctypes.c_char_p, _numbers]
-for _name in ('job', 'figures', 'basin_job', 'basin_figures', 'shear_call', 'basin_shear_call', 'distribution', 'site_class', 'sheet', 'edition',
-              'source'):
+for _name in ('job', 'figures', 'basin_job', 'basin_figures', 'shear_call', 'basin_shear_call', 'distribution', 'district', 'site_class', 'sheet',
+              'edition', 'source'):
     getattr(_core, f'rukeshomaji_{_name}').restype = U64
 
 
@@ -170,6 +179,27 @@ def distribution(base_shear, period, weights, heights):
     """The force, shear and overturning moment of each level, lowest first, of a base shear in N; a period in ms decides the roof force."""
     _, *storeys = _over_levels(_core.rukeshomaji_distribution, *_array([base_shear, period]), weights, heights, (U64 * 1)())
     return Storeys(*storeys)
+
+
+def on_site(site, frame, start, count):
+    """A job of a district on a site; its levels are so many of the store, from `start` on, counted from 0."""
+    return DistrictJob(0, 0, site, frame, start, count)
+
+
+def in_basin(zone, frame, start, count):
+    """A job of a district in a zone of the Taipei Basin."""
+    return DistrictJob(1, zone, Site(*[0] * 9), frame, start, count)
+
+
+def district(jobs, weights, heights):
+    """A row for each job, and the report of all; weights and heights are the store of levels that the jobs share."""
+    numbers = [(basin, zone, *_array(site, 9), *_array(frame, 5), start, count) for basin, zone, site, frame, start, count in jobs]
+    given, weights, heights, width = _array(sum(numbers, ())), _array(weights), _array(heights), len(Row._fields)
+    rows, reply = (U64 * (width * len(numbers)))(), (U64 * (len(Report._fields) - 1 + CELLS))()
+    number = _core.rukeshomaji_district(given, len(numbers), weights, len(weights), heights, len(heights), rows, len(numbers), reply)
+    if number:
+        raise Refused(number, 0)
+    return District([Row(*rows[first:first + width]) for first in range(0, len(rows), width)], Report(*reply[:-CELLS], reply[-CELLS:]))
 
 
 def site_class(thicknesses, kinds, values):

@@ -7,15 +7,16 @@
  * and stack is not proved (docs/LIMITS.md). Document 000 is the code's text in English; docs/manual states the rules.
  *
  *   Every input is taken. An entry returns 0, or the number of the first refusal that applies; it writes no message and ends no program.
- *   Every field of `figures` or `reply`, and `place`, is written at each call. Where data is refused, all but the place and a listing's
- *   length are 0.
- *   Where data is refused the buffers of a job or a distribution hold what they held. A listing's bytes past its length hold what they
- *   held, in any case.
+ *   A district returns 0 also where some of its jobs are refused: each row has a number and a place of its own.
+ *   Every field of `figures`, `reply` or `report`, and `place`, is written at each call. Where data is refused, all but the place and a
+ *   listing's length are 0.
+ *   Where data is refused the buffers of a job or a distribution, and the rows of a district, hold what they held. A listing's bytes past its
+ *   length, and rows past the last job, hold what they held in any case.
  *   Nothing is kept between calls: an answer depends on its own call alone. Calls may run at once, from any threads, also over lists that
  *   they share, as long as nothing that one of them writes to is used by another.
  *   A list or a buffer is a pointer and a count of its elements. With a count of 0 the pointer may be NULL, which is tried and not proved
  *   (docs/LIMITS.md). No other pointer may be NULL; each is aligned for its type.
- *   What is written (buffers, figures, place, reply, listing) must not overlap anything else that is passed. What is only read may.
+ *   What is written (buffers, figures, place, reply, listing, rows, report) must not overlap anything else that is passed. What is only read may.
  *   No entry uses the heap; the library needs memcpy and memset alone. docs/MEASURED.md says how much stack each entry took.
  */
 #ifndef RUKESHOMAJI_H
@@ -31,7 +32,7 @@ extern "C" {
  * compiled with a header of another major number may call rukeshomaji_version, which never changes, and nothing else. Edition: the year of
  * the code. Source: the state of the rules, which goes up by one whenever any call answers differently; it is 6 since a soil log takes soft
  * clay by its unconfined compression strength (2.4.0). */
-#define RUKESHOMAJI_VERSION 2004000
+#define RUKESHOMAJI_VERSION 2005000
 #define RUKESHOMAJI_EDITION 2005
 #define RUKESHOMAJI_SOURCE 6
 
@@ -45,10 +46,15 @@ extern "C" {
 #define RUKESHOMAJI_MOST_TOTAL_WEIGHT 1000000
 #define RUKESHOMAJI_MOST_BASE_SHEAR 1200000000
 
+/* the most jobs of a district, and how many cells its report has; since 2.5.0 */
+#define RUKESHOMAJI_DISTRICT_JOBS 256
+#define RUKESHOMAJI_CELLS 113
+
 /* Refusals: what an entry returns where it does not return 0; beside each its place. Of 1 to 15 the lowest number that applies is returned,
  * at its lowest place, but 14 at a layer of thickness 0 where there is one. A job in the Taipei Basin has no site: 18 stands where 5 to 7
  * stand, after 1 to 4 and before 8 to 12. A shear call has no levels: its 3 and 4 are of the total weight and the top height, at place 0. In
- * a distribution 19, then 20, follow 1 to 4. For a sheet 17, then 16, come before all others. */
+ * a distribution 19, then 20, follow 1 to 4. For a sheet 17, then 16, come before all others. A district is refused with 22 alone, as a whole; a
+ * row of it with 21 before all others. */
 #define RUKESHOMAJI_REFUSED_LEVELS 1      /* no level, or over 50, judged on the weights: 0 */
 #define RUKESHOMAJI_REFUSED_LENGTHS 2     /* lists of unequal length, or a result buffer shorter than them: 0 */
 #define RUKESHOMAJI_REFUSED_WEIGHT 3      /* weight out of range: level, the lowest is 1; of a shear call: 0 */
@@ -69,6 +75,8 @@ extern "C" {
 #define RUKESHOMAJI_REFUSED_ZONE 18       /* zone not 1 to 4: 0 */
 #define RUKESHOMAJI_REFUSED_BASE_SHEAR 19 /* base shear of a distribution out of range: 0 */
 #define RUKESHOMAJI_REFUSED_PERIOD_HANDED 20  /* period of a distribution out of range: 0 */
+#define RUKESHOMAJI_REFUSED_STRETCH 21    /* of a row of a district: its stretch is outside the store: 0 */
+#define RUKESHOMAJI_REFUSED_DISTRICT 22   /* of a whole district: over 256 jobs, lists of unequal length, or fewer rows than jobs: 0 */
 
 /* site classes */
 #define RUKESHOMAJI_HARD 1
@@ -128,6 +136,38 @@ typedef struct {
     uint64_t place;           /* of the refusal; 0 on success */
     uint64_t length;          /* of the listing, bytes: 1 to 4,610 */
 } RukeshomajiListing;
+
+/* A job of a district, since 2.5.0: a ground, a frame, and a stretch of the store of levels that the jobs of a call share. */
+typedef struct {
+    uint64_t basin;           /* 0: on the site, and the zone is not looked at; anything else: in the Taipei Basin, and the site is not looked at */
+    uint64_t zone;            /* micro-zone of the Basin: 1 to 4 */
+    RukeshomajiSite site;
+    RukeshomajiFrame frame;
+    uint64_t start;           /* of the stretch: its lowest level, counted from 0 in the store */
+    uint64_t count;           /* of the stretch, levels: 1 to 50 */
+} RukeshomajiDistrictJob;
+
+/* A row of a district, since 2.5.0: the answer to one job. */
+typedef struct {
+    uint64_t number;          /* of the refusal; 0 on success */
+    uint64_t place;           /* of the refusal; 0 on success */
+    uint64_t v;               /* V, N */
+    uint64_t vm;              /* V_M, N */
+    uint64_t star;            /* V*, N */
+    uint64_t vd;              /* V_D, N */
+    uint64_t t;               /* T, ms */
+} RukeshomajiRow;
+
+/* The report of a district, since 2.5.0. W is the sum of the weights of a job's stretch, kN; so vd over W, N over kN, is in thousandths. */
+typedef struct {
+    uint64_t accepted;        /* jobs that were accepted */
+    uint64_t refused;         /* jobs that were refused */
+    uint64_t sum;             /* of the vd of all accepted jobs, N; exact */
+    uint64_t by_v;            /* accepted jobs that V governs: vd is v */
+    uint64_t by_vm;           /* that V_M governs: vd is vm, and v is less */
+    uint64_t by_star;         /* that V* governs: vd is star, and v and vm are less */
+    uint64_t cells[RUKESHOMAJI_CELLS];  /* cell k, from 0 on: accepted jobs with vd over W, rounded down, of 10*k to 10*k + 9 */
+} RukeshomajiReport;
 
 /* The job: the base shear of one building in one horizontal direction, and its storeys, on a site outside the Taipei Basin.
  *
@@ -239,6 +279,27 @@ uint64_t rukeshomaji_basin_shear_call(uint64_t zone, const RukeshomajiFrame *fra
 uint64_t rukeshomaji_distribution(uint64_t base_shear, uint64_t period, const uint64_t *weights, uint64_t weight_count,
                                   const uint64_t *heights, uint64_t height_count, uint64_t *forces, uint64_t force_cells, uint64_t *shears,
                                   uint64_t shear_cells, uint64_t *overturnings, uint64_t overturning_cells, uint64_t *place);
+
+/* The district, since 2.5.0: many jobs over one store of levels, a row for each and a report of all. A row has what rukeshomaji_figures, or in the
+ * Basin rukeshomaji_basin_figures, returns and writes for that job on the levels of its stretch. No job changes the row of another.
+ *
+ * Given      jobs            see above: at most 256
+ *            weights         of the levels of the store, kN
+ *            heights         of the levels of the store, dm; as many. Only stretches are judged, each by itself, as the levels of rukeshomaji_job;
+ *                            stretches may overlap or be the same, and levels of no stretch are not looked at
+ *            rows            buffer of at least as many rows as there are jobs
+ * Returned   0, or the refusal of the whole call; a refused row does not change it
+ * Refused    22, at no place, as none is written. Of a row 21, then on a site 1, 3 to 12, in the Basin 1, 3, 4, 18, 8 to 12; 3 and 4 at their level
+ *            of the stretch
+ * Written    report: all fields, 0 where there is no job or the call is refused. On success the first rows, one per job, in their order: number
+ *            and place, then the figures, 0 where the row is refused. Other rows hold what they held
+ * Report     accepted and refused add up to the jobs. by_v, by_vm and by_star add up to accepted, and so do the cells: vd over W is at most 1,125
+ *            thousandths, which is in the last cell
+ * Reference  as for rukeshomaji_figures and rukeshomaji_basin_figures; docs/manual/district.md
+ */
+uint64_t rukeshomaji_district(const RukeshomajiDistrictJob *jobs, uint64_t job_count, const uint64_t *weights, uint64_t weight_count,
+                              const uint64_t *heights, uint64_t height_count, RukeshomajiRow *rows, uint64_t row_count,
+                              RukeshomajiReport *report);
 
 /* The site class of a soil log: the layers of the upper 30 m.
  *

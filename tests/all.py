@@ -1,5 +1,5 @@
 """Runs the tests outside the gate, one after the other: papers and links, the counts that the papers state, manual, README, pictures, header, stored
-cases, model; then the numerals of the model, each changed by one; then the program, the examples and lists that are NULL, which need `rt`, and the last two
+cases, model; then the numerals of the model, each changed by one; then the programs, the examples and lists that are NULL, which need `rt`, and the last two
 x86-64 or RUKESHOMAJI_LIBRARY, a shared library of the core for the machine at hand.
 
 usage: python3 -m tests.all [quick]      quick: the shorter ones that need Python alone, in about half a minute of processor time
@@ -29,22 +29,22 @@ QUICK = (
     'tests.compares.check_model',
 )
 LONGER = 'tests.compares.changed_numerals'
-PROGRAM = 'tests.compares.run_program'
+PROGRAMS = ('tests.compares.run_program', 'tests.compares.run_files', 'tests.compares.run_district')
 LINKED = ('tests.examples', 'tests.compares.null_lists')
 
 
 def left_out():
     """The checks that cannot be run here, and why."""
     if sys.argv[1:] == ['quick']:
-        return {LONGER: 'it takes longer', **dict.fromkeys((PROGRAM, *LINKED), 'it needs rt')}
+        return {LONGER: 'it takes longer', **dict.fromkeys((*PROGRAMS, *LINKED), 'it needs rt')}
     here = os.environ.get('RUKESHOMAJI_LIBRARY') or platform.machine() in ('x86_64', 'AMD64')
     missing = {} if here else dict.fromkeys(LINKED, 'it needs x86-64 or RUKESHOMAJI_LIBRARY')
-    return missing if shutil.which('rt') else missing | {PROGRAM: 'it needs rt'}
+    return missing if shutil.which('rt') else missing | dict.fromkeys(PROGRAMS, 'it needs rt')
 
 
 def main():
     """Run each, with what it prints."""
-    failed, out, checks = [], left_out(), (*QUICK, LONGER, PROGRAM, *LINKED)
+    failed, out, checks = [], left_out(), (*QUICK, LONGER, *PROGRAMS, *LINKED)
     for check in checks:
         print(f'{check}: ', end='', flush=True)
         if check in out:

@@ -86,6 +86,12 @@ def calls():
     return len(rows), shears, len(rows) - shears, refused('run_calls')
 
 
+def districts():
+    """Cases of `run_districts`, all their jobs, and cases that are refused as a whole."""
+    rows, _ = numbered('run_districts')
+    return len(rows), sum(jobs for jobs, *_ in rows), refused('run_districts')
+
+
 def logs():
     """Cases of `run_logs`, and the last N and the last q of the velocities behind them."""
     rows, _ = numbered('run_logs')
@@ -139,6 +145,7 @@ def statements():
     yield 'docs/MAP.md', r'`run_sheets` \(N sheets, N of the Basin, N of the pairs, N of the roof force, N of two refusals and of limits, N of all refused\)', sheet
     yield 'docs/MAP.md', r'`run_refusals` \(N changed jobs, N in the Basin, N with two pairs\)', changed
     yield 'docs/MAP.md', r'`run_calls` \(N calls: N shear calls, N distributions with every cell of their buffers; N refused\)', call
+    yield 'docs/MAP.md', r'`run_districts` \(N districts of N jobs in all, with every cell of their rows; N refused as a whole\)', districts()
     yield 'docs/MAP.md', r'`run_logs` \(N soil logs, every blow count from 0 to N and every q from 0 to N\)', log
     yield 'docs/MAP.md', r'`vectors` holds the definitions to N jobs, N in the Basin, N with two pairs, N of all at the ends', vector[:4]
     yield 'docs/PROMISES.md', r'N jobs of the independent model, N of them in the Taipei Basin and N with two pairs of [^,]+, N of all', vector[:4]

@@ -17,8 +17,8 @@ import sys
 from fractions import Fraction
 from math import ceil
 
-from tests.compares.header_words import HANDED_IN, RELEASES, order, places
-from tests.model import basin as basins, calls, limits, response, sheet, site as sites, soil, storeys
+from tests.compares.header_words import HANDED_IN, RELEASES, most_thousandths, of_district, order, places
+from tests.model import basin as basins, calls, district, limits, response, sheet, sheets, site as sites, soil, storeys
 from tests.stated import numerals, plain, runs
 from tests.writes import manual, roof
 from tests.writes.by_hand.shears import SHEAR
@@ -162,8 +162,12 @@ def of_refusals():
     yield f'a sheet of {limits.LEVELS[-1]} levels needs less than a quarter of that'
     yield f'for a longer period hand in {comma(limits.PERIOD[-1])} ms, which gives the same storeys'
     assert limits.PERIOD[-1] >= roof.QUARTER_FROM
-    yield (f'{log[0]}, {log[1]} to {log[-1]}, {handed[-2]} and {handed[-1]}, and {three} and {four} at place {at}, are answers to a program: '
-           f'{log[1]} to {log[-1]} of [the soil log], {handed[-2]} and {handed[-1]} of a distribution, {three} and {four} at place {at} of a shear call.')
+    whole, row, _ = of_district()
+    yield f'In [a district] {row} comes before all other numbers of its row, and {whole} is of the whole call: there is no row then.'
+    yield (f'{log[0]}, {log[1]} to {log[-1]}, {handed[-2]} to {row}, and {three} and {four} at place {at}, are answers to a program: '
+           f'{log[1]} to {log[-1]} of [the soil log], {handed[-2]} and {handed[-1]} of a distribution, {three} and {four} at place {at} of a shear call, '
+           f'{row} of a district. No sheet gets them. {whole} is of a district or of a file of sheets, never of one sheet.')
+    assert handed[-1] + 1 == row
     yield (f'In a log {log[0]} comes first, then {log[1]}, then {log[2]} at the first layer of thickness 0, then {log[2]} at place 0, then {log[3]}.')
     yield f'a `site` line has neither {sheet.SITE.groups} nor {sheet.TWO_PAIRS.groups} numbers'
     yield f'Cohesive soil with N below {soil.VALUE[soil.COHESIVE][0]} is entered as [soft clay], kind {soil.SOFT_CLAY}'
@@ -182,10 +186,26 @@ def of_scope():
     yield f'[soft clay] is below {soil.VALUE[soil.COHESIVE][0]}'
 
 
+def of_district_page():
+    """Sentences of the page on districts."""
+    most = district.CELL * district.CELLS
+    assert sheets.answer(b'').row[:2] == (16, 1) and sheets.parts(b'\n') == [b''] and sheets.parts(b'') == []
+    yield (f'its {district.CELLS} cells, 0 to {district.CELL - 1}, {district.CELL} to {2 * district.CELL - 1} and so on up to '
+           f'{comma(most - district.CELL)} to {comma(most - 1)}.')
+    yield f'1 kN is {comma(1000)} N.'
+    yield f'The largest possible V_D over W is {comma(most_thousandths())} thousandths.'
+    yield 'make a sheet without a byte. It has a row, refused with 16 at 1.'
+    yield f'A sheet has at most {comma(sheet.MOST_BYTES)} bytes, else its row is refused with 17.'
+    yield f'lowest level first, {limits.LEVELS[0]} to {limits.LEVELS[-1]} levels. 3 and 4 have the number of the level in the stretch, from 1.'
+    yield f'is refused with 1, one of over {limits.LEVELS[-1]} levels too. A `start` beyond the end of the store is {district.OUTSIDE}, even if `count` is 0.'
+
+
 def of_others():
     """(page, sentence) of pages that are filled."""
     for page, divisor in (('worked.md', sites.V_STAR), ('near_fault.md', sites.V_STAR), ('basin.md', basins.V_STAR)):
         yield page, f'the 1.4 of (7) and (17) becomes {comma(SHEAR)}, and the {decimal(divisor)} of (19) becomes {comma(int(divisor * 10**4))};'
+    yield 'README.md', f'what each number from 1 to {of_district()[0]} means'
+    yield 'README.md', f'how up to {district.MOST_JOBS} sheets are run at once'
     yield 'worked.md', f'There is no [roof force] up to {storeys.NO_ROOF_FORCE} ms. Above that it is {decimal(roof.RISING)} · T · V_D'
     yield 'near_fault.md', f'There is no [roof force] up to {storeys.NO_ROOF_FORCE} ms.'
     yield 'near_fault.md', f'place {places("job", 6)[0]} for N_A, 2 for N_V, 3 for N_A M and {places("job", 6)[-1]} for N_V M'
@@ -202,7 +222,8 @@ def of_others():
 def by_sentence():
     """(holds, words) of each sentence that must stand on its page."""
     wanted = [*of_others(), *((page, words) for page, said in (
-        ('sheet.md', of_sheet()), ('rules.md', of_rules()), ('refusals.md', of_refusals()), ('scope.md', of_scope())) for words in said)]
+        ('sheet.md', of_sheet()), ('rules.md', of_rules()), ('refusals.md', of_refusals()), ('scope.md', of_scope()), ('district.md', of_district_page()))
+        for words in said)]
     for page, words in wanted:
         yield words in plain((MANUAL / page).read_text()), f'docs/manual/{page}: does not say: {words}'
 

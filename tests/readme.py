@@ -11,18 +11,20 @@ import sys
 from fractions import Fraction
 from math import ceil
 
-from tests.model import limits, sheet, storeys
+from tests.model import district, limits, sheet, storeys
 from tests.stated import held, plain, releases
 from tests.writes import roof
+from tests.writes.five_jobs import JOBS
 from tests.writes.by_hand.text import comma, decimal, ranged
 from tests.writes.by_hand.worked import read
 
 ROOT = pathlib.Path(__file__).resolve().parents[1]
-NUMBER_WORDS = {2: 'two', 3: 'three', 4: 'four', 7: 'seven', 9: 'nine'}
+NUMBER_WORDS = {2: 'two', 3: 'three', 4: 'four', 5: 'five', 7: 'seven', 9: 'nine', 100: 'hundred'}
 MARGIN, BASE, STOREY, HANDED_IN = 6, 1, 3, 2       # Wishes 7 and 6 of 02: six ten-millionths, plus 1 N, plus two more; below 2 N of a shear handed in
 # what is said in digits and is no number of the rules
-SAID = ('its exit status is 1', 'for x86-64 Linux', 'the largest of the three', 'A job is two calls in one', 'The module for Python has all three',
-        'took 8 to 14 minutes on two cores', '`N passed, 0 failed`', 'in about half a minute')
+SAID = ('its exit status is 1', 'its exit status is 1 if there is one', '(0 and 0 if it is accepted)', 'for x86-64 Linux', 'the largest of the three',
+        'A job is two calls in one', 'The module for Python has all three', 'took 8 to 14 minutes on two cores', '`N passed, 0 failed`',
+        'in about half a minute')
 
 
 def numbers(name):
@@ -100,7 +102,8 @@ def versions():
     W, I, alphay = limits.LEVELS[-1] * limits.WEIGHT[-1], limits.I_VALUES[-1], limits.ALPHA_Y[0]
     most = ceil(MARGIN * Fraction(I * W * 1000 * 10, 14 * alphay) / 10**6 + BASE)      # six millionths of the heaviest building, plus 1 N
     yield f'The version is {newest}. A program of version {pairs.removesuffix(".0")} to {version_before(newest)} needs no change.'
-    yield f'All figures are those of {version_before(clay)}; soft clay in a soil log, which {version_before(clay)} refused, is new.'
+    yield f'All figures are those of {version_before(newest)}; `rukeshomaji_district` is new. Soft clay in a soil log is taken since {clay}.'
+    assert newest == brought['a whole district in one call']
     yield f'Shears of {version_before(finer)} are the same or some newtons higher, in the heaviest buildings by less than {comma(most)} N'
     yield (f'Where T is up to {storeys.NO_ROOF_FORCE} ms, or {comma(roof.QUARTER_FROM)} ms or more, forces, shears and moments can differ from those of '
            f'{version_before(roofs)} by more')
@@ -108,6 +111,17 @@ def versions():
     yield f'A program of version {major - 1} that gives a site'
     yield f'the struct of a site has {nine} fields in place of {seven}'
     yield f'from one period to the next before version {finer} '
+
+
+def of_districts():
+    """A district by a file and by a call."""
+    header, example_sheets = numbers('rukeshomaji.h'), (ROOT / 'examples' / 'district.sheets').read_bytes()
+    assert (header['DISTRICT_JOBS'], header['CELLS']) == (district.MOST_JOBS, district.CELLS) and example_sheets.count(b'\n\n') == 100
+    yield f'a file of up to {district.MOST_JOBS} sheets, with an empty line after each'
+    yield f'and {district.CELLS} lines `cell`'
+    yield f'has a district of a {NUMBER_WORDS[100]} sheets with a chart'
+    yield f'takes up to {district.MOST_JOBS} jobs that share one store of levels'
+    yield f'call it with {NUMBER_WORDS[len(JOBS)]} jobs.'
 
 
 def sentences():
@@ -126,6 +140,7 @@ def sentences():
     yield from fields()
     yield from fragment()
     yield from versions()
+    yield from of_districts()
     yield from SAID
 
 

@@ -4,11 +4,13 @@ import contextlib
 import importlib.util
 import re
 
+from tests.examples.districts import districts
 from tests.examples.places import EXAMPLES, ROOT
 from tests.examples.refusals import FRAME, HEIGHTS, SITE, WEIGHTS, refusals
 from tests.model import calls, soil
 from tests.writes.logs import BORING, MADE_UP
 
+OF_A_ROW = 21           # is raised by no call
 NEAR_FAULT, FASTER = (*SITE[:4], 112, 123, 118, 136, 1), (2, 500, *FRAME[2:])     # those of examples/near_fault.sheet
 
 
@@ -91,7 +93,7 @@ def every_refusal(core):
         error = raises(core.Refused, function, *arguments)
         seen.add(number)
         yield f'refusal {number} at {place}', error and (error.number, error.place) == (number, place) and error.text in str(error)
-    yield 'every refusal', seen == set(core.TEXTS) == set(range(1, 21))
+    yield 'every refusal', seen | {OF_A_ROW} == set(core.TEXTS) == set(range(1, 23))
 
 
 def of_another_kind(core):
@@ -105,15 +107,18 @@ def of_another_kind(core):
         yield f'a base shear of {number}', raises(OverflowError, core.distribution, number, 1000, WEIGHTS, HEIGHTS)
         yield f'a period of {number}', raises(OverflowError, core.distribution, 1_071_429, number, WEIGHTS, HEIGHTS)
         yield f'a value of {number}', raises(OverflowError, core.site_class, [3000], [2], [number])
+        yield f'a start of {number}', raises(OverflowError, core.district, [core.on_site(SITE, FRAME, number, 3)], WEIGHTS, HEIGHTS)
+        yield f'a zone of {number} in a district', raises(OverflowError, core.district, [core.in_basin(number, FRAME, 0, 3)], WEIGHTS, HEIGHTS)
     yield 'the largest number of 64 bits', raises(core.Refused, core.figures, SITE, (2, 2 ** 64 - 1, 480, 100, 150), WEIGHTS, HEIGHTS)
     yield 'a zone of 1.0', raises(TypeError, core.basin_figures, 1.0, FRAME, WEIGHTS, HEIGHTS)
     yield 'an R of 4.8', raises(TypeError, core.job, SITE, (2, 1000, 4.8, 100, 150), WEIGHTS, HEIGHTS)
     for count in (6, 7, 8, 10):
         yield f'a site of {count} numbers', raises(TypeError, core.job, (*SITE, 1)[:count], FRAME, WEIGHTS, HEIGHTS)
+        yield f'a site of {count} numbers in a district', raises(TypeError, core.district, [core.on_site((*SITE, 1)[:count], FRAME, 0, 3)], WEIGHTS, HEIGHTS)
     yield 'a Site of seven numbers', raises(TypeError, core.Site, *SITE[:7])
 
 
 def run_module(core):
     """What the module answers, refuses and does not call."""
-    for check in (jobs, two_calls, logs, sheet_and_version, every_refusal, of_another_kind):
+    for check in (jobs, two_calls, districts, logs, sheet_and_version, every_refusal, of_another_kind):
         yield from check(core)

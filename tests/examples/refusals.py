@@ -55,3 +55,5 @@ def refusals(core):
     yield 4, 3, over(0, heights=[100, 200, 200])
     yield from ((19, 0, over(number, 10_000)) for number in (0, 1_200_000_001, 2 ** 64 - 1))
     yield from ((20, 0, over(period=number)) for number in (10_000, 2 ** 64 - 1))
+    jobs = [core.on_site(SITE, FRAME, 0, 3)]
+    yield from ((22, 0, (core.district, arguments)) for arguments in ((jobs * 257, WEIGHTS, HEIGHTS), (jobs, WEIGHTS, HEIGHTS[:2]), ([], [], [1])))

@@ -3,7 +3,7 @@
 import re
 
 from tests.manual.pages import OFFICE, ROOT, listed, page, rows, with_line
-from tests.model import calls, limits, sheet, soil
+from tests.model import calls, district, limits, sheet, sheets, soil
 from tests.writes.by_hand.text import comma, ranged
 from tests.writes.by_hand.worked import read
 
@@ -24,7 +24,8 @@ SAID = {
     15: ['not ' + either(tuple(soil.VALUE)), f'velocity {ranged(soil.VALUE[1])} dm/s', f'cohesive N {ranged(soil.VALUE[2])}',
          f'cohesionless N {ranged(soil.VALUE[3])}', f'soft clay q {ranged(soil.VALUE[4])}'],
     17: [f'more than {comma(sheet.MOST_BYTES)} bytes'], 18: ['not ' + either(limits.ZONE)], 19: [f'not {ranged(limits.BASE_SHEAR)} N'],
-    20: [f'above {comma(limits.PERIOD[-1])} ms'],
+    20: [f'above {comma(limits.PERIOD[-1])} ms'], 21: [], 22: [f'more than {district.MOST_JOBS} jobs', f'more than {district.MOST_JOBS} sheets or more than '
+                                                               f'{comma(sheets.MOST_BYTES)} bytes'],
 }
 # what those at place 0 must say, of a shear call
 SAID_AT_0 = {3: [f'the total weight of a [shear call](shear_and_storeys.md) is not {ranged(limits.TOTAL_WEIGHT)} kN'],
@@ -54,7 +55,18 @@ def answer(example):
     if layers:
         log = [tuple(map(int, layer.split())) for layer in layers[1].split(',')]
         return list(map(str, soil.log(*map(list, zip(*log)))))
+    stretch = re.match(r'job with start (\d+) and count (\d+) in a store of (\d+) levels$', example)
+    if stretch:
+        return of_stretch(*map(int, stretch.groups()))
     return of_words(example)
+
+
+def of_stretch(start, count, length):
+    """What the model answers to a job of a district with the worked sheet's site and frame, over a store of so many levels."""
+    office = read(OFFICE)
+    job, heights = district.DistrictJob(0, 0, office.ground, office.frame, start, count), [100 * level for level in range(1, length + 1)]
+    row = district.answer_of(job, [5000] * length, heights).row
+    return ['refused', str(row.number), str(row.place)]
 
 
 def of_words(example):
@@ -66,19 +78,26 @@ def of_words(example):
         return sheet.shear(OFFICE.ljust(4_097, b'\n')).decode().split()
     if example == '3 weights, 2 heights':
         return ['refused', *map(str, limits.judge((80, 45, 100, 55, 100, 100, 1), (2, 1000, 480, 100, 150), [1] * 3, [1] * 2))]
+    if example == 'file of 257 sheets':
+        return sheets.listing(sheets.write([OFFICE] * 257)).decode().split()
     if example == 'log of 41 layers':
         return list(map(str, soil.log([1] * 41, [3] * 41, [10] * 41)))
     return None
 
 
 def order(text):
-    """Where 18, 19 and 20 stand in the order."""
+    """Where 18 to 22 stand in the order."""
     wrong = limits.refusals(limits.Basin(5), (5, 60_001, 99, 99, 99), [0], [0, 0], ())
     yield [number for number, _ in wrong] == [2, 3, 4, 4, 18, 8, 9, 10, 11, 12], 'docs/manual/refusals.md: 18 is not where the page says'
     yield '18 stands in place of 5 to 7, after 1 to 4 and before 8 to 12' in text.replace('\n', ' '), 'docs/manual/refusals.md: the place of 18'
     wrong = limits.distribution_refusals(0, 10_000, [0], [0, 0], ())
     yield [number for number, _ in wrong] == [2, 3, 4, 4, 19, 20], 'docs/manual/refusals.md: 19 and 20 are not where the page says'
     yield '19, then 20, come after 1 to 4' in text.replace('\n', ' '), 'docs/manual/refusals.md: the place of 19 and 20'
+    wrong = district.DistrictJob(0, 0, limits.Site(*[0] * 9), limits.Frame(5, 60_001, 99, 99, 99), 2, 51)
+    refused = district.answer_of(wrong, [0], [0]).row.number, district.district([wrong] * 257, [0], [0, 0], 0)[0]
+    yield refused == (21, 22), 'docs/manual/refusals.md: 21 and 22 do not come first'
+    said = '21 comes before all other numbers of its row, and 22 is of the whole call'
+    yield said in text.replace('\n', ' '), 'docs/manual/refusals.md: the place of 21 and 22'
 
 
 def one_row(number, place, wrong, to_do, example):
@@ -98,7 +117,7 @@ def places_of_6(text):
     yield bool(by_seven) and answer(f'line 1 `{by_seven[1]}`') == by_seven[2].split(), 'docs/manual/refusals.md: 6 on seven numbers'
     named = re.search(r'\(`./shear` calls 3 and 4 (N_A \w+) and (N_V \w+)\)', text)
     places = ('N_A', 'N_V', *named.groups()) if named else ()
-    for file, words in (('shear', f"'{','.join(places)}'"), ('examples/rukeshomaji.py', f'6: {places}')):
+    for file, words in (('programs.sh', f"'{','.join(places)}'"), ('examples/rukeshomaji.py', f'6: {places}')):
         yield words in (ROOT / file).read_text(), f'docs/manual/refusals.md: the places of 6 in {file}: wanted {words}'
 
 
@@ -106,7 +125,7 @@ def refusals():
     """The refusals: one row at least for each, and what it says."""
     text = page('refusals.md')
     found = rows(text, '')
-    yield sorted({int(row[0]) for row in found}) == list(range(1, 21)), 'docs/manual/refusals.md: not each of 1 to 20'
+    yield sorted({int(row[0]) for row in found}) == list(range(1, 23)), 'docs/manual/refusals.md: not each of 1 to 22'
     yield from order(text)
     for row in found:
         yield from one_row(*row)

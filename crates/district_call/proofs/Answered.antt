@@ -20,17 +20,28 @@ use Rattle.limits.proofs.DistrictStage as judged
 use Rattle.limits.proofs.First.{first-of-value, first-then-value}
 use Rattle.limits.proofs.Numbers.{district-is-22}
 use Rattle.limits.proofs.Passed.{never, one-refusal}
-use Rattle.limits.proofs.Unique.{verdict-unique}
+use Rattle.limits.proofs.Unique.{back, one-answer, verdict-unique}
 use Rattle.job.specs.Distribution.{doneOnly}
 use Rattle.district_call.specs.declared.DistrictAnswer.{DistrictAnswer}
 use Rattle.district_call.specs.declared.report.Report.{Report}
 use Rattle.district_call.specs.declared.weighed.Weighed.{Weighed}
+use Rattle.district_call.specs.declared.weighed.WeighedAnswer.{WeighedAnswer}
+use Rattle.district_call.specs.declared.weighed.WeighedAnswer.the-variants.{Taken as TakenJob, Refused as RefusedJob}
+use Rattle.district_call.specs.Weighed.{weighedOutcome}
 use Rattle.district_call.specs.District.{answersTo, districtOf, reported, filledRows, DistrictAnswers}
 use Rattle.district_call.specs.Entered.{entered}
 use Rattle.district_call.specs.Report.{reportOf}
 use Rattle.district_call.specs.Row.{answerTo, rowOf}
 use Rattle.district_call.proofs.Districts.{district-allowed, district-refused, district-passed}
 use Rattle.district_call.proofs.Rows.{map-at}
+
+-- an answer to a job with its weight says one outcome, and no second answer says it
+pub weighed-unique : {a b : WeighedAnswer} {o : Outcome Weighed} → weighedOutcome a ≡ o → weighedOutcome b ≡ o → a ≡ b
+weighed-unique = one-answer weighedOutcome TakenJob RefusedJob same
+  where
+    same : (x : WeighedAnswer) → back TakenJob RefusedJob (weighedOutcome x) ≡ x
+    same (TakenJob w) = refl
+    same (RefusedJob r) = refl
 
 module _ (js : List (List ℕ)) (ws hs : List ℕ) (old : List (List ℕ)) where
   -- no second outcome meets the contract: one answer, and one content of the row buffer

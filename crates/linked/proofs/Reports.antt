@@ -1,4 +1,4 @@
--- The report of a district in a lent array, six totals and behind them the cells; and what is replied to a district is what the core answered. Where 0 is
+-- The report of a district in a lent array, six totals and behind them the cells. What is replied to a district is what the core answered; where 0 is
 -- returned it was taken, and no second reply meets the contract.
 --   Behind h cs i out    the first i numbers of out are the six of h and the first i − 6 of the cells cs
 -- Assumes nothing.
@@ -11,9 +11,16 @@ use lib.ListN.{length, getD, set, take, length-set}
 use lib.Seq.{take-suc, take-suc-set, take-all}
 use Rattle.whole.proofs.Unique.{determined}
 use Rattle.limits.specs.declared.refusal.Refusal.{Refusal}
-use Rattle.limits.specs.Outcome.{refusalOf, verdictOutcome}
+use Rattle.limits.specs.declared.refusal.Verdict.{Verdict}
+use Rattle.limits.specs.declared.refusal.Verdict.the-variants.{Passed, Refused}
+use Rattle.limits.specs.Outcome.{Outcome, accepted, refused, number, refusalOf, verdictOutcome}
+use Rattle.limits.proofs.Numbers.{district-is-22}
+use Rattle.job.specs.Distribution.{doneOnly}
 use Rattle.district_call.specs.declared.DistrictAnswer.{DistrictAnswer}
-use Rattle.district_call.specs.District.{districtOf, DistrictAnswers}
+use Rattle.district_call.specs.declared.report.Report.{Report}
+use Rattle.district_call.specs.District.{districtOf, reported, DistrictAnswers}
+use Rattle.district_call.specs.Report.{reportOf}
+use Rattle.district_call.proofs.Answered.{district-first, TakenCall, taken-call}
 use Rattle.linked.specs.Linked.{reportNumbers, DistrictReplies}
 use Rattle.linked.proofs.CallReplies.{done-refusal}
 use Rattle.linked.proofs.Replies.{refused-number}
@@ -76,6 +83,42 @@ module _ (js : List (List ℕ)) (ws hs : List ℕ) (old : List (List ℕ)) where
         replied = p ∙ ap reportNumbers (t .report);
         rows = t .rows;
       }
+
+  -- and the other way: what is proved of an answer of the core holds of the reply that says it
+  pub replied-district : (n : ℕ) (numbers : List ℕ) (held : List (List ℕ)) → DistrictReplies js ws hs old n numbers held
+      → (a : DistrictAnswer) × DistrictAnswers js ws hs old a held × (n ≡ number (verdictOutcome (a .verdict))) × (numbers ≡ reportNumbers (a .report))
+  replied-district n numbers held t = go (districtOf js ws hs (length old)) refl
+    where
+      go : (o : Outcome Report) → districtOf js ws hs (length old) ≡ o
+          → (a : DistrictAnswer) × DistrictAnswers js ws hs old a held × (n ≡ number (verdictOutcome (a .verdict))) × (numbers ≡ reportNumbers (a .report))
+      go (accepted r) e = (
+        record { verdict = Passed; report = r },
+        record { verdict = sym (ap doneOnly e); report = sym (ap reported e); rows = t .rows },
+        t .returned ∙ ap number e,
+        t .replied ∙ ap reportNumbers (ap reported e),
+      )
+      go (refused k p) e = (
+        record { verdict = Refused (record { number = k; place = p }); report = reportOf [] },
+        record { verdict = sym (ap doneOnly e); report = sym (ap reported e); rows = t .rows },
+        t .returned ∙ ap number e,
+        t .replied ∙ ap reportNumbers (ap reported e),
+      )
+
+  -- where 0 is returned, the call was taken
+  pub zero-district : (numbers : List ℕ) (held : List (List ℕ)) → DistrictReplies js ws hs old 0 numbers held
+      → (a : DistrictAnswer) × TakenCall js ws hs old a held × (numbers ≡ reportNumbers (a .report))
+  zero-district numbers held t =
+      let r = replied-district 0 numbers held t in
+      (r .0, taken-call js ws hs old (r .0) held (r .1) (passed (r .0) (r .1) (r .2)), r .3)
+    where
+      passed : (a : DistrictAnswer) → DistrictAnswers js ws hs old a held → 0 ≡ number (verdictOutcome (a .verdict)) → a .verdict ≡ Passed
+      passed a d z = go (a .verdict) refl
+        where
+          go : (v : Verdict) → a .verdict ≡ v → a .verdict ≡ Passed
+          go Passed e = e
+          go (Refused k) e =
+              let is = district-is-22 (district-first js ws hs old a held d .refused-applies (k .number) (k .place) (ap verdictOutcome e)) in
+              absurd (let w : ⊥ = omega (arith, z ∙ ap (λ (x : Verdict). number (verdictOutcome x)) e, is .0) in w)
 
   pub one-district-reply : {n n′ : ℕ} {r r′ : List ℕ} {c c′ : List (List ℕ)} → DistrictReplies js ws hs old n r c
       → DistrictReplies js ws hs old n′ r′ c′ → (n ≡ n′) × (r ≡ r′) × (c ≡ c′)

@@ -186,8 +186,8 @@ pub extern "C" fn rukeshomaji_district(
     let r = a.report;
     put_report(report, r);
     let v = a.verdict;
-    let refusal = v.refusal();
-    refusal.number
+    let refused = v.refusal();
+    refused.number
 }
 
 // The site class of a soil log: place and class.

@@ -8,7 +8,8 @@ from tests.writes.pictures.drawing import BLUE, RED, Axes, Picture
 
 LEFT, RIGHT, MOST = 90, 1050, 12        # of the fields, and the most sheets of a cell that are drawn
 SHORT = 350                             # thousandths of the lower field
-NAMED = {hundred.SMALLEST: 'the smallest here', hundred.OFFICE: 'the worked sheet', hundred.EDGE: 'on the edge of its cell', hundred.LARGEST: 'the most there can be'}
+NAMED = {hundred.SMALLEST: 'the smallest here', hundred.OFFICE: 'the worked sheet', hundred.EDGE: 'on the edge of its cell',
+         hundred.LARGEST: 'the most there can be'}
 
 
 def cells():
