@@ -1,16 +1,14 @@
 -- What an answer of `district` says, once it is known: one outcome alone; the first refusal of the call; each row, and the rows past the last job.
 -- Assumes nothing.
-use mathlib.Core.Path.{_≡_, refl, sym, ap, ap₂, subst, _∙_}
-use mathlib.Core.List.{List, [], _∷_, _++_, map}
-use Prim.Native.Nat.{ℕ, zero, suc, _+_, _≤_, _<_}
-use native.Mathlib.Nat.{le-of-suc-le-suc}
+use mathlib.Core.Path.{_≡_, refl, sym, ap, subst, _∙_}
+use mathlib.Core.List.{List, [], map}
+use Prim.Native.Nat.{ℕ, _≤_, _<_}
 use native.Mathlib.Omega.{arith}
 use lib.ListN.{length, getD, take, drop, length-map}
 use Rattle.whole.specs.Cells.{laid}
 use Rattle.whole.proofs.Cells.{laid-part, laid-cell, laid-rest}
 use Rattle.whole.proofs.Unique.{determined}
 use Rattle.limits.specs.declared.refusal.Refusal.{Refusal}
-use Rattle.limits.specs.declared.refusal.Verdict.{Verdict}
 use Rattle.limits.specs.declared.refusal.Verdict.the-variants.{Passed, Refused}
 use Rattle.limits.specs.Applies.{DistrictApplies}
 use Rattle.limits.specs.District.{judgedDistrict}

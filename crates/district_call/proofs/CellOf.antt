@@ -1,6 +1,6 @@
 -- The cell of an accepted job: V_D over W is at most 1,125 thousandths, so 113 cells are enough.
 -- Assumes nothing.
-use Prim.Native.Nat.{ℕ, _*_, _≤_, _<_}
+use Prim.Native.Nat.{_≤_, _<_}
 use native.Mathlib.Omega.{arith}
 use Rattle.whole.specs.Rounding.{down}
 use Rattle.whole.proofs.Rounding.{down-most}

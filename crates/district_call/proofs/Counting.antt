@@ -1,15 +1,14 @@
--- How many of a list a test takes: what is left from the i-th on, how many there can be, and tests of which each takes what the others leave.
+-- How many of a list a test takes: what is left from the i-th on, how many there can be, of two lists that are joined, and tests of which each takes what the others
+-- leave.
 -- Assumes nothing.
-use mathlib.Core.Path.{_≡_, refl, ap, _∙_}
+use mathlib.Core.Path.{_≡_, refl}
 use mathlib.Core.Bool.{Bool, true, false}
-use mathlib.Core.List.{List, [], _∷_, map}
-use Prim.Native.Nat.{ℕ, zero, suc, _+_, _*_, _≤_, _<_}
-use native.Mathlib.Nat.{le-of-suc-le-suc}
+use mathlib.Core.List.{List, [], _∷_, _++_}
+use Prim.Native.Nat.{ℕ, _+_, _≤_, _<_}
 use native.Mathlib.Numerals.{add-one}
 use native.Mathlib.Omega.{arith}
 use lib.ListN.{length, getD, drop, drop-of-length-le}
 use lib.Seq.{drop-cons}
-use Rattle.whole.specs.Cells.{cells, sum}
 use Rattle.district_call.specs.Report.{oneIf, howMany}
 
 pub one-at-most : (t : Bool) → oneIf t ≤ 1
@@ -30,6 +29,11 @@ module _ {A : Type 0} (t : A → Bool) where
   unfolding howMany
   many-most [] = omega arith
   many-most (a ∷ l) = omega (arith, many-most l, one-at-most (t a))
+
+  pub many-join : (l m : List A) → howMany t (l ++ m) ≡ howMany t l + howMany t m
+  unfolding howMany
+  many-join [] m = omega arith
+  many-join (a ∷ l) m = omega (arith, many-join l m)
 
 -- ---- tests that part a list: where each element is taken by as many of them as r takes it, their counts add up
 module _ {A : Type 0} (r s t : A → Bool) where

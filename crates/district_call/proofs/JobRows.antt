@@ -1,7 +1,7 @@
 -- 'Row by row it equals a single job on that stretch, refused in 01's order, and a refused job leaves the others' rows as they would have been': each of
 -- any rows of any calls that were taken.
 -- Assumes nothing.
-use mathlib.Core.Path.{_≡_, refl, sym, ap, ap₂, subst, _∙_}
+use mathlib.Core.Path.{_≡_, refl, sym, ap, subst, _∙_}
 use mathlib.Core.List.{List, [], _∷_}
 use Prim.Native.Nat.{ℕ, _+_, _≤_, _<_}
 use native.Mathlib.Omega.{arith}

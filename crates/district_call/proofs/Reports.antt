@@ -1,25 +1,25 @@
 -- What every report is, of any answers os: 'Cells add up to the accepted jobs, and each cell equals the count of rows that belong there'; accepted and
--- refused add up to all; the three governing counts add up to the accepted; the sum fits. Of no answer at all it is zeros.
+-- refused add up to all; the three governing counts add up to the accepted; the sum fits. Reports add up. Of no answer at all it is zeros.
 -- Assumes nothing.
-use mathlib.Core.Path.{_≡_, refl, sym, ap, ap₂, _∙_}
+use mathlib.Core.Path.{_≡_, refl, sym, ap, _∙_}
 use mathlib.Core.Bool.{Bool, true, false, _&&_, not}
 use mathlib.Core.List.{List, [], _∷_, _++_, map}
-use Prim.Native.Nat.{ℕ, zero, suc, _+_, _*_, _≤_, _<_}
+use Prim.Native.Nat.{ℕ, zero, suc, _+_, _≤_, _<_}
 use native.Mathlib.Nat.{mul-le-mul-right}
 use native.Mathlib.Numerals.{add-one}
 use native.Mathlib.Omega.{arith}
-use lib.Dec.{leb, eqb}
+use lib.Dec.{eqb}
 use lib.ListN.{length, getD}
-use borrow.Author.Tests.{eqb-true, eqb-false, eq-eqb, ne-eqb}
+use borrow.Author.Tests.{eqb-true, eqb-false, ne-eqb}
 use Rattle.whole.specs.Cells.{cells, sum}
 use Rattle.whole.proofs.Cells.{cells-at, cells-length, sum-cells-more}
 use Rattle.limits.specs.Outcome.{Outcome, accepted, refused, zeros}
-use Rattle.base_shear.specs.declared.Figures.{Figures}
+use Rattle.district_call.specs.declared.report.Report.{Report}
 use Rattle.district_call.specs.declared.weighed.Weighed.{Weighed}
 use Rattle.district_call.specs.Report.{oneIf, howMany, ofTaken, taken, untaken, byV, byVm, byStar, vdOf, cellOf, cellsMost, inCell, totalsOf, reportOf}
 use Rattle.district_call.specs.Tally.{Sorted}
 use Rattle.district_call.proofs.CellOf.{cell-low}
-use Rattle.district_call.proofs.Counting.{two-part, three-part, many-most}
+use Rattle.district_call.proofs.Counting.{many-join, two-part, three-part}
 use Rattle.district_call.proofs.Tallied.{AllSorted, sum-low}
 
 pub totals-are : (os : List (Outcome Weighed)) → reportOf os .totals ≡ totalsOf os
@@ -114,10 +114,38 @@ governed-add-up os =
     each (accepted w) = one-of (eqb (w .figures .v) (w .figures .vd)) (eqb (w .figures .vm) (w .figures .vd))
     each (refused n p) = refl
 
--- ---- the sum fits: 256 jobs of at most 1,400,000,000 N each
-pub sum-fits : (os : List (Outcome Weighed)) → AllSorted os → length os ≤ 256 → reportOf os .totals .sum ≤ 358_400_000_000
+-- ---- the sum fits: 256 jobs of at most 1,125,000,000 N each
+pub sum-fits : (os : List (Outcome Weighed)) → AllSorted os → length os ≤ 256 → reportOf os .totals .sum ≤ 288_000_000_000
 unfolding reportOf
-sum-fits os s few = omega (arith, sum-low os s, mul-le-mul-right 1_400_000_000 few)
+sum-fits os s few = omega (arith, sum-low os s, mul-le-mul-right 1_125_000_000 few)
+
+-- ---- reports add up number by number: that of two districts together is their sum
+pub record AddUp (r s t : Report) : Type 0 where
+  pub accepted : r .totals .accepted + s .totals .accepted ≡ t .totals .accepted
+  pub refused : r .totals .refused + s .totals .refused ≡ t .totals .refused
+  pub sum : r .totals .sum + s .totals .sum ≡ t .totals .sum
+  pub v : r .totals .v + s .totals .v ≡ t .totals .v
+  pub vm : r .totals .vm + s .totals .vm ≡ t .totals .vm
+  pub star : r .totals .star + s .totals .star ≡ t .totals .star
+  pub cells : (k : ℕ) → k < cellsMost → getD (r .cells) k 0 + getD (s .cells) k 0 ≡ getD (t .cells) k 0
+
+sum-join : (os ps : List (Outcome Weighed)) → sum (map vdOf (os ++ ps)) ≡ sum (map vdOf os) + sum (map vdOf ps)
+unfolding sum
+sum-join [] ps = omega arith
+sum-join (o ∷ os) ps = omega (arith, sum-join os ps)
+
+pub reports-add : (os ps : List (Outcome Weighed)) → AddUp (reportOf os) (reportOf ps) (reportOf (os ++ ps))
+unfolding reportOf
+reports-add os ps =
+    record {
+      accepted = sym (many-join taken os ps);
+      refused = sym (many-join untaken os ps);
+      sum = sym (sum-join os ps);
+      v = sym (many-join (ofTaken (λ w. byV (w .figures))) os ps);
+      vm = sym (many-join (ofTaken (λ w. byVm (w .figures))) os ps);
+      star = sym (many-join (ofTaken (λ w. byStar (w .figures))) os ps);
+      cells = λ k h. omega (arith, cell-counts os k h, cell-counts ps k h, cell-counts (os ++ ps) k h, many-join (inCell k) os ps);
+    }
 
 -- ---- 'No job at all gives a report of zeros'
 pub none-reported : reportOf [] ≡ record { totals = record { accepted = 0; refused = 0; sum = 0; v = 0; vm = 0; star = 0 }; cells = zeros 113 }

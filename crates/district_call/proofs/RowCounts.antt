@@ -2,10 +2,10 @@
 -- each cell.
 --   belongs k r W    whether a row r of a job of W kN is of an accepted job and belongs to cell k
 -- Assumes nothing.
-use mathlib.Core.Path.{_≡_, refl, sym, ap, subst, _∙_}
-use mathlib.Core.Bool.{Bool, true, false, _&&_}
+use mathlib.Core.Path.{_≡_, refl, sym, ap, _∙_}
+use mathlib.Core.Bool.{Bool, _&&_}
 use mathlib.Core.List.{List, [], _∷_, map}
-use Prim.Native.Nat.{ℕ, zero, suc, _+_, _≤_, _<_}
+use Prim.Native.Nat.{ℕ, _<_}
 use native.Mathlib.Omega.{arith}
 use lib.Dec.{eqb}
 use lib.ListN.{length, getD, take}
@@ -21,7 +21,7 @@ use Rattle.district_call.specs.declared.report.Report.{Report}
 use Rattle.district_call.specs.declared.weighed.Weighed.{Weighed}
 use Rattle.district_call.specs.District.{answersTo}
 use Rattle.district_call.specs.Entered.{Entered, entered}
-use Rattle.district_call.specs.Report.{oneIf, howMany, ofTaken, taken, byV, byVm, byStar, thousandths, cellOf, cellsMost, inCell, vdOf, reportOf}
+use Rattle.district_call.specs.Report.{howMany, ofTaken, taken, byV, byVm, byStar, thousandths, cellOf, cellsMost, inCell, vdOf, reportOf}
 use Rattle.district_call.specs.Row.{answerTo, rowOf, rowTaken, figuresIn}
 use Rattle.district_call.proofs.Answered.{TakenCall, rows-are}
 use Rattle.district_call.proofs.JobRows.{row-first, accepted-row}

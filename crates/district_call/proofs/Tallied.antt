@@ -2,26 +2,26 @@
 --   AllSorted os        so is each of os
 --   Tallied os i t cs   t and cs are the totals and the cells after i of os
 -- Assumes nothing.
-use mathlib.Core.Path.{_≡_, refl, sym, ap, _∙_}
+use mathlib.Core.Path.{_≡_, refl, sym, _∙_}
 use mathlib.Core.Bool.{Bool, true, false}
 use mathlib.Core.List.{List, [], _∷_, map}
 use Prim.Native.Nat.{ℕ, zero, suc, _+_, _*_, _≤_, _<_}
 use native.Mathlib.Nat.{mul-le-mul-right}
 use native.Mathlib.Numerals.{add-one}
 use native.Mathlib.Omega.{arith}
-use lib.Dec.{leb, eqb}
+use lib.Dec.{eqb}
 use lib.ListN.{length, getD, set, drop, replicate, length-set, length-replicate, drop-of-length-le}
 use lib.Seq.{drop-cons, getD-set-same, getD-set-other}
-use borrow.Author.Tests.{eqb-true, eqb-false, leb-true, leb-false}
+use borrow.Author.Tests.{eqb-true, eqb-false}
 use Rattle.whole.specs.Cells.{cells, sum}
-use Rattle.whole.proofs.Cells.{cells-by-place, past-end}
+use Rattle.whole.proofs.Cells.{cells-by-place}
 use Rattle.limits.specs.Outcome.{Outcome, accepted, refused}
 use Rattle.district_call.specs.declared.report.Totals.{Totals}
 use Rattle.district_call.specs.declared.weighed.Weighed.{Weighed}
 use Rattle.district_call.specs.Report.{oneIf, howMany, ofTaken, taken, untaken, byV, byVm, byStar, vdOf, cellOf, cellsMost, inCell, totalsOf, reportOf, withAnswer, countedIn}
-use Rattle.district_call.specs.Tally.{Ratio, Sorted, Small, LowCells}
+use Rattle.district_call.specs.Tally.{Sorted, Small, LowCells}
 use Rattle.district_call.proofs.CellOf.{cell-low}
-use Rattle.district_call.proofs.Counting.{one-at-most, many-step, many-end, many-most}
+use Rattle.district_call.proofs.Counting.{many-step, many-end, many-most}
 
 abbrev pub AllSorted : List (Outcome Weighed) → Type 0
 AllSorted [] = Unit {0}
@@ -146,7 +146,7 @@ tallied-all os i t cs h r =
     summed = omega (arith, r .sum, none-left)
 
 -- ---- no counter wraps
-pub sum-low : (os : List (Outcome Weighed)) → AllSorted os → sum (map vdOf os) ≤ length os * 1_400_000_000
+pub sum-low : (os : List (Outcome Weighed)) → AllSorted os → sum (map vdOf os) ≤ length os * 1_125_000_000
 unfolding sum
 sum-low [] s = omega arith
 sum-low (accepted w ∷ os) s = omega (arith, sum-low os (s .1), s .0 .base)
@@ -158,7 +158,7 @@ module _ (os : List (Outcome Weighed)) (i : ℕ) (t : Totals) (cs : List ℕ) (f
       record {
         accepted = omega (arith, r .accepted, many-most taken os);
         refused = omega (arith, r .refused, many-most untaken os);
-        sum = omega (arith, r .sum, sum-low os s, mul-le-mul-right 1_400_000_000 few);
+        sum = omega (arith, r .sum, sum-low os s, mul-le-mul-right 1_125_000_000 few);
         v = omega (arith, r .v, many-most (ofTaken (λ w. byV (w .figures))) os);
         vm = omega (arith, r .vm, many-most (ofTaken (λ w. byVm (w .figures))) os);
         star = omega (arith, r .star, many-most (ofTaken (λ w. byStar (w .figures))) os);

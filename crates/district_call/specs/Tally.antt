@@ -1,10 +1,10 @@
 -- What counting asks for, so that no counter wraps and every accepted job has a cell.
---   Sorted o        an accepted job has a weight, and V_D of at most 1,125 N for each kN of it; and at most 1,400,000,000 N
+--   Sorted o        an accepted job has a weight, and V_D of at most 1,125 N for each kN of it; and at most 1,125,000,000 N
 --   Small t         totals that one job more does not make wrap
 --   LowCells cs     the same of cells
 use Prim.Native.Nat.{ℕ, _*_, _≤_, _<_}
 use mathlib.Core.List.{List}
-use lib.ListN.{length, getD}
+use lib.ListN.{getD}
 use Rattle.limits.specs.Outcome.{Outcome, accepted, refused}
 use Rattle.district_call.specs.declared.report.Totals.{Totals}
 use Rattle.district_call.specs.declared.weighed.Weighed.{Weighed}
@@ -12,7 +12,7 @@ use Rattle.district_call.specs.declared.weighed.Weighed.{Weighed}
 pub record Ratio (w : Weighed) : Type 0 where
   pub weight : 0 < w .weight
   pub most : w .figures .vd ≤ 1_125 * w .weight
-  pub base : w .figures .vd ≤ 1_400_000_000
+  pub base : w .figures .vd ≤ 1_125_000_000
 
 abbrev pub Sorted : Outcome Weighed → Type 0
 Sorted (accepted w) = Ratio w

@@ -97,7 +97,7 @@ impl Totals {
     }
 
     fn with_taken(self, n: Figures) -> Totals
-        requires { ⌜ Small self × (n .vd ≤ 1_400_000_000) ⌝ }
+        requires { ⌜ Small self × (n .vd ≤ 1_125_000_000) ⌝ }
         ensures { λ r. ⌜ r ≡ withFigures self n ⌝ }
     {
         Totals {

@@ -1,7 +1,7 @@
 -- A row of a district and a whole district are given the first refusal that applies: 21 of a stretch outside the store, else what the job on it is
 -- given; 22 of the whole call.
 -- Assumes nothing.
-use mathlib.Core.Path.{_≡_, refl, sym}
+use mathlib.Core.Path.{_≡_, refl}
 use mathlib.Core.Bool.{Bool, true, false}
 use mathlib.Core.List.{List}
 use mathlib.Core.Logic.{inr, inl}
@@ -12,13 +12,11 @@ use lib.ListN.{length}
 use borrow.Author.Tests.{leb-true, leb-false, lt-leb, eqb-false, ne-eqb}
 use Rattle.limits.specs.declared.frame.FrameValues.{FrameValues}
 use Rattle.limits.specs.declared.ground.GroundValues.{GroundValues}
-use Rattle.limits.specs.declared.judging.Given.{Given}
-use Rattle.limits.specs.Applies.{JobApplies, StretchApplies, outside, RowApplies, of-stretch, of-job, DistrictApplies, jobs-many, store-lists, row-buffer}
+use Rattle.limits.specs.Applies.{JobApplies, outside, RowApplies, of-stretch, of-job, DistrictApplies, jobs-many, store-lists, row-buffer}
 use Rattle.limits.specs.District.{stretch, judgedStretch, judgedDistrict}
 use Rattle.limits.specs.FirstRefusal.{FirstRefusal}
 use Rattle.limits.specs.Judging.{judgedJob, judgedRow}
-use Rattle.limits.specs.Order.{NoLater}
-use Rattle.limits.specs.Outcome.{Outcome, accepted, refused, Done, require, _>>_}
+use Rattle.limits.specs.Outcome.{require, _>>_}
 use Rattle.limits.proofs.First.{first-refusal}
 use Rattle.limits.proofs.Foremost.{job-first}
 use Rattle.limits.proofs.Passed.{never, one-refusal}

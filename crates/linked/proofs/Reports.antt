@@ -2,7 +2,7 @@
 -- returned it was taken, and no second reply meets the contract.
 --   Behind h cs i out    the first i numbers of out are the six of h and the first i − 6 of the cells cs
 -- Assumes nothing.
-use mathlib.Core.Path.{_≡_, refl, sym, ap, ap₂, _∙_}
+use mathlib.Core.Path.{_≡_, refl, sym, ap, _∙_}
 use mathlib.Core.List.{List, [], _∷_, _++_, append-assoc}
 use Prim.Native.Nat.{ℕ, suc, _+_, _-_, _≤_, _<_}
 use native.Mathlib.Numerals.{add-one}

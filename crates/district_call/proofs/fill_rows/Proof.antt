@@ -3,7 +3,7 @@
 use borrow.Author.Needs.{needs}
 use mathlib.Core.List.{List, [], map}
 use mathlib.Core.Path.{_≡_, sym, ap, subst, subst₂, _∙_}
-use Prim.Native.Nat.{ℕ, _+_, _-_, _≤_, _<_}
+use Prim.Native.Nat.{ℕ, _+_, _-_, _≤_}
 use native.Mathlib.Omega.{arith}
 use lib.ListN.{length, getD, length-map, replicate}
 use Rattle.whole.specs.Cells.{laid}

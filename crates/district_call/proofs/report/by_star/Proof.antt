@@ -1,6 +1,5 @@
 -- `district_call::report::by_star` meets its contract. Assumes nothing.
 use borrow.Author.Tests.{eq-eqb, ne-eqb}
-use mathlib.Core.Path.{refl}
 use Rattle.district_call.specs.Report.{byStar}
 use Rattle.district_call.proofs.report.by_star.Statement.{statement}
 use Rattle.district_call.proofs.report.by_star.Tie as tie

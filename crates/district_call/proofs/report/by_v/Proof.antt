@@ -1,5 +1,4 @@
 -- `district_call::report::by_v` meets its contract. Assumes nothing.
-use borrow.Author.Tests.{eq-eqb, ne-eqb}
 use mathlib.Core.Path.{refl}
 use Rattle.district_call.specs.Report.{byV}
 use Rattle.district_call.proofs.report.by_v.Statement.{statement}

@@ -1,6 +1,5 @@
 -- `district_call::report::by_vm` meets its contract. Assumes nothing.
 use borrow.Author.Tests.{eq-eqb, ne-eqb}
-use mathlib.Core.Path.{refl}
 use Rattle.district_call.specs.Report.{byVm}
 use Rattle.district_call.proofs.report.by_vm.Statement.{statement}
 use Rattle.district_call.proofs.report.by_vm.Tie as tie

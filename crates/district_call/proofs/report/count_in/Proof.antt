@@ -1,13 +1,12 @@
 -- `district_call::report::count_in` meets its contract. Assumes nothing.
 use borrow.Author.Needs.{needs}
 use Rattle.district_call.specs.declared.weighed.WeighedAnswer.{WeighedAnswer}
-use mathlib.Core.Path.{sym, ap, subst, _∙_}
-use Prim.Native.Nat.{_<_}
+use mathlib.Core.Path.{sym, ap, subst}
 use native.Mathlib.Omega.{arith}
 use Rattle.district_call.proofs.CellOf.{cell-low}
 use Rattle.district_call.specs.Weighed.{weighedOutcome}
 use Rattle.district_call.specs.Tally.{Ratio, Sorted}
-use Rattle.district_call.specs.Report.{thousandths, cellOf, countedIn}
+use Rattle.district_call.specs.Report.{countedIn}
 use Rattle.district_call.proofs.report.count_in.Statement.{statement}
 use Rattle.district_call.proofs.report.count_in.Tie as tie
 

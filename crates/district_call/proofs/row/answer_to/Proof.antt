@@ -2,10 +2,10 @@
 use borrow.Author.Needs.{needs}
 use Rattle.district_call.proofs.Rows.{stretch-inside, row-outside, row-inside}
 use Rattle.district_call.specs.Weighed.{weighedJob}
-use Rattle.district_call.specs.Entered.{Entered, entered}
-use mathlib.Core.Path.{_≡_, refl, sym, ap, _∙_}
+use Rattle.district_call.specs.Entered.{entered}
+use mathlib.Core.Path.{refl, sym, ap, _∙_}
 use lib.ListN.{length}
-use Rattle.limits.specs.Outcome.{verdictOutcome, accepted}
+use Rattle.limits.specs.Outcome.{verdictOutcome}
 use Rattle.limits.specs.declared.district.Stretch.{Stretch}
 use Rattle.limits.specs.District.{stretch, judgedStretch}
 use Rattle.limits.proofs.Stages.{says, stopped}

@@ -5,7 +5,6 @@ use Rattle.limits.proofs.Stages.{says, stopped}
 use Rattle.limits.specs.Outcome.{accepted}
 use Rattle.job.specs.ShearCall.{answerOutcome}
 use Rattle.district_call.proofs.WeighedJobs.{weighed-refused, weighed-accepted, figured-weight}
-use Rattle.district_call.specs.declared.weighed.Weighed.{Weighed}
 use Rattle.district_call.proofs.weighed.weighed_job.Statement.{statement}
 use Rattle.district_call.proofs.weighed.weighed_job.Tie as tie
 

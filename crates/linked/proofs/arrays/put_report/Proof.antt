@@ -4,7 +4,7 @@ use mathlib.Core.List.{List, _++_}
 use mathlib.Core.Path.{refl, ap, _∙_}
 use Prim.Native.Nat.{ℕ, _-_}
 use native.Mathlib.Omega.{arith}
-use lib.ListN.{length, take, length-set}
+use lib.ListN.{take, length-set}
 use Rattle.linked.proofs.Reports.{Behind, behind-none, behind-more, behind-all, six-set}
 use Rattle.linked.proofs.arrays.put_report.Statement.{statement}
 use Rattle.linked.proofs.arrays.put_report.Tie as tie

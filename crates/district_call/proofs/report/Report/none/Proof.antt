@@ -1,6 +1,5 @@
 -- `district_call::report::Report::none` meets its contract. Assumes nothing.
 use borrow.Author.Needs.{needs}
-use mathlib.Core.Path.{refl}
 use Rattle.whole.specs.Cells.{cells}
 use Rattle.district_call.specs.Report.{howMany, reportOf}
 use Rattle.district_call.proofs.report.Report.none.Statement.{statement}
