@@ -2,11 +2,13 @@ pub mod WeighedJobs
 pub mod Rows
 pub mod CellOf
 pub mod Counting
+pub mod AllSorted
 pub mod Tallied
 pub mod Districts
 pub mod Reports
 pub mod Answered
 pub mod JobRows
+pub mod RowsAlike
 pub mod RowCounts
 pub mod WorkedDistrict
 pub mod WrongDistricts

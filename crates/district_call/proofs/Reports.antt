@@ -20,7 +20,7 @@ use Rattle.district_call.specs.Report.{oneIf, howMany, ofTaken, taken, u
 use Rattle.district_call.specs.Tally.{Sorted}
 use Rattle.district_call.proofs.CellOf.{cell-low}
 use Rattle.district_call.proofs.Counting.{many-join, two-part, three-part}
-use Rattle.district_call.proofs.Tallied.{AllSorted, sum-low}
+use Rattle.district_call.proofs.AllSorted.{AllSorted, sum-low}
 
 pub totals-are : (os : List (Outcome Weighed)) → reportOf os .totals ≡ totalsOf os
 unfolding reportOf

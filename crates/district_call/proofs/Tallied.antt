@@ -1,11 +1,10 @@
 -- Totals and cells that are counted answer by answer: after i answers what they hold, with what is still to come, is what the report says of all.
---   AllSorted os        so is each of os
 --   Tallied os i t cs   t and cs are the totals and the cells after i of os
 -- Assumes nothing.
 use mathlib.Core.Path.{_≡_, refl, sym, _∙_}
 use mathlib.Core.Bool.{Bool, true, false}
-use mathlib.Core.List.{List, [], _∷_, map}
-use Prim.Native.Nat.{ℕ, zero, suc, _+_, _*_, _≤_, _<_}
+use mathlib.Core.List.{List, [], map}
+use Prim.Native.Nat.{ℕ, zero, suc, _+_, _≤_, _<_}
 use native.Mathlib.Nat.{mul-le-mul-right}
 use native.Mathlib.Numerals.{add-one}
 use native.Mathlib.Omega.{arith}
@@ -20,16 +19,9 @@ use Rattle.district_call.specs.declared.report.Totals.{Totals}
 use Rattle.district_call.specs.declared.weighed.Weighed.{Weighed}
 use Rattle.district_call.specs.Report.{oneIf, howMany, ofTaken, taken, untaken, byV, byVm, byStar, vdOf, cellOf, cellsMost, inCell, totalsOf, reportOf, withAnswer, countedIn}
 use Rattle.district_call.specs.Tally.{Sorted, Small, LowCells}
+use Rattle.district_call.proofs.AllSorted.{AllSorted, sum-low}
 use Rattle.district_call.proofs.CellOf.{cell-low}
 use Rattle.district_call.proofs.Counting.{many-step, many-end, many-most}
-
-abbrev pub AllSorted : List (Outcome Weighed) → Type 0
-AllSorted [] = Unit {0}
-AllSorted (o ∷ os) = Sorted o × AllSorted os
-
-pub all-sorted : {A : Type 0} (f : A → Outcome Weighed) → ((a : A) → Sorted (f a)) → (l : List A) → AllSorted (map f l)
-all-sorted f h [] = tt
-all-sorted f h (a ∷ l) = (h a, all-sorted f h l)
 
 -- what stands where no answer does
 abbrev pub nothing : Outcome Weighed
@@ -89,34 +81,39 @@ unfolding countedIn
 counted-size (refused n p) cs = refl
 counted-size (accepted w) cs = length-set cs (cellOf w) _
 
-module _ (os : List (Outcome Weighed)) (i : ℕ) (t : Totals) (cs : List ℕ) (h : i < length os) (r : Tallied os i t cs) where
-  more : (o : Outcome Weighed) → getD os i nothing ≡ o → Sorted o → Tallied os (i + 1) (withAnswer t o) (countedIn o cs)
-  unfolding withAnswer
-  more (accepted w) e s =
-      record {
-        accepted = omega (arith, r .accepted, rw e at (many-step nothing taken os i h));
-        refused = omega (arith, r .refused, rw e at (many-step nothing untaken os i h));
-        sum = omega (arith, r .sum, rw e at (sum-step os i h));
-        v = omega (arith, r .v, rw e at (many-step nothing (ofTaken (λ w. byV (w .figures))) os i h));
-        vm = omega (arith, r .vm, rw e at (many-step nothing (ofTaken (λ w. byVm (w .figures))) os i h));
-        star = omega (arith, r .star, rw e at (many-step nothing (ofTaken (λ w. byStar (w .figures))) os i h));
-        cells = λ k. omega (arith, r .cells k, counted-at (accepted w) cs s (r .size) k, rw e at (many-step nothing (inCell k) os i h));
-        size = counted-size (accepted w) cs ∙ r .size;
-      }
-  more (refused n p) e s =
-      record {
-        accepted = omega (arith, r .accepted, rw e at (many-step nothing taken os i h));
-        refused = omega (arith, r .refused, rw e at (many-step nothing untaken os i h));
-        sum = omega (arith, r .sum, rw e at (sum-step os i h));
-        v = omega (arith, r .v, rw e at (many-step nothing (ofTaken (λ w. byV (w .figures))) os i h));
-        vm = omega (arith, r .vm, rw e at (many-step nothing (ofTaken (λ w. byVm (w .figures))) os i h));
-        star = omega (arith, r .star, rw e at (many-step nothing (ofTaken (λ w. byStar (w .figures))) os i h));
-        cells = λ k. omega (arith, r .cells k, counted-at (refused n p) cs s (r .size) k, rw e at (many-step nothing (inCell k) os i h));
-        size = counted-size (refused n p) cs ∙ r .size;
-      }
+-- what each total is with one answer more
+record Answered (t : Totals) (o : Outcome Weighed) (t′ : Totals) : Type 0 where
+  accepted : t′ .accepted ≡ oneIf (taken o) + t .accepted
+  refused : t′ .refused ≡ oneIf (untaken o) + t .refused
+  sum : t′ .sum ≡ vdOf o + t .sum
+  v : t′ .v ≡ oneIf (ofTaken (λ w. byV (w .figures)) o) + t .v
+  vm : t′ .vm ≡ oneIf (ofTaken (λ w. byVm (w .figures)) o) + t .vm
+  star : t′ .star ≡ oneIf (ofTaken (λ w. byStar (w .figures)) o) + t .star
 
+answered : (t : Totals) (o : Outcome Weighed) → Answered t o (withAnswer t o)
+unfolding withAnswer
+answered t (accepted w) =
+    record { accepted = omega arith; refused = omega arith; sum = omega arith; v = omega arith; vm = omega arith; star = omega arith }
+answered t (refused n p) =
+    record { accepted = omega arith; refused = omega arith; sum = omega arith; v = omega arith; vm = omega arith; star = omega arith }
+
+module _ (os : List (Outcome Weighed)) (i : ℕ) (t : Totals) (cs : List ℕ) (h : i < length os) (r : Tallied os i t cs) where
   pub tallied-more : (o : Outcome Weighed) → o ≡ getD os i nothing → Sorted o → Tallied os (i + 1) (withAnswer t o) (countedIn o cs)
-  tallied-more o e s = more o (sym e) s
+  tallied-more o e s =
+      let a = answered t o in
+      record {
+        accepted = omega (arith, r .accepted, a .accepted, step taken);
+        refused = omega (arith, r .refused, a .refused, step untaken);
+        sum = omega (arith, r .sum, a .sum, rw (← e) at (sum-step os i h));
+        v = omega (arith, r .v, a .v, step (ofTaken (λ w. byV (w .figures))));
+        vm = omega (arith, r .vm, a .vm, step (ofTaken (λ w. byVm (w .figures))));
+        star = omega (arith, r .star, a .star, step (ofTaken (λ w. byStar (w .figures))));
+        cells = λ k. omega (arith, r .cells k, counted-at o cs s (r .size) k, step (inCell k));
+        size = counted-size o cs ∙ r .size;
+      }
+    where
+      step : (p : Outcome Weighed → Bool) → howMany p (drop i os) ≡ oneIf (p o) + howMany p (drop (i + 1) os)
+      step p = rw (← e) at (many-step nothing p os i h)
 
 -- ---- all of them
 pub tallied-all : (os : List (Outcome Weighed)) (i : ℕ) (t : Totals) (cs : List ℕ) → length os ≤ i → Tallied os i t cs
@@ -146,12 +143,6 @@ tallied-all os i t cs h r =
     summed = omega (arith, r .sum, none-left)
 
 -- ---- no counter wraps
-pub sum-low : (os : List (Outcome Weighed)) → AllSorted os → sum (map vdOf os) ≤ length os * 1_125_000_000
-unfolding sum
-sum-low [] s = omega arith
-sum-low (accepted w ∷ os) s = omega (arith, sum-low os (s .1), s .0 .base)
-sum-low (refused n p ∷ os) s = omega (arith, sum-low os (s .1))
-
 module _ (os : List (Outcome Weighed)) (i : ℕ) (t : Totals) (cs : List ℕ) (few : length os ≤ 256) (r : Tallied os i t cs) where
   pub tallied-small : AllSorted os → Small t
   tallied-small s =

@@ -17,7 +17,8 @@ use Rattle.district_call.specs.declared.report.Totals.{Totals}
 use Rattle.district_call.specs.declared.weighed.Weighed.{Weighed}
 use Rattle.district_call.specs.Report.{cellsMost, reportOf, withAnswer, countedIn}
 use Rattle.district_call.specs.Tally.{Sorted, Small, LowCells}
-use Rattle.district_call.proofs.Tallied.{all-sorted, nothing, Tallied, tallied-none, tallied-more, tallied-all, tallied-small, tallied-low}
+use Rattle.district_call.proofs.AllSorted.{all-sorted}
+use Rattle.district_call.proofs.Tallied.{nothing, Tallied, tallied-none, tallied-more, tallied-all, tallied-small, tallied-low}
 use Rattle.sheets.proofs.Answered.{answer-sorted}
 use Rattle.sheets.proofs.Numbered.{Lined, lined-none, lined-all, lined-room, lined-more}
 use Rattle.sheets.proofs.Parts.{sheets-none, sheets-next, first-part}

@@ -17,7 +17,8 @@ use Rattle.district_call.specs.Tally.{Sorted}
 use Rattle.district_call.specs.Weighed.{weighedOutcome}
 use Rattle.district_call.specs.Row.{answerTo, rowOf}
 use Rattle.district_call.proofs.Rows.{row-sorted, map-at}
-use Rattle.district_call.proofs.Tallied.{all-sorted, nothing, Tallied, tallied-none, tallied-more, tallied-all, tallied-small, tallied-low}
+use Rattle.district_call.proofs.AllSorted.{all-sorted}
+use Rattle.district_call.proofs.Tallied.{nothing, Tallied, tallied-none, tallied-more, tallied-all, tallied-small, tallied-low}
 use Rattle.district_call.proofs.fill_rows.Statement.{statement}
 use Rattle.district_call.proofs.fill_rows.Tie as tie
 
