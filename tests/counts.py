@@ -145,6 +145,7 @@ def statements():
     yield 'docs/MAP.md', r'`run_sheets` \(N sheets, N of the Basin, N of the pairs, N of the roof force, N of two refusals and of limits, N of all refused\)', sheet
     yield 'docs/MAP.md', r'`run_refusals` \(N changed jobs, N in the Basin, N with two pairs\)', changed
     yield 'docs/MAP.md', r'`run_calls` \(N calls: N shear calls, N distributions with every cell of their buffers; N refused\)', call
+    yield 'docs/PROMISES.md', r'`run_districts` \(N districts, N of them refused as a whole', districts()[::2]
     yield 'docs/MAP.md', r'`run_districts` \(N districts of N jobs in all, with every cell of their rows; N refused as a whole\)', districts()
     yield 'docs/MAP.md', r'`run_logs` \(N soil logs, every blow count from 0 to N and every q from 0 to N\)', log
     yield 'docs/MAP.md', r'`vectors` holds the definitions to N jobs, N in the Basin, N with two pairs, N of all at the ends', vector[:4]
@@ -159,8 +160,8 @@ def statements():
     yield ('docs/LIMITS.md', r'agree with N jobs of an independent model, N of them in the Basin, N with two pairs of [^|]+? and N of all',
            vector[:4])
     yield 'docs/MEASURED.md', r'`\.ci/run` in a fresh clone, [^.]*? N passed', (passed,)
-    yield ('docs/MEASURED.md', r'It runs N stored jobs, N changed jobs, N sheets, N calls of the shear call and the distribution and N soil logs, and computes N',
-           (job, changed[0], sheet[0], call[0], log[0], vector[0]))
+    yield ('docs/MEASURED.md', r'It runs N stored jobs, N changed jobs, N sheets, N calls of the shear call and the distribution, N districts and N soil logs, and computes N',
+           (job, changed[0], sheet[0], call[0], districts()[0], log[0], vector[0]))
     yield 'docs/MEASURED.md', r'check_model` makes N checks of the model', (checks,)
     yield 'docs/MEASURED.md', r'`tests/tried\.sh` tries N more edits', (tried,)
     yield 'docs/DECISIONS.md', r'the N jobs of the model are compared by a computed statement', (vector[0],)
