@@ -45,8 +45,12 @@ print() {
     printf %s "$printed" 2>/dev/null || cannot 'the listing could not be written'
 }
 
-# What can be seen of a bad line, by its number, of a sheet in a file.
+# What can be seen of a bad line, by its number, of the file of a sheet; of a file of sheets a third word is given.
 seen() {
+    if [ -n "${3-}" ] && [ ! -s "$2" ]; then
+        echo ': the sheet has no byte: is there an empty line too many?'
+        return
+    fi
     line=$(sed -n "${1}p" "$2" | tr -d '\000')
     why= open=
     if [ "$(wc -l <"$2")" -lt "$1" ]; then
@@ -70,7 +74,14 @@ seen() {
     [ -z "$why" ] || echo ": ${why#, }"
 }
 
-# What a refusal of a sheet means: its number, its place, and the file of the sheet, which is looked at for 16 alone.
+# Why a sheet of a file of sheets may be too long: lines that end in CR, which are never empty, or no empty line after it.
+too_long() {
+    ended=$(tr '\000' '\001' <"$1" | grep -c "$(printf '\r')\$")
+    if [ "$ended" -gt 0 ]; then echo ": a CR stands at the end of $ended of its lines"; else echo ': does an empty line stand between the sheets?'; fi
+}
+
+# What a refusal of a sheet means: its number, its place, and the file of the sheet, which is looked at for 16; of a file of sheets also the line of the
+# file at which the sheet begins, and the sheet is looked at for 17 too.
 meaning() {
     at=
     case $1 in
@@ -86,8 +97,8 @@ meaning() {
     10) means='alpha-y out of its range' ;;
     11) means='unknown kind of frame' ;;
     12) means='calculated period out of its range' ;;
-    16) means="line not as laid out$(seen "$2" "$3")" at="line $2" ;;
-    17) means='sheet over 4,096 bytes' ;;
+    16) means="line not as laid out$(seen "$2" "$3" "${4-}")" at="line $2${4:+, line $(($2 + $4 - 1)) of the file}" ;;
+    17) means="sheet over 4,096 bytes${4:+$(too_long "$3")}" ;;
     18) means='zone not 1 to 4' ;;
     22) means='over 256 sheets, or over 1,048,832 bytes' ;;
     *) means='a refusal that this script does not know' ;;

@@ -10,6 +10,7 @@ target/lib/librukeshomaji.so, or what RUKESHOMAJI_LIBRARY names.
 """
 
 import ctypes
+import itertools
 import operator
 import os
 import pathlib
@@ -194,7 +195,7 @@ def in_basin(zone, frame, start, count):
 def district(jobs, weights, heights):
     """A row for each job, and the report of all; weights and heights are the store of levels that the jobs share."""
     numbers = [(basin, zone, *_array(site, 9), *_array(frame, 5), start, count) for basin, zone, site, frame, start, count in jobs]
-    given, weights, heights, width = _array(sum(numbers, ())), _array(weights), _array(heights), len(Row._fields)
+    given, weights, heights, width = _array(itertools.chain.from_iterable(numbers)), _array(weights), _array(heights), len(Row._fields)
     rows, reply = (U64 * (width * len(numbers)))(), (U64 * (len(Report._fields) - 1 + CELLS))()
     number = _core.rukeshomaji_district(given, len(numbers), weights, len(weights), heights, len(heights), rows, len(numbers), reply)
     if number:

@@ -8,10 +8,10 @@
  *
  *   Every input is taken. An entry returns 0, or the number of the first refusal that applies; it writes no message and ends no program.
  *   A district returns 0 also where some of its jobs are refused: each row has a number and a place of its own.
- *   Every field of `figures`, `reply` or `report`, and `place`, is written at each call. Where data is refused, all but the place and a
- *   listing's length are 0.
- *   Where data is refused the buffers of a job or a distribution, and the rows of a district, hold what they held. A listing's bytes past its
- *   length, and rows past the last job, hold what they held in any case.
+ *   Every field of `figures`, `reply` or `report`, and `place`, is written at each call. Where the call is refused, all but the place and a
+ *   listing's length are 0. A refused job of a district has zeros for figures in its own row; the report counts it.
+ *   Where the call is refused the buffers of a job or a distribution, and the rows of a district, hold what they held. A listing's bytes past
+ *   its length, and rows past the last job, hold what they held in any case.
  *   Nothing is kept between calls: an answer depends on its own call alone. Calls may run at once, from any threads, also over lists that
  *   they share, as long as nothing that one of them writes to is used by another.
  *   A list or a buffer is a pointer and a count of its elements. With a count of 0 the pointer may be NULL, which is tried and not proved

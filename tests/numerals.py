@@ -141,6 +141,12 @@ def of_rules():
     yield 'meet at 0.3 and 0.8'
 
 
+def at_the_end():
+    """What a stretch of no level gets at the end of a store of seven levels, and beyond it."""
+    store, site, frame = ([1] * 7, list(range(1, 8))), limits.one_pair(80, 45, 100, 55, 100, 100, 1), limits.Frame(2, 0, 480, 100, 150)
+    return [district.answer_of(district.DistrictJob(0, 0, site, frame, start, 0), *store).row.number for start in (7, 8)]
+
+
 def of_refusals():
     """Sentences of the page of refusals."""
     site, basin, log, handed = (order(call) for call in ('job', 'basin_job', 'site_class', 'distribution'))
@@ -174,6 +180,8 @@ def of_refusals():
     yield (f'For cohesive N above {soil.VALUE[soil.COHESIVE][-1]}, and for cohesionless N of {soil.VALUE[soil.COHESIONLESS][0] - 1} or above '
            f'{soil.VALUE[soil.COHESIONLESS][-1]}')
     yield f'the log must reach {soil.THICKNESS_SUM // 100} m'
+    at_end, beyond = at_the_end()
+    yield f'is more than the number of levels in the store; in a store of seven levels start 7 with count 0 gets {at_end}, and start 8 gets {beyond}'
 
 
 def of_scope():
@@ -197,7 +205,12 @@ def of_district_page():
     yield 'make a sheet without a byte. It has a row, refused with 16 at 1.'
     yield f'A sheet has at most {comma(sheet.MOST_BYTES)} bytes, else its row is refused with 17.'
     yield f'lowest level first, {limits.LEVELS[0]} to {limits.LEVELS[-1]} levels. 3 and 4 have the number of the level in the stretch, from 1.'
-    yield f'is refused with 1, one of over {limits.LEVELS[-1]} levels too. A `start` beyond the end of the store is {district.OUTSIDE}, even if `count` is 0.'
+    yield f'Else one of no level is refused with 1, and one of over {limits.LEVELS[-1]} levels too.'
+    at_end, beyond = at_the_end()
+    yield f'In a store of seven levels `start` 7 with `count` 0 gets {at_end}, and `start` 8 gets {beyond}, whatever `count` is.'
+    most_sum = district.MOST_JOBS * most_thousandths() * limits.TOTAL_WEIGHT[-1]
+    yield f'is at most {comma(most_sum)} N, so 64 bits hold the sum of some {2**64 // most_sum // 10**6} million calls.'
+    yield f'Row 1 of part0001.sheets is then sheet {district.MOST_JOBS + 1} of the whole file.'
 
 
 def of_others():

@@ -10,7 +10,7 @@ import os
 import sys
 
 from tests.compares.run_program import ROOT, TWO_PAIRS, bad_lines, bytes_of, compared, refused, run, run_typed, run_with
-from tests.compares.said import meaning
+from tests.compares.said import of_sheets
 from tests.model import district, sheets
 from tests.writes.hundred_sheets import LISTING, SHEETS
 
@@ -24,8 +24,8 @@ def answer(data, seen=None):
     """What is printed, said and returned for a file; seen is what can be seen of lines that are refused, by the numbers of their sheets."""
     if sheets.refused_whole(data):
         return sheets.listing(data), f'district: refusal {district.WHOLE}: {TOO_MANY}\n'.encode(), 1
-    rows = [sheets.answer(part).row for part in sheets.parts(data)]
-    lines = [f"district: sheet {number}: {meaning(row.number, row.place, (seen or {}).get(number, ''))}\n" for number, row in enumerate(rows, 1) if row.number]
+    parts = sheets.parts(data)
+    lines = [f'{line}\n' for line in of_sheets(parts, [sheets.answer(part).row for part in parts], seen)]
     return sheets.listing(data), ''.join(lines).encode(), 1 if lines else 0
 
 
@@ -39,11 +39,14 @@ def damaged():
             yield f'{name}, and an LF after it', sheets.write([WORKED, data, WORKED]), {2: seen.removesuffix('no LF ends it').removesuffix(', ')}
         else:
             yield name, sheets.write([WORKED, data, WORKED]), {2: seen}
-    yield 'an empty line at the front', b'\n' + sheets.write([WORKED]), {1: BEFORE_IT}
-    yield 'three empty lines between two sheets', sheets.write([WORKED, b'', b'', WORKED]), {2: BEFORE_IT, 3: BEFORE_IT}
+    yield 'an empty line at the front', b'\n' + sheets.write([WORKED]), {}
+    yield 'three empty lines between two sheets', sheets.write([WORKED, b'', b'', WORKED]), {}
+    for name, line, seen in (('a blank', b' ', 'a blank stands in it: fields are separated by one tab'), ('a tab', b'\t', ''),
+                             ('a CR', b'\r', 'a CR stands at its end')):
+        yield f'a line with {name} between two sheets', sheets.write([WORKED, WORKED + line + b'\n' + WORKED, WORKED]), {2: seen}
     yield 'a NUL alone on a line', sheets.write([WORKED, b'\0\n' + WORKED, b'basin\t3\n']), {3: BEFORE_IT}
     yield 'bytes beyond ASCII', sheets.write([b'\xff\xfe\n', WORKED.replace(b'\n', b'\r\n')]) + b'\x80', {2: 'a CR stands at its end', 3: 'no LF ends it'}
-    yield 'nothing but sheets without a byte', b'\n' * 5, dict.fromkeys(range(1, 6), BEFORE_IT)
+    yield 'nothing but sheets without a byte', b'\n' * 5, {}
 
 
 def files():
@@ -55,9 +58,12 @@ def files():
     for before, good in (('', WORKED), ('Basin, ', b'basin\t3\n' + WORKED.split(b'\n', 1)[1]), ('two pairs, ', TWO_PAIRS + WORKED.split(b'\n', 1)[1])):
         yield f'{before}every refusal', sheets.write([data for _, data in refused(good)]), {}
     yield 'a sheet that is too long', sheets.write([WORKED, WORKED + b'level\t1\t1\n' * 500, WORKED]), {}
+    yield 'a sheet that is too long, with CR and NUL in it', sheets.write([WORKED, b'\0\r\n\r\0\n' * 1_000 + b'\r', WORKED]), {}
+    yield 'the hundred sheets with Windows line ends', SHEETS.read_bytes().replace(b'\n', b'\r\n'), {}
+    yield 'a hundred sheets without an empty line', SHEETS.read_bytes().replace(b'\n\n', b'\n'), {}
     yield '256 sheets', sheets.write([WORKED] * 256), {}
     yield '257 sheets', sheets.write([WORKED] * 257), {}
-    yield '256 empty lines', b'\n' * 256, dict.fromkeys(range(1, 257), BEFORE_IT)
+    yield '256 empty lines', b'\n' * 256, {}
     yield 'as many bytes as may be', b'x' * sheets.MOST_BYTES, {}
     yield 'a byte more', b'x' * (sheets.MOST_BYTES + 1), {}
 

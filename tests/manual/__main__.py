@@ -6,7 +6,8 @@ usage: python3 -m tests.manual
 - each field of a sheet has the range of the model, its line has that many fields, a `site` line seven or nine, and classes and kinds have
   the model's coefficients
 - each refusal from 1 to 22 has a row, its ranges are the model's, and its example gets what the row says
-- the loop that joins sheets, run by the shell on a folder, makes the file that the page says; a file of sheets and its listing are what is written
+- the loop that joins sheets, run by the shell on a folder, makes the file that the page says; so do the commands that find one sheet and that split a
+  file; a file of sheets and its listing are what is written, and what the model's command prints
 - each rule, worked out as the page writes it, gives the model's number, and is rounded to the side that the page names; so do those of the
   Taipei Basin
 - sheet and listing are those of examples/ wherever they are shown, README.md included; every page is in the list of pages

@@ -3,10 +3,11 @@
 What the page says in words is asserted here of the model.
 """
 
+import re
 from fractions import Fraction
 from math import ceil
 
-from tests.compares.said import meaning
+from tests.compares.said import of_sheets
 from tests.model import district, limits, sheet, sheets
 from tests.writes import hundred_sheets as hundred
 from tests.writes.by_hand.ground import CLASS_NAMES
@@ -66,10 +67,18 @@ def sheets_names(every):
     lines = [part.decode().split('\n') for part in hundred.hundred()]
     R, weight, meant = lines[hundred.BAD_R - 1][1].split('\t')[3], lines[hundred.BAD_WEIGHT - 1][3].split('\t')[1], hundred.building(hundred.BAD_R)[1].R
     assert '.' in lines[hundred.DAMAGED - 1][3] and int(weight) > limits.WEIGHT[-1] and int(R) * 10 == meant
-    said = [f'district: sheet {number}: {meaning(*each.row[:2])}' for number, each in every.items() if each.row.number]
+    said = list(of_sheets(hundred.hundred(), [each.row for each in every.values()]))
     return {'blocks_table': blocks_table(), 'rows': code(shown), 'said': code(said), 'damaged': str(hundred.DAMAGED), 'bad_R': str(hundred.BAD_R),
             'bad_weight': str(hundred.BAD_WEIGHT), 'R_typed': R, 'R_meant': str(meant), 'weight_typed': comma(int(weight)),
-            'smallest_ground': ground_words(hundred.made()[hundred.SMALLEST][0]), 'largest_ground': ground_words(hundred.made()[hundred.LARGEST][0])}
+            **own_lines(lines)}
+
+
+def own_lines(lines):
+    """Line 1 of the two sheets that have a site of their own: the lowest mapped values, and the largest near-fault factors."""
+    (smallest, *_), (largest, *_) = (hundred.made()[number] for number in (hundred.SMALLEST, hundred.LARGEST))
+    assert smallest[:4] == tuple(values[0] for values in (limits.S_S_DESIGN, limits.S_1_DESIGN, limits.S_S_MCE, limits.S_1_MCE))
+    assert largest[4:8] == (limits.N_A[-1], limits.N_V[-1]) * 2
+    return {name: lines[number - 1][0].replace('\t', ' ') for name, number in (('smallest_line', hundred.SMALLEST), ('largest_line', hundred.LARGEST))}
 
 
 def report_names(every):
@@ -125,7 +134,13 @@ def edge_names(every):
             'below': decimal(Fraction(V_D - 1, W)), 'below_words': cell_words(V_D - 1, W), 'largest': str(hundred.LARGEST),
             'most': comma(district.thousandths(most.row.V_D, most.W)), 'most_words': cell_words(most.row.V_D, most.W), 'smallest': str(hundred.SMALLEST),
             'least': str(district.thousandths(least.row.V_D, least.W)), 'largest_R': hundredths(frame.R), 'largest_I': hundredths(frame.I),
-            'largest_alphay': hundredths(frame.alphay), 'largest_NA': hundredths(site.NA)}
+            'largest_alphay': hundredths(frame.alphay), 'largest_NA': hundredths(site.NA), 'least_shear': least_shear()}
+
+
+def least_shear():
+    """V* of 1 kN with the least p of a site, as the page on the sheet works it out."""
+    said = re.search(r' = ([\d.]+…), rounded up', (hundred.ROOT / 'docs' / 'manual' / 'sheet.md').read_text())
+    return said[1]
 
 
 def tie_names(every):
@@ -145,7 +160,7 @@ def limits_names():
             'bytes_steps': f'{district.MOST_JOBS} · ({comma(sheet.MOST_BYTES)} + 1) = {comma(sheets.MOST_BYTES)}', 'sheet_bytes': comma(sheet.MOST_BYTES),
             'last_cell': f'{comma(CELL * (district.CELLS - 1))} to {comma(CELL * district.CELLS - 1)}', 'city': comma(CITY),
             'call_steps': f'{comma(CITY)} / {district.MOST_JOBS} = {decimal(Fraction(CITY, district.MOST_JOBS))}, up: {comma(calls)}',
-            'most_sum': comma(most), 'levels': str(limits.LEVELS[-1]), 'outside': str(district.OUTSIDE), 'whole': str(district.WHOLE)}
+            'most_sum': comma(most), 'calls_held': str(2**64 // most // 10**6), 'next_sheet': str(district.MOST_JOBS + 1), 'levels': str(limits.LEVELS[-1]), 'outside': str(district.OUTSIDE), 'whole': str(district.WHOLE)}
 
 
 def names():

@@ -34,10 +34,11 @@ def district_lines():
 def in_c():
     """The lists and the call, as the program in C has them."""
     text = SOURCE.read_text()
+    counts = re.search(r'^enum {( JOBS = \d+, LEVELS = \d+), WIDTH = \d+ };$', text, re.M)[1]
     lists = re.search(r'^static const uint64_t weights.*?^    \{.*?\}\};$', text, re.M | re.S)[0]
     call = [line.strip() for line in text.split('\n') if re.match(r'    (RukeshomajiRow rows|RukeshomajiReport report;|uint64_t refused)', line)]
     assert len(call) == 3
-    return '\n'.join(['```c', *lists.split('\n'), '', *call, '```'])
+    return '\n'.join(['```c', f'enum {{{counts} }};', '', *lists.split('\n'), '', *call, '```'])
 
 
 def job_cells(job, answer):

@@ -12,7 +12,7 @@ use Rattle.limits.specs.District.{stretch, judgedStretch}
 use Rattle.limits.specs.FirstRefusal.{FirstRefusal}
 use Rattle.limits.specs.Judging.{judgedJob, judgedRow}
 use Rattle.limits.specs.Outcome.{Outcome, accepted, refused, Done, number, place, values, _>>=_, _>>_}
-use Rattle.limits.proofs.DistrictStage.{row-first as judged-first}
+use Rattle.limits.proofs.DistrictStage.{row-first as judged-first, row-judged}
 use Rattle.limits.proofs.First.{first-of-value}
 use Rattle.limits.proofs.Passed.{one-value, then-passed, bind-passed}
 use Rattle.limits.specs.declared.judging.Given.{Given}
@@ -108,17 +108,19 @@ module _ (ws hs : List ℕ) (e : Entered) where
 
   answer-judged : answerTo ws hs e ≡ (judgedRow (e .ground) (e .frame) (e .start) (e .count) ws hs >>= λ g.
       accepted (record { figures = jobFigures g W H; weight = sum W }))
-  unfolding answerTo judgedRow weighedJob jobOf
+  unfolding answerTo weighedJob jobOf
   answer-judged =
       as-one (judgedStretch (length ws) (e .start) (e .count)) (judgedJob (e .ground) (e .frame) W H (length W)) (λ g. resultsOf g W H)
       (λ (r : Results). r .figures) (λ n. record { figures = n; weight = sum W })
+      ∙ ap (λ (o : Outcome Given). o >>= λ g. accepted (record { figures = jobFigures g W H; weight = sum W }))
+      (sym (row-judged (e .start) (e .count) ws hs (e .ground) (e .frame)))
 
   pub row-first : FirstRefusal (RowApplies (e .ground) (e .frame) (e .start) (e .count) ws hs) (answerTo ws hs e)
   row-first =
       let A = RowApplies (e .ground) (e .frame) (e .start) (e .count) ws hs in
       subst (FirstRefusal A) (sym answer-judged)
       (first-of-value A (judgedRow (e .ground) (e .frame) (e .start) (e .count) ws hs) (λ g. record { figures = jobFigures g W H; weight = sum W })
-      (judged-first (e .ground) (e .frame) (e .start) (e .count) ws hs))
+      (judged-first (e .start) (e .count) ws hs (e .ground) (e .frame)))
 
 -- ---- an accepted row: its stretch is inside the store, its figures are those of the job on it, its weight is theirs; and V_D keeps demand 3
 pub record AcceptedRow (ws hs : List ℕ) (e : Entered) (w : Weighed) : Type 0 where
@@ -130,11 +132,10 @@ pub record AcceptedRow (ws hs : List ℕ) (e : Entered) (w : Weighed) : Type 0 w
   pub kept : BaseDemand3 unit (givenHazards given) (given .frame) (w .weight) (w .figures .t) (w .figures .vd)
 
 pub accepted-row : (ws hs : List ℕ) (e : Entered) (w : Weighed) → answerTo ws hs e ≡ accepted w → AcceptedRow ws hs e w
-unfolding judgedRow
 accepted-row ws hs e w q =
     let r = bind-passed (judgedRow (e .ground) (e .frame) (e .start) (e .count) ws hs) _ (sym (answer-judged ws hs e) ∙ q) in
     let g = r .0 in
-    let j = then-passed (judgedStretch (length ws) (e .start) (e .count)) _ (r .1) in
+    let j = then-passed (judgedStretch (length ws) (e .start) (e .count)) _ (sym (row-judged (e .start) (e .count) ws hs (e .ground) (e .frame)) ∙ r .1) in
     let is = one-value (r .2) in
     let base = demand3-accepted (e .ground) (e .frame) (W ws hs e) (H ws hs e) (length (W ws hs e)) g (j .1) .base in
     record {

@@ -9,6 +9,7 @@ pub mod Reports
 pub mod Answered
 pub mod JobRows
 pub mod RowsAlike
+pub mod CallReports
 pub mod RowCounts
 pub mod WorkedDistrict
 pub mod WrongDistricts

@@ -1,6 +1,6 @@
 -- The report by the rows themselves: how many of them are of accepted jobs, the sum of their V_D, which shear governed in how many, and how many belong to
 -- each cell.
---   belongs k r W    whether a row r of a job of W kN is of an accepted job and belongs to cell k
+--   belongs k r W     whether a row r of a job of W kN is of an accepted job and belongs to cell k
 -- Assumes nothing.
 use mathlib.Core.Path.{_≡_, refl, sym, ap, _∙_}
 use mathlib.Core.Bool.{Bool, _&&_}
@@ -23,7 +23,8 @@ use Rattle.district_call.specs.District.{answersTo}
 use Rattle.district_call.specs.Entered.{Entered, entered}
 use Rattle.district_call.specs.Report.{howMany, ofTaken, taken, byV, byVm, byStar, thousandths, cellOf, cellsMost, inCell, vdOf, reportOf}
 use Rattle.district_call.specs.Row.{answerTo, rowOf, rowTaken, figuresIn}
-use Rattle.district_call.proofs.Answered.{TakenCall, rows-are}
+use Rattle.district_call.proofs.Answered.{TakenCall, rows-are, row-at}
+use Rattle.district_call.proofs.Counting.{many-map, sum-map, map-map, placesThat, many-places}
 use Rattle.district_call.proofs.JobRows.{row-first, accepted-row}
 use Rattle.district_call.proofs.Reports.{cell-counts}
 
@@ -72,22 +73,6 @@ module _ (ws hs : List ℕ) (e : Entered) where
           ap (λ (W : ℕ). eqb (down (down (w .figures .vd) W) 10) k) (sym (accepted-row ws hs e w q .weight))
       go (refused n p) q = rw (ne-eqb n 0 (refused-some ws hs e q))
 
--- ---- counts over a list that is made element by element
-many-map : {A B : Type 0} (f : A → B) (t : B → Bool) (s : A → Bool) → ((a : A) → t (f a) ≡ s a) → (l : List A)
-    → howMany t (map f l) ≡ howMany s l
-unfolding howMany
-many-map f t s h [] = refl
-many-map f t s h (a ∷ l) = rw (h a) (omega (arith, many-map f t s h l))
-
-sum-map : {A : Type 0} (f g : A → ℕ) → ((a : A) → f a ≡ g a) → (l : List A) → sum (map f l) ≡ sum (map g l)
-unfolding sum
-sum-map f g h [] = refl
-sum-map f g h (a ∷ l) = omega (arith, h a, sum-map f g h l)
-
-map-map : {A B C : Type 0} (g : B → C) (f : A → B) (l : List A) → map g (map f l) ≡ map (λ a. g (f a)) l
-map-map g f [] = refl
-map-map {C = C} g f (a ∷ l) = ap (λ (r : List C). g (f a) ∷ r) (map-map g f l)
-
 -- ---- the report of a call that was taken, by its rows
 module _ (js : List (List ℕ)) (ws hs : List ℕ) (old : List (List ℕ)) (a : DistrictAnswer) (held : List (List ℕ)) (t : TakenCall js ws hs old a held) where
   abbrev rows : List (List ℕ)
@@ -95,6 +80,10 @@ module _ (js : List (List ℕ)) (ws hs : List ℕ) (old : List (List ℕ)) (a : 
 
   abbrev answer : List ℕ → Outcome Weighed
   answer j = answerTo ws hs (entered j)
+
+  -- W of the job at place i
+  abbrev weightAt : ℕ → ℕ
+  weightAt i = let e = entered (getD js i []) in sum (stretch (e .start) (e .count) ws)
 
   made : rows ≡ map (λ j. rowOf (answer j)) js
   made = rows-are js ws hs old a held t ∙ map-map rowOf answer js
@@ -130,14 +119,15 @@ module _ (js : List (List ℕ)) (ws hs : List ℕ) (old : List (List ℕ)) (a : 
       governed : (f : Figures → Bool) → howMany (ofTaken (λ w. f (w .figures))) (answersTo js ws hs) ≡ howMany (λ r. rowTaken r && f (figuresIn r)) rows
       governed f = by-rows (λ r. rowTaken r && f (figuresIn r)) (ofTaken (λ w. f (w .figures))) (λ j. shown ws hs (entered j) f)
 
-  -- 'each cell equals the count of rows that belong there': of the jobs, each with its row and the weight of its stretch
+  -- 'each cell equals the count of rows that belong there': of the places below the number of jobs, each with its row and the weight of its job's stretch
   pub cell-rows : (k : ℕ) → k < cellsMost
-      → getD (a .report .cells) k 0
-      ≡ howMany (λ j. belongs k (rowOf (answer j)) (sum (stretch (entered j .start) (entered j .count) ws))) js
+      → getD (a .report .cells) k 0 ≡ placesThat (λ i. belongs k (getD held i []) (weightAt i)) (length js)
   cell-rows k h =
       ap (λ (r : Report). getD (r .cells) k 0) (t .report)
       ∙ cell-counts (answersTo js ws hs) k h
-      ∙ many-map answer (inCell k) (λ j. belongs k (rowOf (answer j)) (sum (stretch (entered j .start) (entered j .count) ws))) (λ j. sym (in-its-cell j)) js
+      ∙ many-map answer (inCell k) (λ j. inCell k (answer j)) (λ j. refl) js
+      ∙ many-places (λ j. inCell k (answer j)) (λ i. belongs k (getD held i []) (weightAt i)) [] js (λ i l. sym (there i l))
     where
-      in-its-cell : (j : List ℕ) → belongs k (rowOf (answer j)) (sum (stretch (entered j .start) (entered j .count) ws)) ≡ inCell k (answer j)
-      in-its-cell j = in-cell ws hs (entered j) k
+      there : (i : ℕ) → i < length js → belongs k (getD held i []) (weightAt i) ≡ inCell k (answer (getD js i []))
+      there i l =
+          ap (λ (r : List ℕ). belongs k r (weightAt i)) (row-at js ws hs old a held t i l) ∙ in-cell ws hs (entered (getD js i [])) k

@@ -8,7 +8,9 @@
 --   byV n, byVm n, byStar n    'which shear governed .., ties going to V, then V_M': V where it is V_D, else V_M where it is, else V*
 --   vdOf o             V_D of an accepted job, else 0
 --   cellsMost          how many cells there are
---   totalsOf os        accepted, refused, the sum of V_D, how often each shear governed; and cell k holds 'the count of rows that belong there'
+--   totalsOf os        accepted, refused, the sum of V_D, how often each shear governed
+--   inCell k o         whether a job was accepted and belongs to cell k
+--   reportOf os        the totals; and cell k holds 'the count of rows that belong there'
 --   withFigures t n, withAnswer t o, countedIn o cells    totals and cells with one job more, as the code counts them
 use mathlib.Core.Bool.{Bool, true, false, _&&_, not}
 use mathlib.Core.List.{List, [], _∷_, map}

@@ -1,5 +1,6 @@
 -- What counting asks for, so that no counter wraps and every accepted job has a cell.
---   Sorted o        an accepted job has a weight, and V_D of at most 1,125 N for each kN of it; and at most 1,125,000,000 N
+--   Ratio w         a weight above 0, and V_D of at most 1,125 N for each kN of it; and at most 1,125,000,000 N
+--   Sorted o        so is an accepted job
 --   Small t         totals that one job more does not make wrap
 --   LowCells cs     the same of cells
 use Prim.Native.Nat.{ℕ, _*_, _≤_, _<_}

@@ -15,7 +15,7 @@ use Rattle.limits.specs.Applies.{SiteApplies, ss-design, s1-design, ss-m
 use Rattle.limits.specs.Applies.{FrameApplies, r, i, alpha, kind, period, BuildingApplies, total, top}
 use Rattle.limits.specs.Applies.{HandedApplies, base-shear, handed-period, GivenApplies, of-first, of-ground, of-frame}
 use Rattle.limits.specs.Applies.{DistributionApplies, of-levels, of-handed}
-use Rattle.limits.specs.Applies.{outside, RowApplies, of-stretch, of-job, DistrictApplies, jobs-many, store-lists, row-buffer}
+use Rattle.limits.specs.Applies.{outside, of-stretch, of-own-levels, RowApplies, DistrictApplies, jobs-many, store-lists, row-buffer}
 use Rattle.limits.specs.Order.{InOrder}
 use Rattle.limits.proofs.Ascending.{OfBasin, OfDistribution}
 use Rattle.limits.proofs.InOrder.{in-order}
@@ -94,8 +94,11 @@ distribution-in-order {n = n} a = ⊎-elim (λ k. in-order n (omega arith)) (λ 
 -- ---- of a row of a district, and of a whole district
 pub numbered-row : {G : GroundValues} {f : FrameValues} {start count : ℕ} {ws hs : List ℕ} {n p : ℕ} → RowApplies G f start count ws hs n p
     → (1 ≤ n) × (n ≤ 21)
-numbered-row (of-stretch (outside o)) = omega arith
-numbered-row {G = G} {f = f} (of-job l a) = let h = at-most-18 _ (λ n p. numbered-levels) f G a in omega arith
+numbered-row (of-first (of-stretch (outside o))) = omega arith
+numbered-row (of-first (of-own-levels l a)) = let h = numbered-levels a in omega arith
+numbered-row {G = Site s} (of-ground a) = let h = numbered-site a in omega arith
+numbered-row {G = Basin z} (of-ground (zone o)) = omega arith
+numbered-row (of-frame a) = let h = numbered-frame a in omega arith
 
 pub row-in-order : {G : GroundValues} {f : FrameValues} {start count : ℕ} {ws hs : List ℕ} {n p : ℕ} → RowApplies G f start count ws hs n p → InOrder n
 row-in-order {n = n} a = in-order n (let h = numbered-row a in omega arith)

@@ -15,7 +15,7 @@ use Rattle.limits.specs.Applies.{SiteApplies, ss-design, s1-design, ss-m
 use Rattle.limits.specs.Applies.{GroundApplies, FrameApplies, r, i, alpha, kind, period, BuildingApplies, total, top}
 use Rattle.limits.specs.Applies.{base-shear, handed-period, of-first, of-ground, of-frame}
 use Rattle.limits.specs.Applies.{JobApplies, ShearCallApplies, DistributionApplies, of-levels, of-handed}
-use Rattle.limits.specs.Applies.{outside, RowApplies, of-stretch, of-job}
+use Rattle.limits.specs.Applies.{outside, of-stretch, of-own-levels, RowApplies}
 use Rattle.limits.proofs.Numbers.{numbered-levels, numbered-site, numbered-frame}
 
 -- the numbers from lo to hi name a place, the others have place 0
@@ -85,8 +85,10 @@ named-distribution (of-handed (handed-period o)) = inr (inr (omega arith), refl)
 
 pub named-row : {G : GroundValues} {f : FrameValues} {start count : ℕ} {ws hs : List ℕ} {n p : ℕ} → RowApplies G f start count ws hs n p
     → NamedIn 3 6 n p
-named-row (of-stretch (outside o)) = inr (inr (omega arith), refl)
-named-row (of-job l a) = named-job a
+named-row (of-first (of-stretch (outside o))) = inr (inr (omega arith), refl)
+named-row (of-first (of-own-levels l a)) = named-levels a
+named-row {G = G} (of-ground a) = from-three _ _ (five-ground G _ _ a) (named-ground G a)
+named-row (of-frame a) = from-three _ _ (let h = numbered-frame a in omega arith) (named-frame a)
 
 -- ---- where both hazard levels have one pair of near-fault factors
 module _ (s : SiteValues) (na-same : s .nam ≡ s .nad) (nv-same : s .nvm ≡ s .nvd) where

@@ -18,7 +18,8 @@
 --   ShearCallApplies G f W h n p            of the shear call, which judges its building first
 --   DistributionApplies v t ws hs room n p  of the distribution: of its levels, or of the base shear and the period that are handed in
 --   StretchApplies store start count n p    21: a stretch outside a store of so many levels
---   RowApplies G f start count ws hs n p    of a row of a district with the store ws and hs: of its stretch; where that is inside, of the job on it
+--   RowLevelsApply start count ws hs n p    of the levels that a row of a district names in the store ws and hs: 21 of its stretch; where that is inside, 1 to 4
+--   RowApplies G f b m ws hs n p            of a row of a district whose stretch starts at b and has m levels: it judges these first
 --   DistrictApplies jobs weights heights rows n p    22 of a whole district, by how many jobs, weights, heights and rows there are
 use mathlib.Core.Path.{_≡_}
 use mathlib.Core.List.{List, [], _∷_}
@@ -110,11 +111,14 @@ pub data DistributionApplies (v t : ℕ) (ws hs : List ℕ) (room n p : ℕ) : T
 pub data StretchApplies (store start count : ℕ) : ℕ → ℕ → Type 0 where
   outside : store < start + count → StretchApplies store start count 21 0
 
-pub data RowApplies (G : GroundValues) (f : FrameValues) (start count : ℕ) (ws hs : List ℕ) (n p : ℕ) : Type 0 where
-  of-stretch : StretchApplies (length ws) start count n p → RowApplies G f start count ws hs n p
-  of-job : start + count ≤ length ws
-      → JobApplies G f (stretch start count ws) (stretch start count hs) (length (stretch start count ws)) n p
-      → RowApplies G f start count ws hs n p
+pub data RowLevelsApply (start count : ℕ) (ws hs : List ℕ) (n p : ℕ) : Type 0 where
+  of-stretch : StretchApplies (length ws) start count n p → RowLevelsApply start count ws hs n p
+  of-own-levels : start + count ≤ length ws
+      → LevelsApply (stretch start count ws) (stretch start count hs) (length (stretch start count ws)) n p
+      → RowLevelsApply start count ws hs n p
+
+abbrev pub RowApplies : GroundValues → FrameValues → ℕ → ℕ → List ℕ → List ℕ → ℕ → ℕ → Type 0
+RowApplies G f b m ws hs = GivenApplies (RowLevelsApply b m ws hs) G f
 
 pub data DistrictApplies (jobs weights heights rows : ℕ) : ℕ → ℕ → Type 0 where
   jobs-many : 256 < jobs → DistrictApplies jobs weights heights rows 22 0

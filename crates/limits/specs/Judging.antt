@@ -4,7 +4,8 @@
 --   judgedJob G f ws hs room             of a job: levels (1 to 4), ground, frame
 --   judgedShearCall G f W h              of the shear call: total weight (3), top height (4), ground, frame
 --   judgedDistribution v t ws hs room    of the distribution: levels (1 to 4), base shear (19), period (20)
---   judgedRow G f start count ws hs      of a row of a district with the store ws and hs: its stretch (21), then the job on that stretch, with no buffer
+--   judgedRowLevels start count ws hs    of the levels that a row of a district names in the store ws and hs: its stretch (21), then 1 to 4, with no buffer
+--   judgedRow G f start count ws hs      of such a row: these, ground, frame
 --   givenOutcome a                       what the code's answer a says
 use mathlib.Core.List.{List}
 use Prim.Native.Nat.{ℕ}
@@ -40,10 +41,13 @@ judgedDistribution v t ws hs room = do
   judgedLevels ws hs room
   judgedHanded v t
 
-unfoldable pub judgedRow : GroundValues → FrameValues → ℕ → ℕ → List ℕ → List ℕ → Outcome Given
-judgedRow G f start count ws hs = do
+unfoldable pub judgedRowLevels : ℕ → ℕ → List ℕ → List ℕ → Outcome Done
+judgedRowLevels start count ws hs = do
   judgedStretch (length ws) start count
-  judgedJob G f (stretch start count ws) (stretch start count hs) (length (stretch start count ws))
+  judgedLevels (stretch start count ws) (stretch start count hs) (length (stretch start count ws))
+
+unfoldable pub judgedRow : GroundValues → FrameValues → ℕ → ℕ → List ℕ → List ℕ → Outcome Given
+judgedRow G f start count ws hs = judgedGiven (judgedRowLevels start count ws hs) G f
 
 abbrev pub givenOutcome : GivenAnswer → Outcome Given
 givenOutcome (Taken g) = accepted g

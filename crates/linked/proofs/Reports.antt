@@ -3,7 +3,7 @@
 --   Behind h cs i out    the first i numbers of out are the six of h and the first i − 6 of the cells cs
 -- Assumes nothing.
 use mathlib.Core.Path.{_≡_, refl, sym, ap, _∙_}
-use mathlib.Core.List.{List, [], _∷_, _++_, append-assoc}
+use mathlib.Core.List.{List, [], _∷_, _++_, append-assoc, append-nil}
 use Prim.Native.Nat.{ℕ, suc, _+_, _-_, _≤_, _<_}
 use native.Mathlib.Numerals.{add-one}
 use native.Mathlib.Omega.{arith}
@@ -31,13 +31,9 @@ pub record Behind (h cs : List ℕ) (i : ℕ) (out : List ℕ) : Type 0 where
   pub size : length out ≡ 119
   pub held : take i out ≡ h ++ take (i - 6) cs
 
-append-none : (l : List ℕ) → l ++ [] ≡ l
-append-none [] = refl
-append-none (a ∷ l) = ap (λ (m : List ℕ). a ∷ m) (append-none l)
-
 pub behind-none : (h cs out : List ℕ) → length out ≡ 119 → take 6 out ≡ h → Behind h cs 6 out
 behind-none h cs out n e =
-    record { from = omega arith; most = omega arith; size = n; held = e ∙ sym (append-none h) }
+    record { from = omega arith; most = omega arith; size = n; held = e ∙ sym (append-nil h) }
 
 pub behind-more : (h cs : List ℕ) (i : ℕ) (out : List ℕ) → length cs ≡ 113 → i < 119 → Behind h cs i out
     → Behind h cs (i + 1) (set out i (getD cs (i - 6) 0))

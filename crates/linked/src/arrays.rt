@@ -88,8 +88,10 @@ pub fn put_class(out: &mut [u64; 2], a: ClassAnswer) -> u64
     }
 }
 
-// How many numbers a report has: its six totals, then its cells.
-pub const REPORT: usize = 6 + CELLS;
+// How many totals a report has, and how many numbers: these, then its cells.
+const TOTALS: usize = 6;
+
+pub const REPORT: usize = TOTALS + CELLS;
 
 // Jobs accepted and refused; the sum of V_D in N; how often V, V_M and V* governed; the cells.
 pub fn put_report(out: &mut [u64], r: Report)
@@ -104,9 +106,9 @@ pub fn put_report(out: &mut [u64], r: Report)
     out[3] = t.v;
     out[4] = t.vm;
     out[5] = t.star;
-    let mut i = 6;
+    let mut i = TOTALS;
     while i < REPORT {
-        out[i] = cells[i - 6];
+        out[i] = cells[i - TOTALS];
         i += 1;
     }
 }

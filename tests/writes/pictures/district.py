@@ -45,6 +45,7 @@ def district():
     picture = Picture(1080, 920, 'How many sheets of the district are in each cell of its report')
     picture.heading(LEFT, f'The hundred sheets, sorted by V_D over W: all {model.CELLS} cells')
     field(picture, 60, model.CELL * model.CELLS, 100, False)
+    picture.bar(470, 86, 480, 146, '#ffffff')      # no line of the scales runs through the words
     picture.words(480, 110, 'orange: cells with these sheets', size=16, weight='bold', colour=RED)
     for place, (thousandths, number, words) in enumerate(named()):
         picture.words(480, 140 + 26 * place, f'sheet {number}, {words}: {thousandths:,} thousandths', size=16)
