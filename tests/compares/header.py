@@ -69,7 +69,8 @@ STRUCTS = {
     'jobs': 'RukeshomajiDistrictJob', 'rows': 'RukeshomajiRow', 'report': 'RukeshomajiReport',
 }
 # where the core says how many cells an array has
-SIZES = {'JOB': 'district_call/entered', 'ROW': 'district_call/row', 'REPORT': 'linked/arrays', 'CELLS': 'district_call/report'}
+SIZES = {'JOB': 'district_call/entered', 'ROW': 'district_call/row', 'REPORT': 'linked/arrays', 'CELLS': 'district_call/report',
+         'TOTALS': 'linked/arrays'}
 # names of the core that are others in the header
 RENAMED = {'class': 'class_number', 'alpha': 'alpha_y'}
 BY = {'v': 'by_v', 'vm': 'by_vm', 'star': 'by_star'}
@@ -184,8 +185,8 @@ def orders():
     yield 'RukeshomajiRow', [(one if one != '0' else other).split('.')[1] for one, other in zip(taken, refused)]
     put = function('linked/arrays', 'put_report')
     totals = {int(place): name for place, name in re.findall(r'out\[(\d+)\] = t\.(\w+);', put)}
-    first = int(re.search(r'let mut i = (\d+);', put)[1])
-    assert sorted(totals) == list(range(first)) and f'out[i] = cells[i - {first}];' in put
+    first = size(re.search(r'let mut i = (\w+);', put)[1])
+    assert sorted(totals) == list(range(first)) and 'out[i] = cells[i - TOTALS];' in put
     yield 'RukeshomajiReport', [BY.get(totals[place], totals[place]) for place in range(first)] + ['cells'] * (size('REPORT') - first)
 
 

@@ -1,5 +1,6 @@
--- What every report is, of any answers os: 'Cells add up to the accepted jobs, and each cell equals the count of rows that belong there'; accepted and
--- refused add up to all; the three governing counts add up to the accepted; the sum fits. Reports add up. Of no answer at all it is zeros.
+-- What every report is, of any answers os: 'each cell equals the count of rows that belong there'; accepted and refused add up to all; the three governing counts
+-- add up to the accepted. Where each accepted answer has a cell (`AllSorted`), 'Cells add up to the accepted jobs', and the sum fits. Reports add up. Of no answer at all
+-- it is zeros.
 -- Assumes nothing.
 use mathlib.Core.Path.{_≡_, refl, sym, ap, _∙_}
 use mathlib.Core.Bool.{Bool, true, false, _&&_, not}
