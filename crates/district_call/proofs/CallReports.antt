@@ -3,7 +3,7 @@
 -- Assumes nothing.
 use mathlib.Core.Path.{_≡_, refl, sym, ap, subst, _∙_}
 use mathlib.Core.Bool.{Bool, true, false, _&&_, not}
-use mathlib.Core.List.{List, []}
+use mathlib.Core.List.{List, [], map}
 use Prim.Native.Nat.{ℕ, _+_, _≤_, _<_, max}
 use native.Mathlib.Omega.{arith}
 use lib.Dec.{eqb}
@@ -17,7 +17,6 @@ use Rattle.base_shear.specs.Shears.{base, figuresAt}
 use Rattle.district_call.specs.declared.DistrictAnswer.{DistrictAnswer}
 use Rattle.district_call.specs.declared.report.Report.{Report}
 use Rattle.district_call.specs.declared.weighed.Weighed.{Weighed}
-use Rattle.district_call.specs.District.{answersTo}
 use Rattle.district_call.specs.Entered.{Entered, entered}
 use Rattle.district_call.specs.Report.{byV, byVm, byStar, cellOf, cellsMost, reportOf}
 use Rattle.district_call.specs.Row.{answerTo}
@@ -38,20 +37,25 @@ pub record Reported (js : List (List ℕ)) (r : Report) : Type 0 where
   pub of-none : js ≡ []
       → r ≡ record { totals = record { accepted = 0; refused = 0; sum = 0; v = 0; vm = 0; star = 0 }; cells = zeros 113 }
 
+-- of any list that is answered element by element, each accepted answer with a cell
+pub reported-of : (f : List ℕ → Outcome Weighed) → ((j : List ℕ) → Sorted (f j)) → (js : List (List ℕ)) → length js ≤ 256
+    → Reported js (reportOf (map f js))
+reported-of f sorted js few =
+    let n : length (map f js) ≡ length js = length-map js f in
+    let s : AllSorted (map f js) = all-sorted f sorted js in
+    record {
+      cells-accepted = cells-add-up (map f js) s;
+      all-jobs = all-answered (map f js) ∙ n;
+      governed = governed-add-up (map f js);
+      sum-most = sum-fits (map f js) s (omega (arith, n, few));
+      of-none = λ e. ap (λ (l : List (List ℕ)). reportOf (map f l)) e ∙ none-reported;
+    }
+
 pub call-reported : (js : List (List ℕ)) (ws hs : List ℕ) (old : List (List ℕ)) (a : DistrictAnswer) (held : List (List ℕ))
     → TakenCall js ws hs old a held → Reported js (a .report)
 call-reported js ws hs old a held t =
-    let os = answersTo js ws hs in
-    let n : length os ≡ length js = length-map js (λ j. answerTo ws hs (entered j)) in
-    let s : AllSorted os = all-sorted (λ j. answerTo ws hs (entered j)) (λ j. row-sorted ws hs (entered j)) js in
     subst (Reported js) (sym (t .report))
-    (record {
-      cells-accepted = cells-add-up os s;
-      all-jobs = all-answered os ∙ n;
-      governed = governed-add-up os;
-      sum-most = sum-fits os s (omega (arith, n, t .few));
-      of-none = λ e. ap (λ (l : List (List ℕ)). reportOf (answersTo l ws hs)) e ∙ none-reported;
-    })
+    (reported-of (λ j. answerTo ws hs (entered j)) (λ j. row-sorted ws hs (entered j)) js (t .few))
 
 -- ---- of each accepted job
 module _ (ws hs : List ℕ) (e : Entered) (w : Weighed) (q : answerTo ws hs e ≡ accepted w) where

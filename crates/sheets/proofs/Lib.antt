@@ -9,5 +9,6 @@ pub mod Answering
 pub mod Listed
 pub mod Unique
 pub mod Foremost
+pub mod FileReports
 pub mod ReadSound
 pub mod Cut
