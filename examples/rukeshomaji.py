@@ -2,11 +2,11 @@
 
     python3 examples/rukeshomaji.py
 
-job, figures, basin_job, basin_figures, shear_call, basin_shear_call, distribution, district, site_class and sheet take whole numbers in the units of
-include/rukeshomaji.h. A number that 64 bits do not hold is an OverflowError before anything is called, as ctypes would cut it (2**64 to 0, which
-of a calculated period means none). A refusal is raised as Refused, with its number, place and text. A district raises what is refused of the whole
-call; a refused job of it has a row with number and place, and Refused(row.number, row.place) says in words what they mean. The library is
-target/lib/librukeshomaji.so, or what RUKESHOMAJI_LIBRARY names.
+job, figures, basin_job, basin_figures, shear_call, basin_shear_call, distribution, district, drift, torsion, accidental_moments, site_class and sheet
+take whole numbers in the units of include/rukeshomaji.h. A number that 64 bits do not hold, those of a drift's displacements with a sign, is an
+OverflowError before anything is called, as ctypes would cut it (2**64 to 0, which of a calculated period means none). A refusal is raised as Refused,
+with its number, place and text. A district raises what is refused of the whole call; a refused job of it has a row with number and place, and
+Refused(row.number, row.place) says in words what they mean. The library is target/lib/librukeshomaji.so, or what RUKESHOMAJI_LIBRARY names.
 """
 
 import ctypes
@@ -25,6 +25,7 @@ DistrictJob = namedtuple('DistrictJob', 'basin zone site frame start count')    
 Row = namedtuple('Row', 'number place v vm star vd t')
 Report = namedtuple('Report', 'accepted refused sum by_v by_vm by_star cells')
 District = namedtuple('District', 'rows report')
+Moments = namedtuple('Moments', 'positive negative')
 
 # kinds of layer
 MEASURED = 1        # its value is a velocity in dm/s
@@ -33,7 +34,7 @@ COHESIONLESS = 3    # its value is N
 SOFT_CLAY = 4       # its value is q, the unconfined compression strength in 0.01 kgf/cm²
 
 MAJOR = 2
-LEAST = 2_005_000
+LEAST = 2_006_000
 LONGEST = 4_610
 CELLS = 113         # of a report; cell k counts jobs with V_D over W of 10*k to 10*k + 9 thousandths
 TEXTS = {
@@ -59,14 +60,19 @@ TEXTS = {
     20: 'period out of its range',
     21: 'stretch outside the store',
     22: 'over 256 jobs, lists of unequal length, or fewer rows than jobs',
+    23: 'displacement out of its range',
+    24: 'limit 0, or above 10,000',
+    25: 'average 0, or above the largest',
+    26: 'plan dimension out of its range',
 }
 OF_A_SHEAR_CALL = {3: 'total weight out of its range', 4: 'top height out of its range'}    # at place 0
 PLACES = {
     3: 'level', 4: 'level', 5: ('S_S design', 'S_1 design', 'S_S MCE', 'S_1 MCE'), 6: ('N_A', 'N_V', 'N_A MCE', 'N_V MCE'),
-    14: 'layer', 15: 'layer', 16: 'line',
+    14: 'layer', 15: 'layer', 16: 'line', 23: 'level',
 }
 
-U64 = ctypes.c_uint64
+U64, I64 = ctypes.c_uint64, ctypes.c_int64
+HELD = {U64: ('0 to 2**64 - 1', range(2 ** 64)), I64: ('-2**63 to 2**63 - 1', range(-2 ** 63, 2 ** 63))}     # by 64 bits without and with a sign
 LIBRARY = os.environ.get('RUKESHOMAJI_LIBRARY') or pathlib.Path(__file__).resolve().parents[1] / 'target' / 'lib' / 'librukeshomaji.so'
 
 
@@ -86,7 +92,7 @@ if _core.rukeshomaji_version() // 1_000_000 != MAJOR:
     raise ImportError(f'{LIBRARY} is of another major version than this module, {MAJOR}')
 if _core.rukeshomaji_version() < LEAST:
     raise ImportError(f'{LIBRARY} is of version {_core.rukeshomaji_version()}; this module needs {LEAST} or a later one')
-_list, _numbers = [ctypes.POINTER(U64), U64], ctypes.POINTER(U64)
+_list, _numbers, _signed_list = [ctypes.POINTER(U64), U64], ctypes.POINTER(U64), [ctypes.POINTER(I64), U64]
 _core.rukeshomaji_job.argtypes = [_numbers, _numbers, *_list * 5, _numbers]
 _core.rukeshomaji_figures.argtypes = [_numbers, _numbers, *_list * 2, _numbers]
 _core.rukeshomaji_basin_job.argtypes = [U64, _numbers, *_list * 5, _numbers]
@@ -95,22 +101,25 @@ _core.rukeshomaji_shear_call.argtypes = [_numbers, _numbers, U64, U64, _numbers]
 _core.rukeshomaji_basin_shear_call.argtypes = [U64, _numbers, U64, U64, _numbers]
 _core.rukeshomaji_distribution.argtypes = [U64, U64, *_list * 5, _numbers]
 _core.rukeshomaji_district.argtypes = [*_list * 4, _numbers]
+_core.rukeshomaji_drift.argtypes = [*_list, *_signed_list, U64, *_list, _numbers]
+_core.rukeshomaji_torsion.argtypes = [U64, U64, _numbers]
+_core.rukeshomaji_accidental_moments.argtypes = [U64, U64, *_list * 2, U64, *_signed_list * 2, _numbers]
 _core.rukeshomaji_site_class.argtypes = [*_list * 3, _numbers]
 _core.rukeshomaji_sheet.argtypes = [ctypes.c_char_p, U64, ctypes.c_char_p, _numbers]
-for _name in ('job', 'figures', 'basin_job', 'basin_figures', 'shear_call', 'basin_shear_call', 'distribution', 'district', 'site_class', 'sheet',
-              'edition', 'source'):
+for _name in ('job', 'figures', 'basin_job', 'basin_figures', 'shear_call', 'basin_shear_call', 'distribution', 'district', 'drift', 'torsion',
+              'accidental_moments', 'site_class', 'sheet', 'edition', 'source'):
     getattr(_core, f'rukeshomaji_{_name}').restype = U64
 
 
-def _array(numbers, count=None):
-    """Numbers as an array of 64-bit ones: each must be whole, and fit."""
-    numbers = [operator.index(each) for each in numbers]
+def _array(numbers, count=None, kind=U64):
+    """Numbers as an array of 64-bit ones, without or with a sign: each must be whole, and fit."""
+    numbers, (words, held) = [operator.index(each) for each in numbers], HELD[kind]
     for each in numbers:
-        if not 0 <= each < 2 ** 64:
-            raise OverflowError(f'{each} is not a number of 0 to 2**64 - 1')
+        if each not in held:
+            raise OverflowError(f'{each} is not a number of {words}')
     if count is not None and len(numbers) != count:
         raise TypeError(f'{count} numbers are wanted, {len(numbers)} are given')
-    return (U64 * len(numbers))(*numbers)
+    return (kind * len(numbers))(*numbers)
 
 
 def _taken(number, reply):
@@ -201,6 +210,31 @@ def district(jobs, weights, heights):
     if number:
         raise Refused(number, 0)
     return District([Row(*rows[first:first + width]) for first in range(0, len(rows), width)], Report(*reply[:-CELLS], reply[-CELLS:]))
+
+
+def drift(heights, displacements, limit):
+    """For each storey, lowest first, whether its drift angle is within the limit, in ten-thousandths: 0.005 is 50. Displacements are in 0.01 mm, each
+    with its sign."""
+    heights, displacements, (limit,) = _array(heights), _array(displacements, kind=I64), _array([limit])
+    verdicts, place = (U64 * len(heights))(), (U64 * 1)()
+    _taken(_core.rukeshomaji_drift(heights, len(heights), displacements, len(displacements), limit, verdicts, len(verdicts), place), place)
+    return [verdict == 1 for verdict in verdicts]
+
+
+def torsion(largest, average):
+    """The torsion factor of a floor in thousandths, from its largest and its average displacement in 0.01 mm, without a sign."""
+    reply = (U64 * 2)()
+    return _taken(_core.rukeshomaji_torsion(*_array([largest, average]), reply), reply)[0]
+
+
+def accidental_moments(base_shear, period, weights, heights, dimension):
+    """The accidental moment of each level, lowest first, once positive and once negative, in 0.01 N*dm: its force by `distribution` times five times
+    the plan dimension in dm."""
+    (base_shear, period, dimension), weights, heights = _array([base_shear, period, dimension]), _array(weights), _array(heights)
+    positive, negative, place = (I64 * len(weights))(), (I64 * len(weights))(), (U64 * 1)()
+    _taken(_core.rukeshomaji_accidental_moments(base_shear, period, weights, len(weights), heights, len(heights), dimension, positive, len(positive),
+                                                negative, len(negative), place), place)
+    return Moments(list(positive), list(negative))
 
 
 def site_class(thicknesses, kinds, values):

@@ -1,4 +1,5 @@
-/* Rukeshomaji: the seismic base shear of a building by Taiwan's 2005 code, in whole numbers. C99 or newer, and C++.
+/* Rukeshomaji: the seismic base shear of a building by Taiwan's 2005 code, with storeys, drift and torsion, in whole numbers. C99 or newer,
+ * and C++.
  *
  * examples/build.sh makes the library of x86-64 Linux, librukeshomaji.a and librukeshomaji.so; examples/ has programs in C and C++, a
  * module for Python and programs that use it. Pointers and 64-bit numbers are all that an entry takes and returns.
@@ -10,8 +11,8 @@
  *   A district returns 0 also where some of its jobs are refused: each row has a number and a place of its own.
  *   Every field of `figures`, `reply` or `report`, and `place`, is written at each call. Where the call is refused, all but the place and a
  *   listing's length are 0. A refused job of a district has zeros for figures in its own row; the report counts it.
- *   Where the call is refused the buffers of a job or a distribution, and the rows of a district, hold what they held. A listing's bytes past
- *   its length, and rows past the last job, hold what they held in any case.
+ *   Where the call is refused its buffers, and the rows of a district, hold what they held. A listing's bytes past its length, and rows past the
+ *   last job, hold what they held in any case.
  *   Nothing is kept between calls: an answer depends on its own call alone. Calls may run at once, from any threads, also over lists that
  *   they share, as long as nothing that one of them writes to is used by another.
  *   A list or a buffer is a pointer and a count of its elements. With a count of 0 the pointer may be NULL, which is tried and not proved
@@ -32,11 +33,11 @@ extern "C" {
  * compiled with a header of another major number may call rukeshomaji_version, which never changes, and nothing else. Edition: the year of
  * the code. Source: the state of the rules, which goes up by one whenever any call answers differently; it is 6 since a soil log takes soft
  * clay by its unconfined compression strength (2.4.0). */
-#define RUKESHOMAJI_VERSION 2005000
+#define RUKESHOMAJI_VERSION 2006000
 #define RUKESHOMAJI_EDITION 2005
 #define RUKESHOMAJI_SOURCE 6
 
-/* the most levels of a job or a distribution, layers of a soil log and bytes of a sheet, and the most bytes that a listing can have */
+/* the most levels of a call, layers of a soil log and bytes of a sheet, and the most bytes that a listing can have */
 #define RUKESHOMAJI_MOST_LEVELS 50
 #define RUKESHOMAJI_MOST_LAYERS 40
 #define RUKESHOMAJI_MOST_BYTES 4096
@@ -50,12 +51,20 @@ extern "C" {
 #define RUKESHOMAJI_DISTRICT_JOBS 256
 #define RUKESHOMAJI_CELLS 113
 
+/* the largest size of a displacement, in 0.01 mm, the largest limit of a drift call, in ten-thousandths, the largest plan dimension, in dm, and the
+ * largest torsion factor, in thousandths; since 2.6.0 */
+#define RUKESHOMAJI_MOST_DISPLACEMENT 1000000
+#define RUKESHOMAJI_MOST_DRIFT_LIMIT 10000
+#define RUKESHOMAJI_MOST_DIMENSION 5000
+#define RUKESHOMAJI_MOST_TORSION_FACTOR 3000
+
 /* Refusals: what an entry returns where it does not return 0; beside each its place. Of 1 to 15 the lowest number that applies is returned,
  * at its lowest place, but 14 at a layer of thickness 0 where there is one. A job in the Taipei Basin has no site: 18 stands where 5 to 7
  * stand, after 1 to 4 and before 8 to 12. A shear call has no levels: its 3 and 4 are of the total weight and the top height, at place 0. In
  * a distribution 19, then 20, follow 1 to 4. For a sheet 17, then 16, come before all others. A district is refused with 22 alone, as a whole; a
- * row of it with 21 before all others. */
-#define RUKESHOMAJI_REFUSED_LEVELS 1      /* no level, or over 50, judged on the weights: 0 */
+ * row of it with 21 before all others. A drift call has no weights: its 1 is of the heights, it has no 3, and 23, then 24, follow 1, 2, 4. In a
+ * torsion call 25 follows 23. In accidental moments 19, 20, 26 follow 1 to 4. No other entry returns 23 to 26. */
+#define RUKESHOMAJI_REFUSED_LEVELS 1      /* no level, or over 50, judged on the weights, of a drift call on the heights: 0 */
 #define RUKESHOMAJI_REFUSED_LENGTHS 2     /* lists of unequal length, or a result buffer shorter than them: 0 */
 #define RUKESHOMAJI_REFUSED_WEIGHT 3      /* weight out of range: level, the lowest is 1; of a shear call: 0 */
 #define RUKESHOMAJI_REFUSED_HEIGHT 4      /* height out of range, or not above the one below: level; of a shear call out of range: 0 */
@@ -73,10 +82,14 @@ extern "C" {
 #define RUKESHOMAJI_REFUSED_LINE 16       /* line of a sheet not as laid out: line, the first is 1 */
 #define RUKESHOMAJI_REFUSED_SHEET 17      /* sheet over 4,096 bytes: 0 */
 #define RUKESHOMAJI_REFUSED_ZONE 18       /* zone not 1 to 4: 0 */
-#define RUKESHOMAJI_REFUSED_BASE_SHEAR 19 /* base shear of a distribution out of range: 0 */
-#define RUKESHOMAJI_REFUSED_PERIOD_HANDED 20  /* period of a distribution out of range: 0 */
+#define RUKESHOMAJI_REFUSED_BASE_SHEAR 19 /* base shear of a distribution or of accidental moments out of range: 0 */
+#define RUKESHOMAJI_REFUSED_PERIOD_HANDED 20  /* period of a distribution or of accidental moments out of range: 0 */
 #define RUKESHOMAJI_REFUSED_STRETCH 21    /* of a row of a district: its stretch is outside the store: 0 */
 #define RUKESHOMAJI_REFUSED_DISTRICT 22   /* of a whole district: over 256 jobs, lists of unequal length, or fewer rows than jobs: 0 */
+#define RUKESHOMAJI_REFUSED_DISPLACEMENT 23  /* displacement out of range: level; of a torsion call: 0 */
+#define RUKESHOMAJI_REFUSED_DRIFT_LIMIT 24   /* limit of a drift call out of range: 0 */
+#define RUKESHOMAJI_REFUSED_AVERAGE 25    /* average displacement of a torsion call 0, or above the largest: 0 */
+#define RUKESHOMAJI_REFUSED_DIMENSION 26  /* plan dimension out of range: 0 */
 
 /* site classes */
 #define RUKESHOMAJI_HARD 1
@@ -168,6 +181,12 @@ typedef struct {
     uint64_t by_star;         /* that V* governs: vd is star, and v and vm are less */
     uint64_t cells[RUKESHOMAJI_CELLS];  /* cell k, from 0 on: accepted jobs with vd over W, rounded down, of 10*k to 10*k + 9 */
 } RukeshomajiReport;
+
+/* The answer to a torsion call, since 2.6.0. */
+typedef struct {
+    uint64_t place;           /* of the refusal; 0 on success */
+    uint64_t factor;          /* A_x, thousandths: 695 to 3,000; 0 where data is refused */
+} RukeshomajiTorsion;
 
 /* The job: the base shear of one building in one horizontal direction, and its storeys, on a site outside the Taipei Basin.
  *
@@ -300,6 +319,54 @@ uint64_t rukeshomaji_distribution(uint64_t base_shear, uint64_t period, const ui
 uint64_t rukeshomaji_district(const RukeshomajiDistrictJob *jobs, uint64_t job_count, const uint64_t *weights, uint64_t weight_count,
                               const uint64_t *heights, uint64_t height_count, RukeshomajiRow *rows, uint64_t row_count,
                               RukeshomajiReport *report);
+
+/* The drift call, since 2.6.0: whether the drift angle of each storey is within a limit. The angle is the difference between the displacements
+ * of the two ends of the storey over its own height; the base has height 0 and displacement 0. The verdict is yes exactly if the size of the
+ * angle is at most the limit; in these units, if the size of the difference is at most the limit times the height. Nothing is rounded.
+ *
+ * Given      heights         of the levels above the base, lowest first, dm: 1 to 2,000, each above the one below, for each of 1 to 50 levels
+ *            displacements   of the levels against the base, lowest first, 0.01 mm, each with its sign: at most 1,000,000 in size; as many. Every
+ *                            int64_t is taken, and one out of range is refused, INT64_MIN too
+ *            limit           of the angle, ten-thousandths: 1 to 10,000. The limit of document 000, 0.005, is 50
+ *            verdicts        buffer of at least as many cells
+ * Returned   0, or the refusal
+ * Refused    1 for the heights, 2 for lists of unequal length or a buffer shorter than them, 4 at its level, 23 at its level, 24
+ * Written    place: of the refusal; 0 on success. On success the first cells of verdicts, one per storey, lowest first: 1 yes, 0 no. Other
+ *            cells hold what they held
+ * Moves      with every displacement of the other sign the answer is the same, and its refusals too; a larger limit turns no 1 into a 0
+ * Reference  document 000, 2.5.4. The base shear of its (24), under which the displacements are to be found, is not worked out; docs/manual/drift.md
+ */
+uint64_t rukeshomaji_drift(const uint64_t *heights, uint64_t height_count, const int64_t *displacements, uint64_t displacement_count,
+                           uint64_t limit, uint64_t *verdicts, uint64_t verdict_cells, uint64_t *place);
+
+/* The torsion call, since 2.6.0: the amplification factor A_x of a floor, (largest / (1.2 * average)) squared, in thousandths, rounded up, and at
+ * most 3,000. It is not below the smaller of the exact A_x and 3.0, and less than one thousandth above it. It is not raised to 1.0: equal
+ * displacements get 695.
+ *
+ * Given      largest         displacement of the floor, without a sign, 0.01 mm: at most 1,000,000
+ *            average         displacement of its extreme points, without a sign, 0.01 mm: at most 1,000,000; above 0, and not above the largest
+ * Returned   0, or the refusal
+ * Refused    23, 25, both at place 0
+ * Written    reply: all fields
+ * Reference  document 000 (22); docs/manual/drift.md
+ */
+uint64_t rukeshomaji_torsion(uint64_t largest, uint64_t average, RukeshomajiTorsion *reply);
+
+/* The accidental moments, since 2.6.0: the force of each level times 5 % of the plan dimension, each way. The force is the one that
+ * rukeshomaji_distribution writes for the same base shear, period, weights and heights.
+ *
+ * Given      base_shear, period, weights, heights    as for rukeshomaji_distribution
+ *            dimension       of the building in plan, at a right angle to the forces, dm: 1 to 5,000
+ *            positive, negative    buffers of at least as many cells as there are levels
+ * Returned   0, or the refusal
+ * Refused    1 to 4 as for rukeshomaji_job, with 2 also for either buffer, then 19, 20, 26
+ * Written    place: of the refusal; 0 on success. On success the first cells of both buffers, one per level, lowest first, 0.01 N*dm: in positive
+ *            the force in N times 5 times the dimension in dm, unrounded; in negative the same with a minus. Other cells hold what they held
+ * Reference  document 000, 2.5.2; its forces as for rukeshomaji_distribution. The moments are not multiplied by A_x; docs/manual/drift.md
+ */
+uint64_t rukeshomaji_accidental_moments(uint64_t base_shear, uint64_t period, const uint64_t *weights, uint64_t weight_count,
+                                        const uint64_t *heights, uint64_t height_count, uint64_t dimension, int64_t *positive,
+                                        uint64_t positive_cells, int64_t *negative, uint64_t negative_cells, uint64_t *place);
 
 /* The site class of a soil log: the layers of the upper 30 m.
  *

@@ -3,7 +3,7 @@ refusals cannot apply together."""
 
 from typing import NamedTuple
 
-from tests.compares import stored_cases, stored_districts
+from tests.compares import stored_cases, stored_districts, stored_drifts
 from tests.model import district, limits, sheet, soil
 
 BETWEEN = 'between'     # a place that is not named
@@ -28,6 +28,20 @@ ALONG = {
     ('17',): ['1, over 50', '16'],                  # as laid out, more than 4,096 bytes are more than 150 levels
 }
 FOUR_CHANGES = {('1, over 50',): ['2, a buffer']}   # no more in a case of `run_refusals`: the ground, two lists and the other refusal
+# drift has no weights: 1 is judged on heights
+OF_DRIFT = {
+    **{pair: CANNOT[pair] for pair in (('1, no level', '1, over 50'), ('2, lists', '2, a buffer'))},
+    ('1, no level', '2, a buffer'): 'no buffer is shorter than no heights',
+    ('1, no level', '4'): 'there is no height',
+}
+ALONG_DRIFT = {('1, no level', '23'): ['2, lists']}     # displacements without heights
+OF_TORSION = {
+    ('23, largest', '23, average'): 'both are 23 at 0, and none of them is the earlier',
+    ('25, no average', '25, above the largest'): '0 is not above',
+    ('23, average', '25, no average'): 'the average is one number',
+}
+# an average beyond the range is above a largest one, or that one is beyond it too
+ALONG_TORSION = {('23, average',): ['23, largest', '25, above the largest'], ('23, largest', '25, above the largest'): ['23, average']}
 ONE_22 = {pair: 'both are 22 at 0, and none of them is the earlier'
           for pair in (('22, jobs', '22, lists'), ('22, jobs', '22, rows'), ('22, lists', '22, rows'))}
 
@@ -77,6 +91,12 @@ LISTS = Limit('lists', {'2, lists'}, [0], [-1, 1])
 BUFFERS = [Limit(f'buffer {place}', {'2, a buffer'}, [0, 1], [-1]) for place in (1, 2, 3)]
 BUILDING = [limited('weight', '3', limits.TOTAL_WEIGHT), limited('height', '4', limits.HEIGHT)]
 HANDED_IN = [limited('base shear', '19', limits.BASE_SHEAR), limited('period', '20', limits.PERIOD)]
+DIMENSION = limited('dimension', '26', limits.DIMENSION)
+DRIFT = [limited('limit', '24', limits.DRIFT_LIMIT), Limit('displacement', {'23'}, [limits.DISPLACEMENT[0], 0, limits.DISPLACEMENT[-1]],
+                                                           [limits.DISPLACEMENT[0] - 1, limits.DISPLACEMENT[-1] + 1])]
+MOST_MOVED = limits.FLOOR_DISPLACEMENT[-1]
+TORSION = [Limit('largest', {'23, largest'}, [1, MOST_MOVED], [MOST_MOVED + 1]), Limit('average', {'23, average'}, [1, MOST_MOVED], [MOST_MOVED + 1]),
+           Limit('average', {'25, no average'}, [], [0]), Limit('above', {'25, above the largest'}, [-1, 0], [1])]
 LOG = [Limit('layers', {'13, no layer', '13, over 40'}, [1, MOST_LAYERS], [0, MOST_LAYERS + 1]), Limit('thickness', {'14, a layer'}, [1], [0]),
        limited('sum', '14, the sum', (soil.THICKNESS_SUM,)), limited('kind', '15, kind', tuple(soil.VALUE)),
        *(limited(f'value of kind {kind}', '15, value', allowed) for kind, allowed in soil.VALUE.items()),
@@ -114,6 +134,18 @@ def district_entries():
     yield Entry('district', [*stored_districts.calls()], {'22, jobs': [0], '22, lists': [0], '22, rows': [0]}, WHOLE, ONE_22, {})
 
 
+def drift_entries():
+    """Drift, torsion and accidental moments."""
+    drifts, torsions, moments = stored_drifts.cases()
+    levels, weight, *heights = LEVELS
+    yield Entry('drift', drifts, COUNTED | LISTED | at_levels(MOST_LEVELS, '4', '23') | {'24': [0]}, [levels, *heights, LISTS, BUFFERS[0], *DRIFT],
+                OF_DRIFT, ALONG_DRIFT)
+    yield Entry('torsion', torsions, {f'{number}, {reason}': [0] for number, reason in (
+        (23, 'largest'), (23, 'average'), (25, 'no average'), (25, 'above the largest'))}, TORSION, OF_TORSION, ALONG_TORSION)
+    yield Entry('accidental moments', moments, job_places(MOST_LEVELS) | {'19': [0], '20': [0], '26': [0]},
+                [levels, weight, *heights, LISTS, *BUFFERS[:2], *HANDED_IN, DIMENSION])
+
+
 def entries():
     """Every entry."""
     judged, calls = [*stored_cases.judged_jobs()], [*stored_cases.calls()]
@@ -132,3 +164,4 @@ def entries():
     for entry in on_grounds('sheet', [*stored_cases.sheets()], sheet_places, LEVELS + BYTES):
         yield entry._replace(cannot=CANNOT | NOT_ON_A_SHEET)
     yield from district_entries()
+    yield from drift_entries()

@@ -16,6 +16,7 @@ import sys
 
 from tests.compares import check_model
 from tests.draws.roof import ENDS
+from tests.writes.stored_drifts import DRIFT, MOMENTS, TORSION
 
 ROOT = pathlib.Path(__file__).resolve().parents[1]
 CRATES = ROOT / 'crates'
@@ -92,6 +93,13 @@ def districts():
     return len(rows), sum(jobs for jobs, *_ in rows), refused('run_districts')
 
 
+def drifts():
+    """Cases of `run_drifts`: all, of drift, of torsion, of accidental moments, refused."""
+    rows, _ = numbered('run_drifts')
+    kinds = [row[0] for row in rows]
+    return len(rows), *(kinds.count(kind) for kind in (DRIFT, TORSION, MOMENTS)), refused('run_drifts')
+
+
 def logs():
     """Cases of `run_logs`, and the last N and the last q of the velocities behind them."""
     rows, _ = numbered('run_logs')
@@ -147,6 +155,10 @@ def statements():
     yield 'docs/MAP.md', r'`run_calls` \(N calls: N shear calls, N distributions with every cell of their buffers; N refused\)', call
     yield 'docs/PROMISES.md', r'`run_districts` \(N districts, N of them refused as a whole', districts()[::2]
     yield 'docs/MAP.md', r'`run_districts` \(N districts of N jobs in all, with every cell of their rows; N refused as a whole\)', districts()
+    yield ('docs/MAP.md', r'`run_drifts` \(N calls: N of drift, N of torsion, N of accidental moments, with every cell of their buffers; N refused\)',
+           drifts())
+    yield ('docs/PROMISES.md', r'`run_drifts` \(N calls, N of drift, N of torsion and N of accidental moments, with all cells of their buffers, N refused\)',
+           drifts())
     yield 'docs/MAP.md', r'`run_logs` \(N soil logs, every blow count from 0 to N and every q from 0 to N\)', log
     yield 'docs/MAP.md', r'`vectors` holds the definitions to N jobs, N in the Basin, N with two pairs, N of all at the ends', vector[:4]
     yield 'docs/PROMISES.md', r'N jobs of the independent model, N of them in the Taipei Basin and N with two pairs of [^,]+, N of all', vector[:4]
@@ -160,8 +172,9 @@ def statements():
     yield ('docs/LIMITS.md', r'agree with N jobs of an independent model, N of them in the Basin, N with two pairs of [^|]+? and N of all',
            vector[:4])
     yield 'docs/MEASURED.md', r'`\.ci/run` in a fresh clone, [^.]*? N passed', (passed,)
-    yield ('docs/MEASURED.md', r'It runs N stored jobs, N changed jobs, N sheets, N calls of the shear call and the distribution, N districts and N soil logs, and computes N',
-           (job, changed[0], sheet[0], call[0], districts()[0], log[0], vector[0]))
+    yield ('docs/MEASURED.md', r'It runs N stored jobs, N changed jobs, N sheets, N calls of the shear call and the distribution, N districts, '
+           r'N calls of drift, torsion and accidental moments and N soil logs, and computes N',
+           (job, changed[0], sheet[0], call[0], districts()[0], drifts()[0], log[0], vector[0]))
     yield 'docs/MEASURED.md', r'check_model` makes N checks of the model', (checks,)
     yield 'docs/MEASURED.md', r'`tests/tried\.sh` tries N more edits', (tried,)
     yield 'docs/DECISIONS.md', r'the N jobs of the model are compared by a computed statement', (vector[0],)

@@ -17,8 +17,8 @@ import sys
 from fractions import Fraction
 from math import ceil
 
-from tests.compares.header_words import HANDED_IN, RELEASES, most_thousandths, of_district, order, places
-from tests.model import basin as basins, calls, district, limits, response, sheet, sheets, site as sites, soil, storeys
+from tests.compares.header_words import DRIFT_LIMIT, HANDED_IN, RELEASES, hundredth, most_thousandths, of_district, order, places
+from tests.model import (accidental, basin as basins, calls, district, drift, limits, response, sheet, sheets, site as sites, soil, storeys, torsion)
 from tests.stated import numerals, plain, runs
 from tests.writes import manual, roof
 from tests.writes.by_hand.shears import SHEAR
@@ -43,6 +43,8 @@ FORMS = (
     (r'([\d.]+)·q \+ ([\d.]+)', {('0.52', '0.144')}), (r'([\d.]+)·Sa \+ ([\d.]+)·F', {('0.52', '0.144')}),
     (r'(?<![.\d])([\d.]+)·T0', {('0.2',), ('0.4',), ('0.6',), ('2.5',)}), (r'(\d+)·t/(\d+)', {('14', '10')}),
     (r'A·\(([\d.]+) \+ (\d)·T/T0\)', {('0.4', '3')}),
+    (r'\(δ_max / \(([\d.]+) · δ_avg\)\)(.)', {('1.2', '²')}), (r'\(largest/\(([\d.]+)·average\)\)(.)', {('1.2', '²')}),
+    (r'I · F_u / ([\d.]+) ·', {('4.2',)}), (r'force(?: in N)? ?· ?(\d+) ?· ?dimension', {('5',)}),
 )
 
 
@@ -170,10 +172,20 @@ def of_refusals():
     assert limits.PERIOD[-1] >= roof.QUARTER_FROM
     whole, row, _ = of_district()
     yield f'In [a district] {row} comes before all other numbers of its row, and {whole} is of the whole call: there is no row then.'
-    yield (f'{log[0]}, {log[1]} to {log[-1]}, {handed[-2]} to {row}, and {three} and {four} at place {at}, are answers to a program: '
-           f'{log[1]} to {log[-1]} of [the soil log], {handed[-2]} and {handed[-1]} of a distribution, {three} and {four} at place {at} of a shear call, '
-           f'{row} of a district. No sheet gets them. {whole} is of a district or of a file of sheets, never of one sheet.')
+    (displaced, limit), (of_floor, average), dimension = order('drift')[-2:], order('torsion'), order('accidental_moments')[-1]
+    assert displaced == of_floor and [displaced, limit, average, dimension] == list(range(whole + 1, whole + 5))
+    yield (f'{log[0]}, {log[1]} to {log[-1]}, {handed[-2]} to {row}, {displaced} to {dimension}, and {three} and {four} at place {at}, are answers to a program: '
+           f'{log[1]} to {log[-1]} of [the soil log], {handed[-2]} and {handed[-1]} of a distribution or of accidental moments, {three} and {four} at place {at} '
+           f'of a shear call, {row} of a district, {displaced} of drift or of torsion, {limit} of drift, {average} of torsion, {dimension} of accidental moments. '
+           f'No sheet gets them. {whole} is of a district or of a file of sheets, never of one sheet.')
     assert handed[-1] + 1 == row
+    yield (f'In [drift] {displaced}, then {limit}, come after 1, 2 and 4; in torsion {average} comes after {of_floor}; in accidental moments '
+           f'{handed[-2]}, {handed[-1]} and {dimension} come after {runs(before)}.')
+    assert order('drift')[:-2] == [1, 2, 4] and order('accidental_moments') == [*handed, dimension]
+    yield f'Check the unit: {float(DRIFT_LIMIT)} is {DRIFT_LIMIT * drift.PARTS_OF_LIMIT} |'
+    yield f'Check the unit: mm times {1 / Fraction(str(hundredth()))}, so 22.51 mm is {Fraction("22.51") * 100} |'
+    yield 'Check the unit, dm: 24 m is 240 |'
+    yield f'[take {torsion.MOST}.000] for the factor'
     yield (f'In a log {log[0]} comes first, then {log[1]}, then {log[2]} at the first layer of thickness 0, then {log[2]} at place 0, then {log[3]}.')
     yield f'a `site` line has neither {sheet.SITE.groups} nor {sheet.TWO_PAIRS.groups} numbers'
     yield f'Cohesive soil with N below {soil.VALUE[soil.COHESIVE][0]} is entered as [soft clay], kind {soil.SOFT_CLAY}'
@@ -213,11 +225,31 @@ def of_district_page():
     yield f'Row 1 of part0001.sheets is then sheet {district.MOST_JOBS + 1} of the whole file.'
 
 
+def of_drift_page():
+    """Sentences of the page on drift and torsion."""
+    unit, parts, percent = hundredth(), drift.PARTS_OF_LIMIT, accidental.PART * 100
+    limit = DRIFT_LIMIT * parts
+    assert Fraction(str(unit)) * drift.UNITS_OF_A_DM == 100 and parts == drift.UNITS_OF_A_DM
+    yield f'with its sign: mm times {100}'
+    yield f'the {float(DRIFT_LIMIT)} of 2.5.4 is {limit} |'
+    yield f'The limit of 2.5.4, {float(DRIFT_LIMIT)}, is {limit} here.'
+    yield f'1 dm is {comma(parts)} times {unit} mm, and the limit is in ten-thousandths. So the two {comma(parts)} cancel'
+    yield f'the bars of storeys 1 and 5 reach beyond the limit of {float(DRIFT_LIMIT)}'
+    yield f'In the Taipei Basin. (24) has {decimal(sites.V_STAR)} everywhere; (19) has {decimal(basins.V_STAR)} in the Basin'
+    yield f'could not pass (2 / {decimal(torsion.TIMES_AVERAGE)})² ='
+    yield f'2.5.2 asks for no more than {float(torsion.MOST)}: take {torsion.MOST}.000.'
+    yield f'The factor is at most {torsion.MOST}.000. It is never below the smaller of the exact A_x and {float(torsion.MOST)}, and less than one thousandth above it'
+    yield f'each way by {percent} % of the plan dimension'
+    yield f'{comma(10_000 * accidental.HUNDREDTHS)} hundredths of a N·dm are 1 kN·m. To check: {percent} % of'
+    yield f'and the core refuses with {order("torsion")[-1]}.'
+
+
 def of_others():
     """(page, sentence) of pages that are filled."""
     for page, divisor in (('worked.md', sites.V_STAR), ('near_fault.md', sites.V_STAR), ('basin.md', basins.V_STAR)):
         yield page, f'the 1.4 of (7) and (17) becomes {comma(SHEAR)}, and the {decimal(divisor)} of (19) becomes {comma(int(divisor * 10**4))};'
-    yield 'README.md', f'what each number from 1 to {of_district()[0]} means'
+    yield 'README.md', f"what each number from 1 to {order('accidental_moments')[-1]} means"
+    yield 'rounding.md', f'never below the smaller of the exact A_x and {float(torsion.MOST)}, and less than one thousandth above it.'
     yield 'README.md', f'how up to {district.MOST_JOBS} sheets are run at once'
     yield 'worked.md', f'There is no [roof force] up to {storeys.NO_ROOF_FORCE} ms. Above that it is {decimal(roof.RISING)} · T · V_D'
     yield 'near_fault.md', f'There is no [roof force] up to {storeys.NO_ROOF_FORCE} ms.'
@@ -235,7 +267,8 @@ def of_others():
 def by_sentence():
     """(holds, words) of each sentence that must stand on its page."""
     wanted = [*of_others(), *((page, words) for page, said in (
-        ('sheet.md', of_sheet()), ('rules.md', of_rules()), ('refusals.md', of_refusals()), ('scope.md', of_scope()), ('district.md', of_district_page()))
+        ('sheet.md', of_sheet()), ('rules.md', of_rules()), ('refusals.md', of_refusals()), ('scope.md', of_scope()), ('district.md', of_district_page()),
+        ('drift.md', of_drift_page()))
         for words in said)]
     for page, words in wanted:
         yield words in plain((MANUAL / page).read_text()), f'docs/manual/{page}: does not say: {words}'

@@ -11,10 +11,12 @@ import sys
 from fractions import Fraction
 from math import ceil
 
-from tests.model import district, limits, sheet, storeys
+from tests.compares.header_words import DRIFT_LIMIT, DRIFT_SHEAR, factors, hundredth
+from tests.model import district, drift, limits, sheet, storeys, torsion
 from tests.stated import held, plain, releases
 from tests.writes import roof
 from tests.writes.five_jobs import JOBS
+from tests.writes.six_storeys import ENDS
 from tests.writes.by_hand.text import comma, decimal, ranged
 from tests.writes.by_hand.worked import read
 
@@ -95,15 +97,17 @@ def version_before(version):
 def versions():
     """The release, and what older ones answered."""
     brought = releases((ROOT / 'CHANGELOG.md').read_text())
-    newest, finer, roofs, clay, pairs = (brought[title] for title in (
-        next(iter(brought)), 'a finer spectrum', 'the roof force rule', 'soft clay by its strength', 'near-fault factors for each hazard level'))
+    newest, finer, roofs, clay, pairs, districts = (brought[title] for title in (
+        next(iter(brought)), 'a finer spectrum', 'the roof force rule', 'soft clay by its strength', 'near-fault factors for each hazard level',
+        'a whole district in one call'))
     major, minor, last = map(int, newest.split('.'))
     assert major * 10**6 + minor * 1000 + last == numbers('rukeshomaji.h')['VERSION']
     W, I, alphay = limits.LEVELS[-1] * limits.WEIGHT[-1], limits.I_VALUES[-1], limits.ALPHA_Y[0]
     most = ceil(MARGIN * Fraction(I * W * 1000 * 10, 14 * alphay) / 10**6 + BASE)      # six millionths of the heaviest building, plus 1 N
     yield f'The version is {newest}. A program of version {pairs.removesuffix(".0")} to {version_before(newest)} needs no change.'
-    yield f'All figures are those of {version_before(newest)}; `rukeshomaji_district` is new. Soft clay in a soil log is taken since {clay}.'
-    assert newest == brought['a whole district in one call']
+    yield (f'All figures are those of {version_before(newest)}; `rukeshomaji_drift`, `rukeshomaji_torsion` and `rukeshomaji_accidental_moments` are new. '
+           f'`rukeshomaji_district` is there since {districts}, and soft clay in a soil log is taken since {clay}.')
+    assert newest == brought['drift and torsion']
     yield f'Shears of {version_before(finer)} are the same or some newtons higher, in the heaviest buildings by less than {comma(most)} N'
     yield (f'Where T is up to {storeys.NO_ROOF_FORCE} ms, or {comma(roof.QUARTER_FROM)} ms or more, forces, shears and moments can differ from those of '
            f'{version_before(roofs)} by more')
@@ -124,6 +128,20 @@ def of_districts():
     yield f'call it with {NUMBER_WORDS[len(JOBS)]} jobs.'
 
 
+def of_drifts():
+    """Drift, torsion and accidental moments."""
+    header = numbers('rukeshomaji.h')
+    assert (header['MOST_DISPLACEMENT'], header['MOST_DRIFT_LIMIT'], header['MOST_DIMENSION'], header['MOST_TORSION_FACTOR']) == (
+        limits.DISPLACEMENT[-1], limits.DRIFT_LIMIT[-1], limits.DIMENSION[-1], factors()[1])
+    yield 'Three more calls are for'
+    yield f'make them for a frame, {NUMBER_WORDS[len(ENDS)]} floors and the worked sheet.'
+    yield f'displacements in {hundredth()} mm with their signs, the limit in ten-thousandths: {float(DRIFT_LIMIT)} is {DRIFT_LIMIT * drift.PARTS_OF_LIMIT}.'
+    yield f'the base shear of {DRIFT_SHEAR}, which is [not V_D]'
+    yield f'rounded up, at most {factors()[1]:,} and with no lower bound'
+    yield f'in hundredths of a N·dm, by a plan dimension of {ranged(limits.DIMENSION)} dm'
+    yield f'The torsion factor is at most {torsion.MOST}.000, never below the smaller of the exact A_x and {float(torsion.MOST)}, and less than one thousandth above it.'
+
+
 def sentences():
     """What README.md says, with the numbers that it must have."""
     near, basin = example('near_fault'), example('basin')
@@ -141,6 +159,7 @@ def sentences():
     yield from fragment()
     yield from versions()
     yield from of_districts()
+    yield from of_drifts()
     yield from SAID
 
 

@@ -2,8 +2,8 @@
 
 usage: python3 -m tests.stored
 
-Of jobs judged (run_refusals), shear calls and distributions (run_calls), soil logs (run_logs) and sheets (run_sheets), on a site and in the
-Basin where there is a ground:
+Of jobs judged (run_refusals), shear calls and distributions (run_calls), soil logs (run_logs), sheets (run_sheets), and drift, torsion and accidental
+moments (run_drifts), on a site and in the Basin where there is a ground:
 - every refusal is given at every place; of levels and layers at the first, at one between and at the last, of lines at 1, 2, 3 and a later one
 - both sides of every limit are there, with nothing else wrong
 - every two refusals that can apply together are there, with nothing else wrong, and the earlier one is given; one at two places too

@@ -1,10 +1,11 @@
 """Numerals of the model, each changed by one: are they seen by what the gate holds the definitions and the code to?
 
 The numerals of the chain are tried on the jobs of crates/vectors, those of the soil log on the logs of crates/run_logs, those of
-the ranges and refusals on the changed jobs of crates/run_refusals, the jobs of crates/vectors and the shear calls and
-distributions of crates/run_calls, those of districts on crates/run_districts and on the file of sheets of crates/district: the files
-that stand there, which the unchanged model must meet first. What they do not see, and the numerals of towers, are tried on the figures
-of tests/compares/check_model.py. A numeral of an assertion is left alone, and so are the names of LEFT, each with its reason.
+the ranges and refusals on the changed jobs of crates/run_refusals, the jobs of crates/vectors, the shear calls and distributions of
+crates/run_calls and the cases of crates/run_drifts, those of districts on crates/run_districts and on the file of sheets of crates/district,
+those of drift, torsion and accidental moments on crates/run_drifts: the files that stand there, which the unchanged model must meet first.
+What they do not see, and the numerals of towers, are tried on the figures of tests/compares/check_model.py. A numeral of an assertion is left
+alone, and so are the names of LEFT, each with its reason.
 
 usage: python3 -m tests.compares.changed_numerals
 """
@@ -21,9 +22,9 @@ import sys
 
 from tests.compares import check_model
 from tests.compares.checks import basin as basin_figures, errors, figures, sheet_files, towers as tower_figures
-from tests.model import basin, calls, district, exact, limits, response, shears, sheets, site, soil, storeys, towers
+from tests.model import accidental, basin, calls, district, drift, exact, limits, response, shears, sheets, site, soil, storeys, torsion, towers
 from tests.model.job import job
-from tests.writes import call_cases, district_sheets, districts, log_cases, refusal_cases, vectors
+from tests.writes import call_cases, district_sheets, districts, drifts, log_cases, refusal_cases, stored_drifts, vectors
 
 LEFT = {
     **dict.fromkeys(('DIGITS', 'low_fraction', 'high_fraction', 'squares', 'bounds', 'base_margin', 'check', 'check_distribution'),
@@ -98,8 +99,10 @@ def called(case):
 
 
 def judged(*case):
-    """What the program `run_refusals` says of a changed job, or `run_calls` of a call; or a job's stages, which are there where it is
-    accepted."""
+    """What the program `run_refusals` says of a changed job, `run_calls` of a call or `run_drifts` of a case; or a job's stages, which are there where
+    it is accepted."""
+    if isinstance(case[0], tuple(stored_drifts.LINES)):
+        return case[0].said()
     if isinstance(case[0], (call_cases.Shear, call_cases.Distribution)):
         return called(*case)
     return refusal_cases.outcome(*case) if len(case) == 1 else vector(*case)
@@ -141,10 +144,12 @@ def suites():
     yield (site, basin, response, shears, storeys, exact), vector, rows, [vector(*row) for row in rows]
     logs = [*(log_cases.lists(*case) for case in log_cases.all_cases()), *log_cases.values()]
     yield (soil,), log_or_velocity, logs, answers(CRATES / 'run_logs' / 'stdout')
+    of_drift = drifts.all_cases()
+    yield (drift, torsion, accidental), judged, [(case,) for case in of_drift], drifts.stored(of_drift)
     jobs = [(changes,) for changes in refusal_cases.all_cases()]
     cases = call_cases.all_cases()
-    known = [*answers(CRATES / 'run_refusals' / 'stdout'), *(vector(*row) for row in rows), *call_cases.stored(cases)]
-    yield (limits, calls), judged, [*jobs, *rows, *((case,) for case in cases)], known
+    known = [*drifts.stored(of_drift), *answers(CRATES / 'run_refusals' / 'stdout'), *(vector(*row) for row in rows), *call_cases.stored(cases)]
+    yield (limits, calls), judged, [*((case,) for case in of_drift), *jobs, *rows, *((case,) for case in cases)], known
     yield (towers,), towers.holds, [], []        # no stored case says what towers add up to
     cases = districts.all_cases()
     known = [*districts.stored(cases), district_sheets.stored()]

@@ -10,7 +10,7 @@ import platform
 import subprocess
 import sys
 
-from tests.compares.structs import U64, DistrictJob, Figures, Frame, Listing, Report, Row, Site, SiteClass
+from tests.compares.structs import I64, U64, DistrictJob, Figures, Frame, Listing, Report, Row, Site, SiteClass, Torsion
 from tests.model import limits
 
 ROOT = pathlib.Path(__file__).resolve().parents[2]
@@ -40,7 +40,7 @@ def load():
     """The functions, with their types."""
     needs_x86_64()
     library = ctypes.CDLL(GIVEN or str(SHARED))
-    slices = [ctypes.POINTER(U64), U64]
+    slices, signed = ([ctypes.POINTER(kind), U64] for kind in (U64, I64))
     for ground, kind in (('', ctypes.POINTER(Site)), ('basin_', U64)):
         for name, lists in (('job', 5), ('figures', 2)):
             entry = getattr(library, f'rukeshomaji_{ground}{name}')
@@ -51,32 +51,36 @@ def load():
     library.rukeshomaji_site_class.argtypes = [*slices * 3, ctypes.POINTER(SiteClass)]
     library.rukeshomaji_sheet.argtypes = [ctypes.c_char_p, U64, ctypes.c_char_p, ctypes.POINTER(Listing)]
     library.rukeshomaji_district.argtypes = [ctypes.POINTER(DistrictJob), U64, *slices * 2, ctypes.POINTER(Row), U64, ctypes.POINTER(Report)]
+    library.rukeshomaji_drift.argtypes = [*slices, *signed, U64, *slices, ctypes.POINTER(U64)]
+    library.rukeshomaji_torsion.argtypes = [U64, U64, ctypes.POINTER(Torsion)]
+    library.rukeshomaji_accidental_moments.argtypes = [U64, U64, *slices * 2, U64, *signed * 2, ctypes.POINTER(U64)]
     for name in ('job', 'figures', 'basin_job', 'basin_figures', 'shear_call', 'basin_shear_call', 'distribution', 'site_class', 'sheet',
-                 'district', 'version', 'edition', 'source'):
+                 'district', 'drift', 'torsion', 'accidental_moments', 'version', 'edition', 'source'):
         getattr(library, f'rukeshomaji_{name}').restype = U64
     return library
 
 
-def lent(numbers):
-    """A slice of u64, as a pointer and a length."""
-    return (U64 * len(numbers))(*numbers), len(numbers)
+def lent(numbers, kind=U64):
+    """A slice of u64, or of i64, as a pointer and a length."""
+    return (kind * len(numbers))(*numbers), len(numbers)
 
 
 GUARD = 8
 PAINT = 0xA5A5A5A5A5A5A5A5
 
 
-def lent_out(cells):
+def lent_out(cells, kind=U64):
     """Cells in the middle of a longer array, and what says whether anything beside them was written."""
-    array = (U64 * (len(cells) + 2 * GUARD))(*[PAINT] * GUARD, *cells, *[PAINT] * GUARD)
-    return array, ctypes.cast(ctypes.byref(array, GUARD * ctypes.sizeof(U64)), ctypes.POINTER(U64)), len(cells)
+    paint = [kind(PAINT).value] * GUARD
+    array = (kind * (len(cells) + 2 * GUARD))(*paint, *cells, *paint)
+    return array, ctypes.cast(ctypes.byref(array, GUARD * ctypes.sizeof(kind)), ctypes.POINTER(kind)), len(cells)
 
 
 def cells_of(array):
     """What the cells hold after; None where something beside them was written."""
     numbers = list(array)
     beside = numbers[:GUARD] + numbers[len(numbers) - GUARD:]
-    return numbers[GUARD:len(numbers) - GUARD] if set(beside) == {PAINT} else None
+    return numbers[GUARD:len(numbers) - GUARD] if {U64(each).value for each in beside} == {PAINT} else None
 
 
 def numbers_of(struct):
@@ -165,3 +169,26 @@ def district(library, jobs, weights, heights, rows):
     cells, width = cells_of(held), len(Row._fields_)
     after = cells if cells is None else [tuple(cells[first:first + width]) for first in range(0, len(cells), width)]
     return (number, after, cells_of(array)), same
+
+
+def drift(library, heights, displacements, limit, verdicts):
+    """(number, place), what the verdicts hold after, and whether what is only read is as it was."""
+    out, lists, (array, place, _) = lent_out(verdicts), [lent(heights), lent(displacements, I64)], lent_out([PAINT])
+    number = library.rukeshomaji_drift(*lists[0], *lists[1], limit, *out[1:], place)
+    same = [list(each) for each, _ in lists] == [list(heights), list(displacements)]
+    return answer(number, array), [cells_of(out[0])], same
+
+
+def torsion(library, largest, average):
+    """(number, place, factor)"""
+    array, reply = painted(Torsion)
+    return answer(library.rukeshomaji_torsion(largest, average, reply), array)
+
+
+def accidental_moments(library, base_shear, period, weights, heights, dimension, buffers):
+    """(number, place), what the positive and the negative buffer hold after, and whether what is only read is as it was."""
+    out, lists, (array, place, _) = [lent_out(each, I64) for each in buffers], [lent(weights), lent(heights)], lent_out([PAINT])
+    slices = (part for _, pointer, length in out for part in (pointer, length))
+    number = library.rukeshomaji_accidental_moments(base_shear, period, *lists[0], *lists[1], dimension, *slices, place)
+    same = [list(each) for each, _ in lists] == [list(weights), list(heights)]
+    return answer(number, array), [cells_of(each) for each, _, _ in out], same

@@ -3,8 +3,8 @@ of its comments to the model and to the manual.
 
 usage: python3 -m tests.compares.header
 
-- every constant of the header is the core's: one of crates/limits/src, crates/sheet/src, crates/district_call/src or crates/linked/src, by the
-  table below; every refusal number of the core is in the header
+- every constant of the header is the core's: one of crates/limits/src, crates/sheet/src, crates/district_call/src, crates/drift/src or
+  crates/linked/src, by the table below; every refusal number of the core is in the header
 - every range that the header prints is the core's
 - the lines `Refused`, the places, classes, kinds, bounds, versions and equations of the comments are as tests/compares/header_words.py says, and no
   numeral of a comment is held by nothing
@@ -29,6 +29,8 @@ CONSTANTS = {
     'MOST_LEVELS': 'limits/level MOST', 'MOST_LAYERS': 'limits/layer MOST', 'MOST_BYTES': 'limits/sheet BYTES_MOST',
     'LONGEST_LISTING': 'sheet/listing LONGEST', 'MOST_TOTAL_WEIGHT': 'limits/building WEIGHT_MOST',
     'MOST_BASE_SHEAR': 'limits/handed SHEAR_MOST', 'DISTRICT_JOBS': 'limits/district JOBS_MOST', 'CELLS': 'district_call/report CELLS',
+    'MOST_DISPLACEMENT': 'limits/displacement SIZE_MOST', 'MOST_DRIFT_LIMIT': 'limits/displacement MOST', 'MOST_DIMENSION': 'limits/plan DIMENSION_MOST',
+    'MOST_TORSION_FACTOR': 'drift/torsion FACTOR_MOST',
     'HARD': 'limits/class HARD', 'NORMAL': 'limits/class NORMAL', 'SOFT': 'limits/class SOFT',
     'STEEL': 'limits/kind STEEL', 'CONCRETE': 'limits/kind CONCRETE', 'BRACED': 'limits/kind BRACED', 'OTHER': 'limits/kind OTHER',
     'NO_PERIOD': 'limits/frame NO_PERIOD',
@@ -57,15 +59,19 @@ RANGES = [
     ('among the levels, N: ', 'limits/handed SHEAR_LEAST SHEAR_MOST'), ('roof force, ms: ', 'limits/handed PERIOD_LEAST PERIOD_MOST'),
     ('of the stretch, levels: ', 'limits/level FEWEST MOST'), ('see above: at most ', 'limits/district JOBS_MOST'),
     ('of a whole district: over ', 'limits/district JOBS_MOST'),
+    ('each with its sign: at most ', 'limits/displacement SIZE_MOST', ' in size'), ('of the angle, ten-thousandths: ', 'limits/displacement LEAST MOST'),
+    ('without a sign, 0.01 mm: at most ', 'limits/displacement SIZE_MOST'), ('right angle to the forces, dm: ', 'limits/plan DIMENSION_LEAST DIMENSION_MOST'),
+    ('thousandths, rounded up, and at most ', 'drift/torsion FACTOR_MOST'), ('for each of ', 'limits/level FEWEST MOST', ' levels'),
 ]
 # what the core takes, as C declares it; the array of a struct by the parameter's name
 TYPES = {
     '&[u64]': 'const uint64_t *, uint64_t', '&mut [u64]': 'uint64_t *, uint64_t', '&[u8]': 'const char *, uint64_t',
+    '&[i64]': 'const int64_t *, uint64_t', '&mut [i64]': 'int64_t *, uint64_t',
     '&mut [u8; LONGEST]': 'char *', '&mut u64': 'uint64_t *', 'u64': 'uint64_t',
 }
 STRUCTS = {
     'site': 'RukeshomajiSite', 'frame': 'RukeshomajiFrame', 'figures': 'RukeshomajiFigures',
-    'site_class reply': 'RukeshomajiClass', 'sheet reply': 'RukeshomajiListing',
+    'site_class reply': 'RukeshomajiClass', 'sheet reply': 'RukeshomajiListing', 'torsion reply': 'RukeshomajiTorsion',
     'jobs': 'RukeshomajiDistrictJob', 'rows': 'RukeshomajiRow', 'report': 'RukeshomajiReport',
 }
 # where the core says how many cells an array has

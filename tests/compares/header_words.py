@@ -6,19 +6,23 @@ its own sentences; a numeral in none of them is wrong.
 
 import pathlib
 import re
+from fractions import Fraction
 
-from tests.model import district, limits, sheet, site as sites, soil, storeys
+from tests.model import accidental, district, drift, limits, sheet, site as sites, soil, storeys, torsion
 from tests.stated import held, plain, releases, runs
 
 ROOT = pathlib.Path(__file__).resolve().parents[2]
 NAME = 'include/rukeshomaji.h'
 RELEASES = releases((ROOT / 'CHANGELOG.md').read_text())
-PARTED, SOFT_CLAY, DISTRICT = (RELEASES[title] for title in (
-    'the shear parted from its distribution', 'soft clay by its strength', 'a whole district in one call'))
+PARTED, SOFT_CLAY, DISTRICT, DRIFT = (RELEASES[title] for title in (
+    'the shear parted from its distribution', 'soft clay by its strength', 'a whole district in one call', 'drift and torsion'))
 HANDED_IN = 2           # N: "less than two newtons above", of a shear that is handed in
 PART = 4                # "never more than a quarter of V_D"
 SCALES = '3.4'          # the section of 000 by which V_D scales a dynamic analysis
+DRIFT_LIMIT = Fraction('0.005')     # 000, 2.5.4: "shall not exceed 0.005"
+DRIFT_SHEAR = '(24)'    # the equation of 000 for the base shear of drift
 OF_STOREYS = ('F_t', 'shear under level x', 'force at level x', 'overturning')      # rows of the rules
+OF_DRIFT = ('drift angle', 'verdict', 'A_x', 'accidental moment')
 # what is said in digits and is no number of the rules
 SAID = ('x86-64 Linux', '64-bit numbers', 'An entry returns 0, or the number', 'A district returns 0 also', "a listing's length are 0.",
         '/* 0: on the site, and the zone', 'counted from 0 in the store', 'cell k, from 0 on:',
@@ -38,7 +42,14 @@ def wrong_everywhere():
     return {'job': list(limits.refusals(site, frame, *levels)), 'basin_job': list(limits.refusals(zone, frame, *levels)),
             'shear_call': list(limits.shear_call_refusals(site, frame, 0, 0)), 'basin_shear_call': list(limits.shear_call_refusals(zone, frame, 0, 0)),
             'distribution': list(limits.distribution_refusals(0, limits.PERIOD[-1] + 1, *levels)), 'site_class': list(soil.refusals(*log)),
-            'sheet': [too_long, not_laid_out]}
+            'sheet': [too_long, not_laid_out], **wrong_drifts()}
+
+
+def wrong_drifts():
+    """The same of a drift call, a torsion call and accidental moments."""
+    most, beyond = limits.LEVELS[-1], limits.DISPLACEMENT[-1] + 1
+    return {'drift': list(limits.drift_refusals([0] * (most + 1), [beyond] * most, 0, ())), 'torsion': list(limits.torsion_refusals(0, beyond)),
+            'accidental_moments': list(limits.accidental_refusals(0, limits.PERIOD[-1] + 1, [0] * (most + 1), [0] * most, 0, ()))}
 
 
 REFUSALS = wrong_everywhere()
@@ -100,7 +111,7 @@ def references():
     on_site, steps = column('rules.md', '', 'in 000'), column('soil.md', 'The steps', 'in 000')
     in_basin = {**on_site, **column('basin.md', 'The rules', 'in 000')}
     replaced = ('S_S, S_1', 'F_a, F_v', 'A, B')        # what a zone has in place of these, basin.md says
-    base = {name: [cell for step, cell in table.items() if step not in OF_STOREYS and not (name == 'basin' and step in replaced)]
+    base = {name: [cell for step, cell in table.items() if step not in OF_STOREYS + OF_DRIFT and not (name == 'basin' and step in replaced)]
             for name, table in (('site', on_site), ('basin', in_basin))}
     roof, turning = (equations([on_site[step]]) for step in ('F_t', 'overturning'))
     (table_4,) = re.findall(r'Table \d', in_basin['T0'])
@@ -113,7 +124,9 @@ def references():
             'basin_job': f'document 000, {after}, {runs(basin + roof, "({})")}, {table_4}, ({turning[0]}) without its factor.',
             'basin_figures': f'document 000, {after}, {runs(basin, "({})")}, {table_4}',
             'distribution': f'document 000 ({roof[0]}) with base_shear for V_D and period for T, ({turning[0]}) without its factor.',
-            'site_class': f'document 000 {", ".join(named)}', 'roof': f'F_t of ({roof[0]})'}
+            'site_class': f'document 000 {", ".join(named)}', 'roof': f'F_t of ({roof[0]})',
+            'drift': f"document 000, {on_site['verdict']}.", 'torsion': f"document 000 {on_site['A_x'].split(', ')[-1]};",
+            'accidental_moments': f"document 000, {on_site['accidental moment']};"}
 
 
 def general(constant):
@@ -137,6 +150,7 @@ def general(constant):
     yield f'For a sheet {too_long}, then {not_laid_out}, come before all others.'
     whole, row, _ = of_district()
     yield f'A district is refused with {whole} alone, as a whole; a row of it with {row} before all others.'
+    yield from of_drifts()
     yield from places_said()
     classes = ', '.join(f'{constant(f"limits/class {name.upper()}")} {name}' for name in ('hard', 'normal', 'soft'))
     yield f'site class: {classes}'
@@ -154,11 +168,40 @@ def general(constant):
     yield from SAID
 
 
+def factors():
+    """The least torsion factor, of equal displacements, and the largest, in thousandths."""
+    return torsion.torsion(1, 1).factor, torsion.torsion(limits.FLOOR_DISPLACEMENT[-1], 1).factor
+
+
+def hundredth():
+    """The unit of a displacement, in mm: so many of it are a dm."""
+    return float(Fraction(100, drift.UNITS_OF_A_DM))
+
+
+def of_drifts():
+    """Sentences on drift, torsion and accidental moments before the entries."""
+    levels, (drifts, floor, moments) = order('job')[:4], (order(call) for call in ('drift', 'torsion', 'accidental_moments'))
+    (no_weights,), own = [each for each in levels if each not in drifts], [each for each in drifts if each not in levels]
+    assert drift.PARTS_OF_LIMIT == 10_000
+    yield (f'A drift call has no weights: its {drifts[0]} is of the heights, it has no {no_weights}, and {own[0]}, then {own[1]}, '
+           f'follow {runs(drifts[:-2])}.')
+    yield f'In a torsion call {floor[1]} follows {floor[0]}.'
+    yield (f"In accidental moments {', '.join(map(str, moments[4:]))} follow {runs(moments[:4])}. "
+           f'No other entry returns {runs(sorted({*own, *floor, moments[-1]}))}.')
+    yield f'of a displacement, in {hundredth()} mm'
+    yield 'of a drift call, in ten-thousandths'
+    yield f'in thousandths; since {DRIFT} */'
+    yield f'The answer to a torsion call, since {DRIFT}.'
+    least, most = factors()
+    yield f'A_x, thousandths: {least} to {most:,}; 0 where data is refused'
+
+
 def places_said():
     """The places beside the refusal numbers."""
     def at(call, number):
         return f': {places(call, number)} */'
-    yield 'judged on the weights' + at('job', 1)
+    yield 'judged on the weights, of a drift call on the heights' + at('job', 1)
+    assert places('job', 1) == places('drift', 1)
     yield 'shorter than them' + at('job', 2)
     yield f"weight out of range: level, the lowest is {first_place('job', 3)}; of a shear call" + at('shear_call', 3)
     yield 'of a shear call out of range' + at('shear_call', 4)
@@ -174,8 +217,14 @@ def places_said():
     yield f'line of a sheet not as laid out: line, the first is {REFUSALS["sheet"][1][1]} */'
     yield f'sheet over {sheet.MOST_BYTES:,} bytes: {REFUSALS["sheet"][0][1]} */'
     yield f'zone not {limits.ZONE[0]} to {limits.ZONE[-1]}' + at('basin_job', 18)
-    yield 'base shear of a distribution out of range' + at('distribution', 19)
-    yield 'period of a distribution out of range' + at('distribution', 20)
+    yield 'base shear of a distribution or of accidental moments out of range' + at('distribution', 19)
+    yield 'period of a distribution or of accidental moments out of range' + at('distribution', 20)
+    assert all(places('distribution', number) == places('accidental_moments', number) for number in (19, 20))
+    assert first_place('drift', 23) == first_place('job', 3)
+    yield '23 /* displacement out of range: level; of a torsion call' + at('torsion', 23)
+    yield '24 /* limit of a drift call out of range' + at('drift', 24)
+    yield '25 /* average displacement of a torsion call 0, or above the largest' + at('torsion', 25)
+    yield '26 /* plan dimension out of range' + at('accidental_moments', 26)
     whole, row, place = of_district()
     yield f'{row} /* of a row of a district: its stretch is outside the store: {place} */'
     yield f'{whole} /* of a whole district: over {district.MOST_JOBS} jobs, lists of unequal length, or fewer rows than jobs: 0 */'
@@ -210,6 +259,7 @@ def entries(constant):
         f"Refused {whole}, at no place, as none is written. Of a row {row}, then on a site {runs(order('job', without=[2]))}, "
         f"in the Basin {runs(order('basin_job', without=[2]))}; {three} and {four} at their level of the stretch Written",
         f'vd over W is at most {most_thousandths():,} thousandths, which is in the last cell']
+    yield from drift_entries(of)
     yield 'site_class', [
         f'the upper {soil.THICKNESS_SUM // 100} m', 'cm: above 0', f'{kinds} (N below {soil.VALUE[soil.COHESIVE][0]}', 'q, 0.01 kgf/cm2', RETURNED,
         f"A library before {SOFT_CLAY} refuses soft clay with {order('site_class')[-1]}", f"Refused {runs(order('site_class'))} Written",
@@ -217,6 +267,31 @@ def entries(constant):
     first = runs(order('sheet'))
     yield 'sheet', [RETURNED, f"Refused {first}, {runs(order('job', without=[2]))} with a line `site`; {first}, "
                     f"{runs(order('basin_job', without=[2]))} with a line `basin`"]
+
+
+def drift_entries(of):
+    """Sentences of drift, torsion and accidental moments."""
+    one, two, four, displaced, limit = order('drift')
+    least, most = factors()
+    assert torsion.bounded(Fraction(torsion.MOST)) == most
+    yield 'drift', [
+        f'since {DRIFT}: whether', 'of the two ends of the storey', f'the base has height {drift.BASE} and displacement {drift.BASE}.',
+        f'lowest first, {hundredth()} mm, each with its sign', f'The limit of document 000, {float(DRIFT_LIMIT)}, is {DRIFT_LIMIT * drift.PARTS_OF_LIMIT}',
+        RETURNED, f'Refused {one} for the heights, {two} for lists of unequal length or a buffer shorter than them, {four} at its level, '
+        f'{displaced} at its level, {limit} Written', 'of the refusal; 0 on success', f'lowest first: {drift.YES} yes, {drift.NO} no.',
+        f'turns no {drift.YES} into a {drift.NO}', f"Reference {of['drift']} The base shear of its {DRIFT_SHEAR}"]
+    yield 'torsion', [
+        f'since {DRIFT}: the amplification', f'(largest / ({float(torsion.TIMES_AVERAGE)} * average)) squared, in thousandths',
+        f'the smaller of the exact A_x and {float(torsion.MOST)}', f'It is not raised to 1.0: equal displacements get {least}.',
+        f'without a sign, {hundredth()} mm', 'above 0, and not above the largest', RETURNED,
+        f"Refused {runs(order('torsion'))}, both at place {places('torsion', order('torsion')[0])} Written", f"Reference {of['torsion']}"]
+    percent = accidental.PART * 100
+    *levels, shear, period, dimension = order('accidental_moments')
+    yield 'accidental_moments', [
+        f'since {DRIFT}: the force', f'times {percent} % of the plan dimension', RETURNED,
+        f'Refused {runs(levels)} as for rukeshomaji_job, with {levels[1]} also for either buffer, then {shear}, {period}, {dimension} Written',
+        'of the refusal; 0 on success', f'{float(Fraction(1, accidental.HUNDREDTHS))} N*dm',
+        f'the force in N times {accidental.PART * accidental.HUNDREDTHS} times the dimension in dm', f"Reference {of['accidental_moments']}"]
 
 
 def checks(header, constant, known):

@@ -1,10 +1,10 @@
-"""The structs of include/rukeshomaji.h, all of u64."""
+"""The structs of include/rukeshomaji.h, all of u64, and the types of its numbers."""
 
 import ctypes
 
 from tests.model import district
 
-U64 = ctypes.c_uint64
+U64, I64 = ctypes.c_uint64, ctypes.c_int64
 
 
 def fields(names):
@@ -40,6 +40,12 @@ class Listing(ctypes.Structure):
     """RukeshomajiListing"""
 
     _fields_ = fields('place length')
+
+
+class Torsion(ctypes.Structure):
+    """RukeshomajiTorsion"""
+
+    _fields_ = fields('place factor')
 
 
 class DistrictJob(ctypes.Structure):

@@ -5,6 +5,7 @@ import importlib.util
 import re
 
 from tests.examples.districts import districts
+from tests.examples.drifts import drifts
 from tests.examples.places import EXAMPLES, ROOT
 from tests.examples.refusals import FRAME, HEIGHTS, SITE, WEIGHTS, refusals
 from tests.model import calls, soil
@@ -93,7 +94,7 @@ def every_refusal(core):
         error = raises(core.Refused, function, *arguments)
         seen.add(number)
         yield f'refusal {number} at {place}', error and (error.number, error.place) == (number, place) and error.text in str(error)
-    yield 'every refusal', seen | {OF_A_ROW} == set(core.TEXTS) == set(range(1, 23))
+    yield 'every refusal', seen | {OF_A_ROW} == set(core.TEXTS) == set(range(1, 27))
 
 
 def of_another_kind(core):
@@ -109,6 +110,14 @@ def of_another_kind(core):
         yield f'a value of {number}', raises(OverflowError, core.site_class, [3000], [2], [number])
         yield f'a start of {number}', raises(OverflowError, core.district, [core.on_site(SITE, FRAME, number, 3)], WEIGHTS, HEIGHTS)
         yield f'a zone of {number} in a district', raises(OverflowError, core.district, [core.in_basin(number, FRAME, 0, 3)], WEIGHTS, HEIGHTS)
+        yield f'a height of {number} in a drift', raises(OverflowError, core.drift, [number], [0], 50)
+        yield f'a limit of {number}', raises(OverflowError, core.drift, [100], [0], number)
+        yield f'a largest displacement of {number}', raises(OverflowError, core.torsion, number, 1)
+        yield f'an average displacement of {number}', raises(OverflowError, core.torsion, 1, number)
+        yield f'a dimension of {number}', raises(OverflowError, core.accidental_moments, 1_071_429, 1000, WEIGHTS, HEIGHTS, number)
+    for number in (2 ** 63, -2 ** 63 - 1, 2 ** 64):
+        yield f'a displacement of {number}', raises(OverflowError, core.drift, [100], [number], 50)
+    yield 'a displacement of 1.0', raises(TypeError, core.drift, [100], [1.0], 50)
     yield 'the largest number of 64 bits', raises(core.Refused, core.figures, SITE, (2, 2 ** 64 - 1, 480, 100, 150), WEIGHTS, HEIGHTS)
     yield 'a zone of 1.0', raises(TypeError, core.basin_figures, 1.0, FRAME, WEIGHTS, HEIGHTS)
     yield 'an R of 4.8', raises(TypeError, core.job, SITE, (2, 1000, 4.8, 100, 150), WEIGHTS, HEIGHTS)
@@ -120,5 +129,5 @@ def of_another_kind(core):
 
 def run_module(core):
     """What the module answers, refuses and does not call."""
-    for check in (jobs, two_calls, districts, logs, sheet_and_version, every_refusal, of_another_kind):
+    for check in (jobs, two_calls, districts, drifts, logs, sheet_and_version, every_refusal, of_another_kind):
         yield from check(core)

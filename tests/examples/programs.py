@@ -10,6 +10,7 @@ from tests.writes.five_jobs import district_lines
 from tests.writes.logs import BORING
 from tests.writes.moves import moves_lines
 from tests.writes.scaling import scaling_lines
+from tests.writes.six_storeys import drift_lines
 from tests.writes.towers import podium_lines
 
 ARCHIVE = 'target/lib/librukeshomaji.a'
@@ -31,13 +32,14 @@ def printed(path):
 
 def run_programs():
     """Three examples print the listing of the worked sheet, two what the manual has of a scaled analysis, two its towers, two
-    which way its figures move, two its district of five jobs, two the class of its boring in soft clay; that in C++ prints every listing."""
+    which way its figures move, two its district of five jobs, two its frame, floors and moments, two the class of its boring in soft clay; that in
+    C++ prints every listing."""
     expected = (EXAMPLES / 'office.listing').read_bytes()
     for name in ('office.c', 'listing.cpp', 'rukeshomaji.py'):
         yield name, printed(EXAMPLES / name) == expected
     office = read((EXAMPLES / 'office.sheet').read_bytes())
     for example, lines in (('scaling', scaling_lines(office)), ('podium', podium_lines(office)), ('moves', moves_lines(office)),
-                           ('district', district_lines())):
+                           ('district', district_lines()), ('drift', drift_lines(office))):
         expected = ''.join(f'{line}\n' for line in lines).encode()
         for name in (f'{example}.c', f'{example}.py'):
             yield name, printed(EXAMPLES / name) == expected

@@ -21,6 +21,12 @@ def refusals(core):
     def log(*lists):
         return core.site_class, lists
 
+    def drift(heights=HEIGHTS, displacements=(100, 200, 300), limit=50):
+        return core.drift, (heights, displacements, limit)
+
+    def moments(base_shear=1_071_429, period=1000, weights=WEIGHTS, heights=HEIGHTS, dimension=240):
+        return core.accidental_moments, (base_shear, period, weights, heights, dimension)
+
     def with_number(numbers, place, number):
         return (*numbers[:place], number, *numbers[place + 1:])
 
@@ -56,4 +62,20 @@ def refusals(core):
     yield from ((19, 0, over(number, 10_000)) for number in (0, 1_200_000_001, 2 ** 64 - 1))
     yield from ((20, 0, over(period=number)) for number in (10_000, 2 ** 64 - 1))
     jobs = [core.on_site(SITE, FRAME, 0, 3)]
+    yield 1, 0, drift([], [0] * 5, 0)
+    yield 1, 0, drift(range(1, 52), [0] * 51)
+    yield 2, 0, drift(displacements=[0] * 2, limit=0)
+    yield 4, 2, drift(heights=[100, 100, 300], displacements=[2_000_000] * 3)
+    yield from ((23, place + 1, drift(displacements=with_number((100, 200, 300), place, number), limit=0)) for place in (0, 1, 2)
+                for number in (1_000_001, -1_000_001, 2 ** 63 - 1, -2 ** 63))
+    yield from ((24, 0, drift(limit=number)) for number in (0, 10_001, 2 ** 64 - 1))
+    yield from ((23, 0, (core.torsion, numbers)) for numbers in ((1_000_001, 0), (0, 1_000_001), (2 ** 64 - 1, 1), (1, 2 ** 64 - 1)))
+    yield from ((25, 0, (core.torsion, numbers)) for numbers in ((0, 0), (1_000_000, 0), (999_999, 1_000_000)))
+    yield 1, 0, moments(0, 10_000, [], [], 0)
+    yield 2, 0, moments(0, heights=HEIGHTS[:2], dimension=0)
+    yield 3, 2, moments(0, weights=[5000, 20_001, 5000])
+    yield 4, 3, moments(0, heights=[100, 200, 200])
+    yield 19, 0, moments(0, 10_000, dimension=0)
+    yield 20, 0, moments(period=10_000, dimension=0)
+    yield from ((26, 0, moments(dimension=number)) for number in (0, 5_001, 2 ** 64 - 1))
     yield from ((22, 0, (core.district, arguments)) for arguments in ((jobs * 257, WEIGHTS, HEIGHTS), (jobs, WEIGHTS, HEIGHTS[:2]), ([], [], [1])))

@@ -6,7 +6,7 @@ from fractions import Fraction
 
 def value(formula, **names):
     """What a formula of the rules comes to, in exact fractions."""
-    for sign, meant in (('·', '*'), ('−', '-'), ('(T in s)', 'T_s'), ('alpha-y', 'alpha_y'), ('⁴', '**4'), ('³', '**3'), ('≤', '<='),
+    for sign, meant in (('·', '*'), ('−', '-'), ('(T in s)', 'T_s'), ('alpha-y', 'alpha_y'), ('⁴', '**4'), ('³', '**3'), ('²', '**2'), ('≤', '<='),
                         ('≥', '>='), (' ms', '')):
         formula = formula.replace(sign, meant)
     exact = re.sub(r'(?<![\w.])\d+(?:\.\d+)?', lambda number: f"Fraction('{number[0]}')", formula)

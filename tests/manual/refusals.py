@@ -3,9 +3,10 @@
 import re
 
 from tests.manual.pages import OFFICE, ROOT, listed, page, rows, with_line
-from tests.model import calls, district, limits, sheet, sheets, soil
+from tests.model import accidental, calls, district, drift, limits, sheet, sheets, soil, torsion
 from tests.writes.by_hand.text import comma, ranged
 from tests.writes.by_hand.worked import read
+from tests.writes.six_storeys import DISPLACEMENTS, HEIGHTS, LIMIT, signed
 
 
 def either(values):
@@ -26,10 +27,13 @@ SAID = {
     17: [f'more than {comma(sheet.MOST_BYTES)} bytes'], 18: ['not ' + either(limits.ZONE)], 19: [f'not {ranged(limits.BASE_SHEAR)} N'],
     20: [f'above {comma(limits.PERIOD[-1])} ms'], 21: [], 22: [f'more than {district.MOST_JOBS} jobs', f'more than {district.MOST_JOBS} sheets or more than '
                                                                f'{comma(sheets.MOST_BYTES)} bytes'],
+    23: [f'not {signed(limits.DISPLACEMENT[0])} to {signed(limits.DISPLACEMENT[-1])}, in 0.01 mm'],
+    24: [f'is 0, or above {comma(limits.DRIFT_LIMIT[-1])} ten-thousandths'], 25: ['is 0, or above the largest'], 26: [f'not {ranged(limits.DIMENSION)} dm'],
 }
-# what those at place 0 must say, of a shear call
+# what those at place 0 must say, of a shear call and of a floor
 SAID_AT_0 = {3: [f'the total weight of a [shear call](shear_and_storeys.md) is not {ranged(limits.TOTAL_WEIGHT)} kN'],
-             4: [f'the top height of a [shear call](shear_and_storeys.md) is not {ranged(limits.HEIGHT)} dm']}
+             4: [f'the top height of a [shear call](shear_and_storeys.md) is not {ranged(limits.HEIGHT)} dm'],
+             23: [f'is above {comma(limits.FLOOR_DISPLACEMENT[-1])}, in 0.01 mm']}
 
 
 def of_call(unit, number):
@@ -58,7 +62,22 @@ def answer(example):
     stretch = re.match(r'job with start (\d+) and count (\d+) in a store of (\d+) levels$', example)
     if stretch:
         return of_stretch(*map(int, stretch.groups()))
-    return of_words(example)
+    return of_drift(example) or of_words(example)
+
+
+def of_drift(example):
+    """What the model answers where a number of the manual's frame, of a floor, or of the worked sheet's accidental moments is another."""
+    numbers = [int(each.replace(',', '')) for each in re.findall(r'\d[\d,]*', example)]
+    form, office, said = re.sub(r'\d[\d,]*', 'N', example), read(OFFICE), None
+    if form == 'drift with a displacement of N at level N':
+        said = drift.drift(HEIGHTS, [numbers[0] if level == numbers[1] else each for level, each in enumerate(DISPLACEMENTS, 1)], LIMIT)
+    if form == 'drift with a limit of N':
+        said = drift.drift(HEIGHTS, DISPLACEMENTS, *numbers)
+    if form == 'floor with N and an average of N':
+        said = torsion.torsion(*numbers)
+    if form == 'accidental moments with N dm':
+        said = accidental.accidental(office.V_D, office.T, office.weights, office.heights, *numbers)
+    return said and list(map(str, said))
 
 
 def of_stretch(start, count, length):
@@ -86,7 +105,7 @@ def of_words(example):
 
 
 def order(text):
-    """Where 18 to 22 stand in the order."""
+    """Where 18 to 26 stand in the order."""
     wrong = limits.refusals(limits.Basin(5), (5, 60_001, 99, 99, 99), [0], [0, 0], ())
     yield [number for number, _ in wrong] == [2, 3, 4, 4, 18, 8, 9, 10, 11, 12], 'docs/manual/refusals.md: 18 is not where the page says'
     yield '18 stands in place of 5 to 7, after 1 to 4 and before 8 to 12' in text.replace('\n', ' '), 'docs/manual/refusals.md: the place of 18'
@@ -98,6 +117,12 @@ def order(text):
     yield refused == (21, 22), 'docs/manual/refusals.md: 21 and 22 do not come first'
     said = '21 comes before all other numbers of its row, and 22 is of the whole call'
     yield said in text.replace('\n', ' '), 'docs/manual/refusals.md: the place of 21 and 22'
+    beyond = limits.DISPLACEMENT[-1] + 1
+    wrong = (limits.drift_refusals([0], [beyond] * 2, 0, ()), limits.torsion_refusals(0, beyond), limits.accidental_refusals(0, 10_000, [0], [0, 0], 0, ()))
+    found = [[number for number, _ in each] for each in wrong] + [[limits.judge_drift([], [0], LIMIT)[0]]]
+    yield found == [[2, 4, 23, 23, 24], [23, 25], [2, 3, 4, 4, 19, 20, 26], [1]], 'docs/manual/refusals.md: 23 to 26 are not where the page says'
+    said = '23, then 24, come after 1, 2 and 4; in torsion 25 comes after 23; in accidental moments 19, 20 and 26 come after 1 to 4'
+    yield said in text.replace('\n', ' '), 'docs/manual/refusals.md: the place of 23 to 26'
 
 
 def one_row(number, place, wrong, to_do, example):
@@ -125,7 +150,7 @@ def refusals():
     """The refusals: one row at least for each, and what it says."""
     text = page('refusals.md')
     found = rows(text, '')
-    yield sorted({int(row[0]) for row in found}) == list(range(1, 23)), 'docs/manual/refusals.md: not each of 1 to 22'
+    yield sorted({int(row[0]) for row in found}) == list(range(1, 27)), 'docs/manual/refusals.md: not each of 1 to 26'
     yield from order(text)
     for row in found:
         yield from one_row(*row)

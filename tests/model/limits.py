@@ -1,4 +1,4 @@
-"""Ranges of the quantities and the refusals of a job, of a shear call and of a distribution, in their order."""
+"""Ranges of the quantities and the refusals of a job, of a shear call, of a distribution, of drift, torsion and accidental moments, in their order."""
 
 from typing import NamedTuple
 
@@ -22,6 +22,10 @@ CALCULATED_PERIOD = range(0, 60_000 + 1)
 TOTAL_WEIGHT = range(1, 1_000_000 + 1)
 BASE_SHEAR = range(1, 1_200_000_000 + 1)
 PERIOD = range(0, 9_999 + 1)
+DISPLACEMENT = range(-1_000_000, 1_000_000 + 1)
+FLOOR_DISPLACEMENT = range(0, 1_000_000 + 1)
+DRIFT_LIMIT = range(1, 10_000 + 1)
+DIMENSION = range(1, 5_000 + 1)
 
 
 class Site(NamedTuple):
@@ -64,20 +68,30 @@ class Frame(NamedTuple):
     alphay: int
 
 
-def level_refusals(weights, heights, buffer_lengths):
-    """Refusals 1 to 4; "Number 1 is judged on the weight list", heights are "rising strictly"."""
-    if len(weights) not in LEVELS:
+def list_refusals(judged, other, buffer_lengths):
+    """Refusals 1 and 2 of two lists and the buffers, 1 judged on the first of the lists."""
+    if len(judged) not in LEVELS:
         yield 1, 0
-    if len(heights) != len(weights) or any(length < len(weights) for length in buffer_lengths):
+    if len(other) != len(judged) or any(length < len(judged) for length in buffer_lengths):
         yield 2, 0
-    for level, weight in enumerate(weights, 1):
-        if weight not in WEIGHT:
-            yield 3, level
+
+
+def height_refusals(heights):
+    """Refusal 4: heights are "rising strictly"."""
     below = 0
     for level, height in enumerate(heights, 1):
         if height not in HEIGHT or height <= below:
             yield 4, level
         below = height
+
+
+def level_refusals(weights, heights, buffer_lengths):
+    """Refusals 1 to 4; "Number 1 is judged on the weight list"."""
+    yield from list_refusals(weights, heights, buffer_lengths)
+    for level, weight in enumerate(weights, 1):
+        if weight not in WEIGHT:
+            yield 3, level
+    yield from height_refusals(heights)
 
 
 def site_refusals(site):
@@ -171,3 +185,69 @@ def distribution_refusals(base_shear, period, weights, heights, buffer_lengths):
 def judge_distribution(base_shear, period, weights, heights, buffer_lengths=()):
     """None, or the first (number, place)."""
     return next(distribution_refusals(base_shear, period, weights, heights, buffer_lengths), None)
+
+
+def displacement_refusals(displacements):
+    """Refusal 23: "displacement out of range, at its level"; in range they are "of either sign and up to a million in size"."""
+    for level, displacement in enumerate(displacements, 1):
+        if displacement not in DISPLACEMENT:
+            yield 23, level
+
+
+def drift_limit_refusals(limit):
+    """Refusal 24: "limit 0 or above 10,000", place 0."""
+    if limit not in DRIFT_LIMIT:
+        yield 24, 0
+
+
+def drift_refusals(heights, displacements, limit, buffer_lengths):
+    """Every refusal that applies to drift, in order: "drift has no weights, so 1 is judged on heights", and 23 and 24 "follow 1 to 4"."""
+    yield from list_refusals(heights, displacements, buffer_lengths)
+    yield from height_refusals(heights)
+    yield from displacement_refusals(displacements)
+    yield from drift_limit_refusals(limit)
+
+
+def judge_drift(heights, displacements, limit, buffer_lengths=()):
+    """None, or the first (number, place)."""
+    return next(drift_refusals(heights, displacements, limit, buffer_lengths), None)
+
+
+def floor_refusals(largest, average):
+    """Refusal 23 "for a floor, at place 0": "the unsigned largest and average displacement of a floor"."""
+    if largest not in FLOOR_DISPLACEMENT or average not in FLOOR_DISPLACEMENT:
+        yield 23, 0
+
+
+def average_refusals(largest, average):
+    """Refusal 25: "average 0 or above the largest", place 0."""
+    if average == 0 or average > largest:
+        yield 25, 0
+
+
+def torsion_refusals(largest, average):
+    """Every refusal that applies to torsion, in order."""
+    yield from floor_refusals(largest, average)
+    yield from average_refusals(largest, average)
+
+
+def judge_torsion(largest, average):
+    """None, or the first (number, place)."""
+    return next(torsion_refusals(largest, average), None)
+
+
+def dimension_refusals(dimension):
+    """Refusal 26: "dimension out of range", place 0; it is "in dm and 1 to 5,000"."""
+    if dimension not in DIMENSION:
+        yield 26, 0
+
+
+def accidental_refusals(base_shear, period, weights, heights, dimension, buffer_lengths):
+    """Every refusal that applies to accidental moments, in order: 26 follows "1 to 4, 19 and 20"."""
+    yield from distribution_refusals(base_shear, period, weights, heights, buffer_lengths)
+    yield from dimension_refusals(dimension)
+
+
+def judge_accidental(base_shear, period, weights, heights, dimension, buffer_lengths=()):
+    """None, or the first (number, place)."""
+    return next(accidental_refusals(base_shear, period, weights, heights, dimension, buffer_lengths), None)

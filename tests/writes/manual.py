@@ -13,7 +13,7 @@ from math import ceil
 
 from tests.model import exact, limits, response, storeys
 from tests.model.sheet import listing
-from tests.writes import calls, district_page, finer, logs, moves, near_fault, roof, root, towers
+from tests.writes import calls, district_page, drift_page, finer, logs, moves, near_fault, roof, root, towers
 from tests.writes.by_hand import one_sheet
 from tests.writes.by_hand.text import code, comma, decimal, ranged, table
 from tests.writes.by_hand.worked import read
@@ -117,7 +117,8 @@ def written():
              'roof_force.md': roof.names(*map(example, ('office', 'soft_ground', 'tall_frame'))), 'rounding.md': rounding_names(), 'soil.md': logs.names(),
              'soft_clay.md': logs.soft_clay_names(), 'root.md': root.names(), 'towers.md': towers.names(example('office')),
              'moves.md': moves.names(example('office'), example('near_fault')),
-             'shear_and_storeys.md': calls_names(), 'finer_spectrum.md': finer_names(), 'district.md': district_page.names()}
+             'shear_and_storeys.md': calls_names(), 'finer_spectrum.md': finer_names(), 'district.md': district_page.names(),
+             'drift.md': drift_page.names(example('office'))}
     assert {path.name for path in PAGES.iterdir()} == pages.keys()
     return {page: filled(page, names) for page, names in pages.items()}
 

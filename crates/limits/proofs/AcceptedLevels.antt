@@ -24,7 +24,7 @@ weights-allowed p (w ∷ ws) e zero h = within-passed 1 20_000 w 3 p (then-passe
 weights-allowed p (w ∷ ws) e (suc x) h =
     weights-allowed (p + 1) ws (then-passed (judgedWeight w p) (weighed (p + 1) ws) e .1) x (omega arith)
 
-heights-allowed : (b p : ℕ) (hs : List ℕ) → raised b p hs ≡ accepted tt → (x : ℕ) → x < length hs
+pub heights-allowed : (b p : ℕ) (hs : List ℕ) → raised b p hs ≡ accepted tt → (x : ℕ) → x < length hs
     → (1 ≤ getD hs x 0) × (getD hs x 0 ≤ 2_000) × (below b hs x < getD hs x 0)
 unfolding raised
 heights-allowed b p [] e x h = absurd (omega arith)

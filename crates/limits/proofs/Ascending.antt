@@ -85,3 +85,9 @@ lowest-handed n m h (inr high) (inr other) =
     let row = all-from (λ k. allBelow (λ i. lower k (19 + i)) 2) 19 2 tt n (high .0) (omega arith) in
     let cell = all-from (lower n) 19 2 row m (other .0) (omega arith) in
     leb→le n m (rw (le-leb _ _ h) at cell)
+
+-- 23 to 26 'follow 1 to 4, 19 and 20', each after those below it
+pub displaced-after : ((n : ℕ) → (1 ≤ n) × (n ≤ 4) → Before n 23) × Before 20 23 × Before 23 24 × Before 24 25 × Before 25 26
+unfolding before allBelow
+displaced-after =
+    (λ n h. ltb→lt (rank n) (rank 23) (all-from (λ k. before k 23) 1 4 tt n (h .0) (omega arith)), omega arith, omega arith, omega arith, omega arith)

@@ -23,11 +23,11 @@ use Rattle.limits.proofs.Ascending.{lowest-first, lowest-or-zone, lowes
 use Rattle.limits.proofs.BuildingStage.{building-up-to, building-stops, building-told}
 use Rattle.limits.proofs.First.{first-refusal}
 use Rattle.limits.proofs.GivenStage.{given-first}
-use Rattle.limits.proofs.HandedStage.{handed-later, handed-stops, handed-told}
+use Rattle.limits.proofs.HandedStage.{handed-later, handed-up-to, handed-stops, handed-told}
 use Rattle.limits.proofs.LevelsStage.{levels-up-to, levels-stop}
 use Rattle.limits.proofs.Numbers.{numbered, numbered-basin, numbered-distribution}
 use Rattle.limits.proofs.Places.{one-pair-place}
-use Rattle.limits.proofs.Precedence.{Stops, up-to-yields, first-stops, later-stops}
+use Rattle.limits.proofs.Precedence.{Stops, UpTo, both-up-to, up-to-more, up-to-yields, first-stops, later-stops}
 use Rattle.limits.proofs.Refusing.{levels-told}
 use Rattle.limits.proofs.Told.{Told, then-told, told-as}
 
@@ -47,23 +47,29 @@ module _ (v t : ℕ) (ws hs : List ℕ) (room : ℕ) where
   abbrev A : ℕ → ℕ → Type 0
   A = DistributionApplies v t ws hs room
 
-  stops : (n q : ℕ) → A n q → Stops n q (judgedDistribution v t ws hs room)
+  pub distribution-up-to : UpTo 20 (judgedDistribution v t ws hs room)
   unfolding judgedDistribution
-  stops n q (of-levels a) = first-stops n q (judgedLevels ws hs room) (judgedHanded v t) (levels-stop ws hs room n q a)
-  stops n q (of-handed a) =
+  distribution-up-to =
+      both-up-to 20 (judgedLevels ws hs room) (judgedHanded v t)
+      (up-to-more 4 20 (judgedLevels ws hs room) (levels-up-to ws hs room) (omega arith)) (handed-up-to v t)
+
+  pub distribution-stops : (n q : ℕ) → A n q → Stops n q (judgedDistribution v t ws hs room)
+  unfolding judgedDistribution
+  distribution-stops n q (of-levels a) = first-stops n q (judgedLevels ws hs room) (judgedHanded v t) (levels-stop ws hs room n q a)
+  distribution-stops n q (of-handed a) =
       later-stops n q (judgedLevels ws hs room) (judgedHanded v t)
       (up-to-yields 4 n q (judgedLevels ws hs room) (levels-up-to ws hs room) (handed-later v t n q a))
       (λ _. handed-stops v t n q a)
 
-  told : Told A (judgedDistribution v t ws hs room)
+  pub distribution-told : Told A (judgedDistribution v t ws hs room)
   unfolding judgedDistribution
-  told =
+  distribution-told =
       then-told A (judgedLevels ws hs room) (judgedHanded v t)
       (told-as (LevelsApply ws hs room) A (λ n p. of-levels) (judgedLevels ws hs room) (levels-told ws hs room))
       (λ _. told-as (HandedApplies v t) A (λ n p. of-handed) (judgedHanded v t) (handed-told v t))
 
   pub distribution-first : FirstRefusal A (judgedDistribution v t ws hs room)
-  distribution-first = first-refusal A (judgedDistribution v t ws hs room) stops told
+  distribution-first = first-refusal A (judgedDistribution v t ws hs room) distribution-stops distribution-told
 
 -- ---- which number that is, of any outcome that gives the first refusal: of a ground and a frame after a first judgment of numbers 1 to 4
 module _

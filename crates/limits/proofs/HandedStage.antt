@@ -10,12 +10,18 @@ use Rattle.limits.specs.Handed.{judgedBaseShear, judgedHandedPeriod, jud
 use Rattle.limits.specs.Order.{Before}
 use Rattle.limits.proofs.Told.{Told, then-told, within-told}
 use Rattle.limits.proofs.NotAllowed.{range-stops}
-use Rattle.limits.proofs.Precedence.{Stops, first-stops, later-stops, within-yields}
+use Rattle.limits.proofs.Precedence.{Stops, UpTo, both-up-to, within-up-to, first-stops, later-stops, within-yields}
 
 module _ (v t : ℕ) where
   pub handed-later : (n q : ℕ) → HandedApplies v t n q → Before 4 n
   handed-later n q (base-shear o) = omega arith
   handed-later n q (handed-period o) = omega arith
+
+  pub handed-up-to : UpTo 20 (judgedHanded v t)
+  unfolding judgedHanded
+  handed-up-to =
+      both-up-to 20 (judgedBaseShear v) (judgedHandedPeriod t) (within-up-to 20 1 1_200_000_000 v 19 0 (omega arith))
+      (within-up-to 20 0 9_999 t 20 0 (omega arith))
 
   pub handed-stops : (n q : ℕ) → HandedApplies v t n q → Stops n q (judgedHanded v t)
   unfolding judgedHanded

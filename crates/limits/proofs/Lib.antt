@@ -32,4 +32,8 @@ pub mod BuildingStage
 pub mod HandedStage
 pub mod Foremost
 pub mod DistrictStage
+pub mod Sizes
+pub mod DisplacedStage
+pub mod DriftStage
+pub mod AcceptedDrift
 pub mod Room

@@ -56,7 +56,7 @@ weighed-told A p (w ∷ ws) f =
     (within-told A 1 20_000 w 3 p (λ o. subst (A 3) (add-zero p) (f 0 (omega arith) o)))
     (λ _. weighed-told A (p + 1) ws (λ x h o. subst (A 3) (next p x) (f (suc x) (omega arith) o)))
 
-raised-told : (A : ℕ → ℕ → Type 0) (b p : ℕ) (hs : List ℕ) → ((x : ℕ) → x < length hs → OutOf 1 2_000 (getD hs x 0) → A 4 (p + x))
+pub raised-told : (A : ℕ → ℕ → Type 0) (b p : ℕ) (hs : List ℕ) → ((x : ℕ) → x < length hs → OutOf 1 2_000 (getD hs x 0) → A 4 (p + x))
     → ((x : ℕ) → x < length hs → getD hs x 0 ≤ below b hs x → A 4 (p + x)) → Told A (raised b p hs)
 unfolding raised
 raised-told A b p [] f g = tt

@@ -43,7 +43,7 @@ NotListed (v ∷ vs) x = (x ≡ v → ⊥) × NotListed vs x
 pub data CountApplies (ws : List ℕ) : ℕ → ℕ → Type 0 where
   count : OutOf 1 50 (length ws) → CountApplies ws 1 0
 
-pub data LengthsApply (ws hs : List ℕ) (room : ℕ) : ℕ → ℕ → Type 0 where
+pub data LengthsApply {A B : Type 0} (ws : List A) (hs : List B) (room : ℕ) : ℕ → ℕ → Type 0 where
   lists : (length hs ≡ length ws → ⊥) → LengthsApply ws hs room 2 0
   buffer : room < length ws → LengthsApply ws hs room 2 0
 

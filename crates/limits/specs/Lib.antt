@@ -6,6 +6,9 @@ pub mod Levels
 pub mod Building
 pub mod Handed
 pub mod District
+pub mod Displacement
+pub mod Floor
+pub mod Plan
 pub mod Class
 pub mod Site
 pub mod Zone
@@ -13,6 +16,9 @@ pub mod Ground
 pub mod Kind
 pub mod Frame
 pub mod Judging
+pub mod DriftJudging
 pub mod Allowed
+pub mod DriftAllowed
 pub mod Applies
+pub mod DriftApplies
 pub mod FirstRefusal

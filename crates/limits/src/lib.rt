@@ -1,8 +1,11 @@
-// The quantities of a job, of its two calls, of a soil log, of a sheet and of a district: their limits, who judges them, and what a refusal says.
+// The quantities of a job, of its two calls, of a soil log, of a sheet, of a district and of drift and torsion: their limits, who judges them, and what a refusal says.
 
 pub mod building;
 pub mod class;
+pub mod displacement;
 pub mod district;
+pub mod drift;
+pub mod floor;
 pub mod frame;
 pub mod ground;
 pub mod handed;
@@ -12,6 +15,7 @@ pub mod layer;
 pub mod lengths;
 pub mod level;
 pub mod levels;
+pub mod plan;
 pub mod ranges;
 pub mod refusal;
 pub mod sheet;

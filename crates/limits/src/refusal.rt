@@ -54,6 +54,14 @@ impl Refusal {
     pub const STRETCH: u64 = 21;
     // over 256 jobs, lists of unequal length or a row buffer too short, of a whole district
     pub const DISTRICT: u64 = 22;
+    // a displacement out of range, of a level or of a floor
+    pub const DISPLACEMENT: u64 = 23;
+    // a limit of the drift angle out of range
+    pub const DRIFT_LIMIT: u64 = 24;
+    // an average displacement of a floor that is 0 or above the largest
+    pub const AVERAGE: u64 = 25;
+    // a plan dimension out of range
+    pub const DIMENSION: u64 = 26;
     // the place of a refusal for which none is named
     pub const NOWHERE: u64 = 0;
 

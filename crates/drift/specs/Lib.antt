@@ -1,0 +1,4 @@
+pub mod Answering
+pub mod Drift
+pub mod Torsion
+pub mod Accidental
