@@ -46,8 +46,8 @@ def shear_names(office):
     up = Fraction(ceil(scale * 10**6), 10**6)
     rows = [(str(level + 1), comma(office.forces[level]), comma(over.forces[level])) for level in reversed(range(len(office.forces)))]
     rows.append(('sum', comma(sum(office.forces)), same(sum(over.forces), V_drift)))
-    return {'p': decimal(p), 'I': hundredths(office.frame.I), 'alphay': hundredths(office.frame.alphay), 'V_D': comma(office.V_D), 'W': comma(office.W), 'V_drift': comma(V_drift),
-            'V_drift_exact': decimal(exact), 'forces_table': table(('level', 'force under V_D, N', 'force under V_drift, N'), rows), 'scale': decimal(scale, 6),
+    return {'p': decimal(p), 'I': hundredths(office.frame.I), 'alphay': hundredths(office.frame.alphay), 'V_D': comma(office.V_D), 'W': comma(office.W),
+            'V_drift': comma(V_drift), 'V_drift_exact': decimal(exact), 'forces_table': table(('level', 'force under V_D, N', 'force under V_drift, N'), rows), 'scale': decimal(scale, 6),
             'scale_up': decimal(up, 6), 'T': comma(office.T), 'basin_times': decimal(site.V_STAR / basin.V_STAR)}
 
 
@@ -178,7 +178,7 @@ def by_hand_names(office):
     rows = [('the difference of the sizes for the size of the difference',
              f'storey 5: {comma(abs(fifth.bottom))} − {comma(abs(fifth.top))} = {comma(sizes)}, yes; it is {comma(abs(fifth.difference()))}, no'),
             ('the difference compared with its sign', f'storey 5: {signed(fifth.difference())} is below {comma(fifth.most())}, yes; its size is not, no'),
-            ('the height above the base for the own height of the storey',
+            ("the height above the base for the storey's own height",
              f'storey 5: {LIMIT} · {fifth.high} = {comma(above_base)}, yes; it is {LIMIT} · {fifth.height()} = {comma(fifth.most())}, no'),
             ('A_x rounded down, or to the nearest', f'floor 1: {thousandths(low)}, below {decimal(whole.quotient, 6)}; it is {thousandths(whole.factor)}'),
             ('the accidental moments of one sign alone',

@@ -1,50 +1,63 @@
+-- `drift::accidental::accidental_moments` meets its contract: the array of shears has a cell for each of at most 50 levels. Assumes nothing.
 use borrow.Author.Needs.{needs}
+use native.Mathlib.Omega.{arith}
+use Rattle.limits.proofs.AcceptedDrift.{moments-allowed}
+use Rattle.limits.proofs.Stages.{says}
+use Rattle.limits.specs.Outcome.{verdictOutcome}
+use Rattle.storeys.proofs.Roof.{roof-at-most-one}
+use Rattle.job.proofs.GivenReached.{standing}
+use Rattle.drift.proofs.Moments.{refused-moments, passed-moments}
 use Rattle.drift.proofs.accidental.accidental_moments.Statement.{statement}
 use Rattle.drift.proofs.accidental.accidental_moments.Tie as tie
-use Rattle.drift.proofs.accidental.accidental_moments.Reads as reads
-use Rattle.drift.proofs.accidental.accidental_moments.Lts as lts
-use Rattle.drift.proofs.accidental.fill_moments.Reads as fill-moments-reads
-use Rattle.job.proofs.distribution.shorter.Reads as shorter-reads
-use Rattle.limits.proofs.drift.judged_moments.Reads as judged-moments-reads
 
--- src/accidental.rt:76:9
 shorter-requires : tie.Need-shorter-requires
 shorter-requires c κs = search needs
 
--- src/accidental.rt:77:9
 judged-moments-requires : tie.Need-judged-moments-requires
 judged-moments-requires c κs = search needs
 
 enum-told : tie.Need-enum-told
 enum-told c = search needs
 
--- src/accidental.rt:79:9
 enum-told-2 : tie.Need-enum-told-2
 enum-told-2 c = search needs
 
--- src/accidental.rt:79:9
 returns : tie.Need-returns
-returns c = ?
+returns c =
+    let a = c .before .before .before .before .before .before .args in
+    refused-moments (a .shear) (a .period) (a .weights .now) (a .heights .now) (a .dimension) _ _ _ (c .before .before .before .shorter .ensures) (c .enum-told2 .given .1) (c .before .before .judged-moments .ensures)
 
--- src/accidental.rt:88:9
 slice-aggregate-fill-moments : tie.Need-slice-aggregate-fill-moments
 slice-aggregate-fill-moments c = search needs
 
--- src/accidental.rt:82:5
 fill-moments-requires : tie.Need-fill-moments-requires
-fill-moments-requires c κs = ?
+fill-moments-requires c κs =
+    let a = c .before .before .before .before .before .before .before .before .before .args in
+    let short = c .before .before .before .before .before .before .shorter .ensures in
+    let e = says verdictOutcome (c .before .before .before .before .before .judged-moments .ensures) (c .before .before .before .enum-told .given .1) in
+    let all = moments-allowed (a .shear) (a .period) (a .weights .now) (a .heights .now) (a .dimension) _ e in
+    let shear = all .0 .handed .shear .1 in (
+      record { part = roof-at-most-one (a .period); shear = omega (arith, shear) },
+      standing (a .weights .now) (a .heights .now) (all .0 .levels),
+      all .0 .dimension .1,
+      omega (arith, all .0 .levels .few),
+      omega (arith, all .1),
+      omega (arith, all .1),
+    )
 
--- src/accidental.rt:65:1
 same-length : tie.Need-same-length
 same-length c = search needs
 
--- src/accidental.rt:65:1
 same-length-2 : tie.Need-same-length-2
 same-length-2 c = search needs
 
--- src/accidental.rt:65:1
 returns-2 : tie.Need-returns-2
-returns-2 c = ?
+returns-2 c =
+    let a = c .before .before .before .before .before .before .before .before .before .before .before .before .before .args in
+    let short = c .before .before .before .before .before .before .before .before .before .before .shorter .ensures in
+    let e = says verdictOutcome (c .before .before .before .before .before .before .before .before .before .judged-moments .ensures) (c .before .before .before .before .before .before .before .enum-told .given .1) in
+    let cells = c .before .before .before .fill-moments .ensures in
+    passed-moments (a .shear) (a .period) (a .weights .now) (a .heights .now) (a .dimension) _ short e (cells .0) (cells .1)
 
 pub accidental-moments-spec : {M : Type 1} → statement M
 accidental-moments-spec =
