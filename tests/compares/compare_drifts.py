@@ -3,7 +3,7 @@ is counted.
 
 usage: python3 -m tests.compares.compare_drifts [SEED [DRIFTS [DRIFTS_BAD [TORSIONS [TORSIONS_BAD [MOMENTS [MOMENTS_BAD]]]]]]]
 
-It compares these alone, by the library that tests/compares/compare.py has built, or by that of RUKESHOMAJI_LIBRARY.
+It compares these alone, as tests/compares/compare.py does. It needs x86-64, or RUKESHOMAJI_LIBRARY, a shared library of the core for the machine at hand.
 """
 
 import random
@@ -180,6 +180,7 @@ def drift_tasks(seed, counts, bad):
 
 def main(seed=1, drifts_drawn=DRIFTS, drifts_bad=DRIFTS_BAD, torsions_drawn=TORSIONS, torsions_bad=TORSIONS_BAD, moments=MOMENTS, moments_bad=MOMENTS_BAD):
     """Run all, print all; 1 where anything differs."""
+    core.build()
     return compared([*drift_tasks(seed, (drifts_drawn, torsions_drawn, moments), (drifts_bad, torsions_bad, moments_bad))], seed)
 
 

@@ -29,7 +29,7 @@ CONSTANTS = {
     'MOST_LEVELS': 'limits/level MOST', 'MOST_LAYERS': 'limits/layer MOST', 'MOST_BYTES': 'limits/sheet BYTES_MOST',
     'LONGEST_LISTING': 'sheet/listing LONGEST', 'MOST_TOTAL_WEIGHT': 'limits/building WEIGHT_MOST',
     'MOST_BASE_SHEAR': 'limits/handed SHEAR_MOST', 'DISTRICT_JOBS': 'limits/district JOBS_MOST', 'CELLS': 'district_call/report CELLS',
-    'MOST_DISPLACEMENT': 'limits/displacement SIZE_MOST', 'MOST_DRIFT_LIMIT': 'limits/displacement MOST', 'MOST_DIMENSION': 'limits/plan DIMENSION_MOST',
+    'MOST_DISPLACEMENT': 'limits/displacement SIZE_MOST', 'MOST_DRIFT_LIMIT': 'limits/displacement DriftLimit::MOST', 'MOST_DIMENSION': 'limits/plan DIMENSION_MOST',
     'MOST_TORSION_FACTOR': 'drift/torsion FACTOR_MOST',
     'HARD': 'limits/class HARD', 'NORMAL': 'limits/class NORMAL', 'SOFT': 'limits/class SOFT',
     'STEEL': 'limits/kind STEEL', 'CONCRETE': 'limits/kind CONCRETE', 'BRACED': 'limits/kind BRACED', 'OTHER': 'limits/kind OTHER',
@@ -59,7 +59,7 @@ RANGES = [
     ('among the levels, N: ', 'limits/handed SHEAR_LEAST SHEAR_MOST'), ('roof force, ms: ', 'limits/handed PERIOD_LEAST PERIOD_MOST'),
     ('of the stretch, levels: ', 'limits/level FEWEST MOST'), ('see above: at most ', 'limits/district JOBS_MOST'),
     ('of a whole district: over ', 'limits/district JOBS_MOST'),
-    ('each with its sign: at most ', 'limits/displacement SIZE_MOST', ' in size'), ('of the angle, ten-thousandths: ', 'limits/displacement LEAST MOST'),
+    ('each with its sign: at most ', 'limits/displacement SIZE_MOST', ' in size'), ('of the angle, ten-thousandths: ', 'limits/displacement DriftLimit::LEAST DriftLimit::MOST'),
     ('without a sign, 0.01 mm: at most ', 'limits/displacement SIZE_MOST'), ('right angle to the forces, dm: ', 'limits/plan DIMENSION_LEAST DIMENSION_MOST'),
     ('thousandths, rounded up, and at most ', 'drift/torsion FACTOR_MOST'), ('for each of ', 'limits/level FEWEST MOST', ' levels'),
 ]
@@ -97,10 +97,16 @@ def constants(text):
     return found
 
 
+def named(file, name):
+    """A constant of a file of the core; of a type in it, as DriftLimit::MOST, where two have one of that name."""
+    kind, _, own = name.rpartition('::')
+    text = source(file)
+    return constants(re.search(rf'^impl {kind} {{$.*?^}}$', text, re.S | re.M)[0] if kind else text)[own]
+
+
 def core_constant(where):
     """Of 'limits/level MOST' the number."""
-    file, name = where.split()
-    return constants(source(file))[name]
+    return named(*where.split())
 
 
 def printed(numbers):
@@ -122,7 +128,7 @@ def ranges():
     """Each range as the header must print it: the words before it, the range, the words after it."""
     for before, where, *after in RANGES:
         file, *names = where.split()
-        values = [constants(source(file))[name] for name in names]
+        values = [named(file, name) for name in names]
         words = ' to '.join(f'{each:,}' for each in values) if len(values) == 2 else None
         yield before, words or (printed(values[0]) if isinstance(values[0], list) else f'{values[0]:,}'), ''.join(after)
 

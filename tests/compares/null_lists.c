@@ -10,6 +10,7 @@ static const RukeshomajiSite site = {80, 45, 100, 55, 100, 100, 100, 100, 1};
 static const RukeshomajiFrame frame = {2, 1000, 480, 100, 150};
 static const uint64_t weights[LEVELS] = {5000, 5000, 5000}, heights[LEVELS] = {100, 200, 300};
 static const uint64_t thicknesses[LEVELS] = {1000, 1000, 1000}, kinds[LEVELS] = {1, 2, 3}, values[LEVELS] = {3000, 20, 40};
+static const int64_t displacements[LEVELS] = {5001, 1, -4999};
 static const char sheet[] = "site\t80\t45\t100\t55\t100\t100\t1\nframe\t2\t1000\t480\t100\t150\n"
                             "level\t5000\t100\nlevel\t5000\t200\nlevel\t5000\t300\n";
 
@@ -76,6 +77,30 @@ static void districts(void) {
     }
 }
 
+/* drift with each set of heights, displacements and verdicts */
+static void drifts(void) {
+    for (unsigned set = 0; set < 8; set++) {
+        uint64_t verdicts[LEVELS] = {7, 7, 7}, place = PAINT;
+        uint64_t number = rukeshomaji_drift(LIST(heights, 0), LIST(displacements, 1), 50, LIST(verdicts, 2), &place);
+        printf("drift %u: %" PRIu64 " %" PRIu64, set, number, place);
+        for (int i = 0; i < LEVELS; i++) printf(" %" PRIu64, verdicts[i]);
+        printf("\n");
+    }
+}
+
+/* the accidental moments with each set of weights, heights and the two buffers */
+static void moments(void) {
+    for (unsigned set = 0; set < 16; set++) {
+        int64_t cells[2][LEVELS] = {{-9, -9, -9}, {8, 8, 8}};
+        uint64_t place = PAINT;
+        uint64_t number = rukeshomaji_accidental_moments(1071429, 1000, LIST(weights, 0), LIST(heights, 1), 200, LIST(cells[0], 2), LIST(cells[1], 3),
+                                                         &place);
+        printf("accidental_moments %u: %" PRIu64 " %" PRIu64, set, number, place);
+        for (int i = 0; i < 2 * LEVELS; i++) printf(" %" PRId64, cells[i / LEVELS][i % LEVELS]);
+        printf("\n");
+    }
+}
+
 int main(void) {
     jobs("job", 0);
     jobs("basin_job", 3);
@@ -83,6 +108,8 @@ int main(void) {
     without_buffers("basin_figures", 3);
     distributions();
     districts();
+    drifts();
+    moments();
     for (unsigned set = 0; set < 8; set++) {
         RukeshomajiClass c = {PAINT, PAINT};
         uint64_t number = rukeshomaji_site_class(LIST(thicknesses, 0), LIST(kinds, 1), LIST(values, 2), &c);

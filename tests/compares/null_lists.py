@@ -14,17 +14,19 @@ import sys
 import tempfile
 
 from tests.compares import core
-from tests.model import calls, district, job as jobs, limits, sheet, soil
+from tests.model import accidental, calls, district, drift, job as jobs, limits, sheet, soil
 
 SITE, FRAME = limits.one_pair(80, 45, 100, 55, 100, 100, 1), limits.Frame(2, 1000, 480, 100, 150)
 LEVELS, BASE_SHEAR, PERIOD = 3, 1_071_429, 1_000
 BASIN = limits.Basin(3)
 JOB, FIGURES = ([5000] * LEVELS, [100, 200, 300], [7] * LEVELS, [8] * LEVELS, [9] * LEVELS), ([5000] * LEVELS, [100, 200, 300])
+LIMIT, DIMENSION = 50, 200
 ROW, OLD = len(district.Row._fields), 7
 DISTRICT = [district.DistrictJob(basin, zone, SITE, FRAME, *stretch) for basin, zone, *stretch in ((0, 0, 0, 3), (1, BASIN.zone, 1, 2), (0, 0, 0, 0))]
 LISTS = {
     'job': JOB, 'basin_job': JOB, 'figures': FIGURES, 'basin_figures': FIGURES, 'distribution': JOB,
     'district': (DISTRICT, *FIGURES, [OLD] * (ROW * LEVELS)),
+    'drift': ([100, 200, 300], [5_001, 1, -4_999], [OLD] * LEVELS), 'accidental_moments': (*FIGURES, [-9] * LEVELS, [8] * LEVELS),
     'site_class': ([1000] * LEVELS, [1, 2, 3], [3000, 20, 40]),
     'sheet': (sheet.write(SITE, FRAME, [5000] * LEVELS, [100, 200, 300]),),
 }
@@ -44,6 +46,12 @@ def held_after(result):
     """Every cell of the three buffers."""
     cells = JOB[2:] if result[0] == 'refused' else (result.forces, result.shears, result.moments)
     return [cell for buffer in cells for cell in buffer]
+
+
+def cells_after(result, old, written):
+    """Number and place, and every cell of the buffers of an answer without figures."""
+    refused = result[0] == 'refused'
+    return [*(result[1:] if refused else (0, 0)), *(cell for buffer in (old if refused else written(result)) for cell in buffer)]
 
 
 def ground_of(entry):
@@ -66,6 +74,11 @@ def by_model(entry, lists):
         number, rows, report = district.district(*empty[:3], len(empty[3]) // ROW)
         written = [cell for row in rows for cell in row]
         return [number, *written, *[OLD] * (ROW * LEVELS - len(written)), *report[:-1], *report.cells]
+    if entry == 'drift':
+        return cells_after(drift.drift(*empty[:2], LIMIT, (len(empty[2]),)), LISTS[entry][2:], lambda result: [result.verdicts])
+    if entry == 'accidental_moments':
+        result = accidental.accidental(BASE_SHEAR, PERIOD, *empty[:2], DIMENSION, tuple(map(len, empty[2:])))
+        return cells_after(result, LISTS[entry][2:], lambda result: [result.positive, result.negative])
     if entry == 'site_class':
         answer = soil.log(*empty)
         return [0, 0, answer.cls] if isinstance(answer, soil.Log) else [*answer[1:], 0]
@@ -74,9 +87,9 @@ def by_model(entry, lists):
     return [*map(int, refused[1:]), listing.hex()]
 
 
-def lent(each):
+def lent(each, kind=core.U64):
     """A list as a pointer and its length, NULL and 0 for None."""
-    return (None, 0) if each is None else core.lent(each)
+    return (None, 0) if each is None else core.lent(each, kind)
 
 
 def district_by_ctypes(library, jobs, weights, heights, rows):
@@ -88,8 +101,24 @@ def district_by_ctypes(library, jobs, weights, heights, rows):
     return [number, *([OLD] * (ROW * LEVELS) if rows is None else core.cells_of(held)), *core.cells_of(array)]
 
 
+def drift_by_ctypes(library, entry, lists):
+    """What the core answers to drift or accidental moments; buffers that are not lent are as they were."""
+    array, place, _ = core.lent_out([core.PAINT])
+    kinds = (core.U64, core.I64, core.U64) if entry == 'drift' else (core.U64, core.U64, core.I64, core.I64)
+    pairs = [lent(*each) for each in zip(lists, kinds)]
+    first, rest = ([part for pair in some for part in pair] for some in (pairs[:2], pairs[2:]))
+    if entry == 'drift':
+        number = library.rukeshomaji_drift(*first, LIMIT, *rest, place)
+    else:
+        number = library.rukeshomaji_accidental_moments(BASE_SHEAR, PERIOD, *first, DIMENSION, *rest, place)
+    held = [cell for (lent_to, _), old in zip(pairs[2:], LISTS[entry][2:]) for cell in (old if lent_to is None else lent_to)]
+    return [*core.answer(number, array), *held]
+
+
 def by_ctypes(library, entry, lists):
     """What the core answers to Python."""
+    if entry in ('drift', 'accidental_moments'):
+        return drift_by_ctypes(library, entry, lists)
     if entry == 'district':
         return district_by_ctypes(library, *lists)
     if entry == 'sheet':

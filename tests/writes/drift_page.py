@@ -47,8 +47,9 @@ def shear_names(office):
     rows = [(str(level + 1), comma(office.forces[level]), comma(over.forces[level])) for level in reversed(range(len(office.forces)))]
     rows.append(('sum', comma(sum(office.forces)), same(sum(over.forces), V_drift)))
     return {'p': decimal(p), 'I': hundredths(office.frame.I), 'alphay': hundredths(office.frame.alphay), 'V_D': comma(office.V_D), 'W': comma(office.W),
-            'V_drift': comma(V_drift), 'V_drift_exact': decimal(exact), 'forces_table': table(('level', 'force under V_D, N', 'force under V_drift, N'), rows), 'scale': decimal(scale, 6),
-            'scale_up': decimal(up, 6), 'T': comma(office.T), 'basin_times': decimal(site.V_STAR / basin.V_STAR)}
+            'V_drift': comma(V_drift), 'V_drift_exact': decimal(exact), 'scale': decimal(scale, 6), 'scale_up': decimal(up, 6),
+            'forces_table': table(('level', 'force under V_D, N', 'force under V_drift, N'), rows), 'T': comma(office.T),
+            'basin_times': decimal(site.V_STAR / basin.V_STAR)}
 
 
 def storey_row(storey):

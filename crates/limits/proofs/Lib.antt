@@ -35,5 +35,6 @@ pub mod DistrictStage
 pub mod Sizes
 pub mod DisplacedStage
 pub mod DriftStage
+pub mod DriftNumbers
 pub mod AcceptedDrift
 pub mod Room

@@ -1,3 +1,4 @@
 pub mod Replies
 pub mod CallReplies
 pub mod Reports
+pub mod DriftReplies

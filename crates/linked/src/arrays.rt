@@ -1,6 +1,7 @@
 // The arrays that a program in C lends, read as lines and written as replies.
 use district_call::report::CELLS;
 use district_call::report::Report;
+use drift::torsion::TorsionAnswer;
 use job::FiguresAnswer;
 use limits::class::Class;
 use limits::class::ClassAnswer;
@@ -10,9 +11,10 @@ ghost use mathlib.Core.Path.{_≡_};
 ghost use lib.ListN.{length};
 ghost use Rattle.limits.specs.Class.{classOutcome};
 ghost use Rattle.job.specs.ShearCall.{answerOutcome};
+ghost use Rattle.drift.specs.Torsion.{torsionOutcome};
 ghost use Rattle.soil.specs.Class.{classNumber};
 ghost use Rattle.sheet.specs.Sheet.{siteValues, frameValues};
-ghost use Rattle.linked.specs.Linked.{FiguresReply, ClassReply, reportNumbers};
+ghost use Rattle.linked.specs.Linked.{FiguresReply, ClassReply, TorsionReply, reportNumbers};
 
 // A sheet's site line with a pair for each hazard level: S_S and S_1 of the design level, S_S and S_1 of the MCE level, in 0.01 g; N_A and N_V of
 // the design level, N_A and N_V of the MCE level, in 0.01; class.
@@ -82,6 +84,22 @@ pub fn put_class(out: &mut [u64; 2], a: ClassAnswer) -> u64
             0
         }
         ClassAnswer::Refused(r) => {
+            *out = [r.place, 0];
+            r.number
+        }
+    }
+}
+
+// Place; the torsion factor in thousandths, 0 where data is refused.
+pub fn put_torsion(out: &mut [u64; 2], a: TorsionAnswer) -> u64
+    ensures { λ n. ⌜ TorsionReply (torsionOutcome a) n (now (out .exit)) ⌝ }
+{
+    match a {
+        TorsionAnswer::Taken(factor) => {
+            *out = [0, factor];
+            0
+        }
+        TorsionAnswer::Refused(r) => {
             *out = [r.place, 0];
             r.number
         }

@@ -1,15 +1,17 @@
 // The entries as a program in C, or in any language that calls C, sees them: pointers and 64-bit numbers alone. Each returns the number
-// of its refusal, 0 on success, and answers through an array that the caller lends, whose every cell is written; the distribution through a cell for
-// the place.
+// of its refusal, 0 on success, and answers through an array that the caller lends, whose every cell is written; the distribution, drift and
+// the accidental moments through a cell for the place.
 use arrays::REPORT;
 use arrays::frame_values;
 use arrays::put_class;
 use arrays::put_figures;
 use arrays::put_report;
+use arrays::put_torsion;
 use arrays::site_values;
 use district_call::district;
 use district_call::entered::JOB;
 use district_call::row::ROW;
+use drift::accidental::accidental_moments;
 use job::distribution::distribution;
 use limits::ground::GroundValues;
 use sheet::listing::LONGEST;
@@ -18,10 +20,10 @@ use sheet::put_in_array;
 pub mod arrays;
 
 ghost use mathlib.Core.Path.{_≡_};
-ghost use Rattle.linked.specs.Linked.{onSite, inBasin, JobReplies, FiguresReplies, ShearCallReplies, DistributionReplies, DistrictReplies, LogReplies, SheetReplies, version, edition, source};
+ghost use Rattle.linked.specs.Linked.{onSite, inBasin, JobReplies, FiguresReplies, ShearCallReplies, DistributionReplies, DistrictReplies, DriftReplies, TorsionReplies, MomentsReplies, LogReplies, SheetReplies, version, edition, source};
 
 // The version of the library: 1,000,000 times the major number, 1,000 times the minor one, and the last.
-pub const VERSION: u64 = 2_005_000;
+pub const VERSION: u64 = 2_006_000;
 
 // The edition of the code: Taiwan's of 2005.
 pub const EDITION: u64 = 2_005;
@@ -188,6 +190,62 @@ pub extern "C" fn rukeshomaji_district(
     let v = a.verdict;
     let refused = v.refusal();
     refused.number
+}
+
+// The drift of each storey by displacements in 0.01 mm and a limit in ten-thousandths: a verdict of each in the lent buffer, 1 yes, 0 no, its place in
+// `place`.
+#[no_mangle]
+pub extern "C" fn rukeshomaji_drift(
+    heights: &[u64],
+    displacements: &[i64],
+    limit: u64,
+    verdicts: &mut [u64],
+    place: &mut u64,
+) -> u64
+    ensures { λ n. ⌜ DriftReplies (now (heights .entry)) (now (displacements .entry)) limit (now (verdicts .entry)) n (now (place .exit)) (now (verdicts .exit)) ⌝ }
+{
+    let a = drift::storey_drift::drift(heights, displacements, limit, verdicts);
+    let r = a.refusal();
+    *place = r.place;
+    r.number
+}
+
+// The torsion factor of a floor by its largest and its average displacement in 0.01 mm: place, and the factor in thousandths.
+#[no_mangle]
+pub extern "C" fn rukeshomaji_torsion(largest: u64, average: u64, reply: &mut [u64; 2]) -> u64
+    ensures { λ n. ⌜ TorsionReplies largest average n (now (reply .exit)) ⌝ }
+{
+    let a = drift::torsion::torsion(largest, average);
+    put_torsion(reply, a)
+}
+
+// The accidental moments of each level by a base shear in N, a period in ms and a plan dimension in dm: in 0.01 N·dm, positive in one lent buffer and
+// negative in the other, its place in `place`.
+#[no_mangle]
+pub extern "C" fn rukeshomaji_accidental_moments(
+    base_shear: u64,
+    period: u64,
+    weights: &[u64],
+    heights: &[u64],
+    dimension: u64,
+    positive: &mut [i64],
+    negative: &mut [i64],
+    place: &mut u64,
+) -> u64
+    ensures { λ n. ⌜ MomentsReplies «base_shear» period (now (weights .entry)) (now (heights .entry)) dimension (record { positive = now (positive .entry); negative = now (negative .entry) }) n (now (place .exit)) (record { positive = now (positive .exit); negative = now (negative .exit) }) ⌝ }
+{
+    let a = accidental_moments(
+        base_shear,
+        period,
+        weights,
+        heights,
+        dimension,
+        positive,
+        negative,
+    );
+    let r = a.refusal();
+    *place = r.place;
+    r.number
 }
 
 // The site class of a soil log: place and class.

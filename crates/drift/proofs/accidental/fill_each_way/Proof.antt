@@ -77,8 +77,8 @@ loop-again c =
     let at = moment-at us (s .args .dimension) x (m .accidental-moment .result) (omega arith) (made m) in (
       omega arith,
       sided-more us (s .args .dimension) _ _ (m .before .before .before .loop .inv .1) (omega arith) (omega arith)
-      (as-positive (m .accidental-moment .result) (made-most m) (c .before .minus .ensures) ∙ ap pos at)
-      (as-negative (m .accidental-moment .result) (made-most m) (c .minus2 .ensures) ∙ ap (λ (k : ℕ). negℤ (pos k)) at),
+          (as-positive (m .accidental-moment .result) (made-most m) (c .before .minus .ensures) ∙ ap pos at)
+          (as-negative (m .accidental-moment .result) (made-most m) (c .minus2 .ensures) ∙ ap (λ (k : ℕ). negℤ (pos k)) at),
     )
 
 same-length : tie.Need-same-length Inv-loop μ-loop
