@@ -3,5 +3,8 @@ pub mod Limit
 pub mod Factor
 pub mod EachWay
 pub mod Drifts
+pub mod Turned
 pub mod Torsions
 pub mod Moments
+pub mod WorkedDrift
+pub mod WrongDrifts

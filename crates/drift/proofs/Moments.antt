@@ -1,13 +1,15 @@
 -- The answer of the accidental moments: what it says of the judgment and of the two buffers, level by level; that no second outcome meets its contract; that it
--- gives the first refusal; and that a level's moments are those of the force that the distribution gives it.
+-- gives the first refusal, which has the lowest number that applies; and that a level's moments are those of the force that the distribution gives it.
 -- Assumes nothing.
-use mathlib.Core.Path.{_≡_, sym, ap, _∙_}
+use mathlib.Core.Path.{_≡_, refl, sym, ap, _∙_}
 use mathlib.Core.List.{List}
-use Prim.Native.Nat.{ℕ, _*_, _≤_, _<_}
+use Prim.Native.Nat.{ℕ, _≤_, _<_}
+use native.Mathlib.Omega.{arith}
 use lib.IntN.{ℤ, pos, negℤ}
 use lib.ListN.{length, drop, getD}
-use Rattle.whole.specs.Cells.{laid, cells}
-use Rattle.whole.proofs.Cells.{cells-length, laid-cell, laid-rest}
+use Rattle.whole.specs.Cells.{laid}
+use Rattle.whole.specs.Fraction.{over, Same, times}
+use Rattle.whole.proofs.Cells.{cells-length, cells-cell, laid-at, laid-cell, laid-rest}
 use Rattle.limits.specs.declared.refusal.Refusal.{Refusal}
 use Rattle.limits.specs.declared.refusal.Verdict.{Verdict}
 use Rattle.limits.specs.declared.refusal.Verdict.the-variants.{Passed, Refused}
@@ -17,7 +19,11 @@ use Rattle.limits.specs.DriftJudging.{judgedMoments}
 use Rattle.limits.specs.FirstRefusal.{FirstRefusal}
 use Rattle.limits.specs.Outcome.{accepted, verdictOutcome}
 use Rattle.limits.proofs.AcceptedDrift.{moments-allowed}
+use Rattle.limits.proofs.DriftNumbers.{numbered-moments, lowest-following}
 use Rattle.limits.proofs.DriftStage as judged
+use Rattle.job.specs.Distribution.{Buffers, columnsAt, Distributed}
+use Rattle.job.proofs.Columns.{forces-cells}
+use Rattle.job.proofs.Distributed.{passed-cells}
 use Rattle.drift.specs.Accidental.{accidentalMoment, momentsAt, momentsOf, MomentBuffers, shorter, laidEachWay, MomentAnswers}
 use Rattle.drift.proofs.Answering as answering
 
@@ -68,3 +74,51 @@ module _ (v T : ℕ) (ws hs : List ℕ) (d : ℕ) (b : MomentBuffers) where
 
       pub passed-allowed : AllowedMoments v T ws hs d
       passed-allowed = moments-allowed v T ws hs d (shorter b) passed-judged .0
+
+      abbrev fs : List ℕ
+      fs = columnsAt T v ws hs .forces
+
+      level : (x : ℕ) → x < length ws → x < length fs
+      level x h = rw (forces-cells T v ws hs) h
+
+      -- each level's cells are its moment each way
+      pub positive-cell : (x : ℕ) → x < length ws → getD (b′ .positive) x (pos 0) ≡ pos (accidentalMoment (getD fs x 0) d)
+      positive-cell x h =
+          ap (λ (c : MomentBuffers). getD (c .positive) x (pos 0)) passed-laid
+          ∙ laid-cell (pos 0) (momentsAt T v ws hs d .positive) (b .positive) x (rw (cells-length (λ y. pos (accidentalMoment (getD fs y 0) d)) (length fs)) (level x h))
+          ∙ cells-cell (pos 0) (λ y. pos (accidentalMoment (getD fs y 0) d)) (length fs) x (level x h)
+
+      pub negative-cell : (x : ℕ) → x < length ws → getD (b′ .negative) x (pos 0) ≡ negℤ (pos (accidentalMoment (getD fs x 0) d))
+      negative-cell x h =
+          ap (λ (c : MomentBuffers). getD (c .negative) x (pos 0)) passed-laid
+          ∙ laid-cell (pos 0) (momentsAt T v ws hs d .negative) (b .negative) x (rw (cells-length (λ y. negℤ (pos (accidentalMoment (getD fs y 0) d))) (length fs)) (level x h))
+          ∙ cells-cell (pos 0) (λ y. negℤ (pos (accidentalMoment (getD fs y 0) d))) (length fs) x (level x h)
+
+      -- and what lies past the last level is as it was
+      pub rest-kept : (drop (length ws) (b′ .positive) ≡ drop (length ws) (b .positive)) × (drop (length ws) (b′ .negative) ≡ drop (length ws) (b .negative))
+      rest-kept = (
+        ap (λ (c : MomentBuffers). drop (length ws) (c .positive)) passed-laid
+            ∙ laid-rest (momentsAt T v ws hs d .positive) (b .positive) (length ws) (cells-length (λ y. pos (accidentalMoment (getD fs y 0) d)) (length fs) ∙ forces-cells T v ws hs),
+        ap (λ (c : MomentBuffers). drop (length ws) (c .negative)) passed-laid
+            ∙ laid-rest (momentsAt T v ws hs d .negative) (b .negative) (length ws) (cells-length (λ y. negℤ (pos (accidentalMoment (getD fs y 0) d))) (length fs) ∙ forces-cells T v ws hs),
+      )
+
+      -- 'Wish 6's force': the one that the distribution of the same call writes, whatever its buffers held
+      pub of-its-force : (c c′ : Buffers) → Distributed v T ws hs c Passed c′ → (x : ℕ) → x < length ws
+          → (getD (b′ .positive) x (pos 0) ≡ pos (accidentalMoment (getD (c′ .forces) x 0) d))
+          × (getD (b′ .negative) x (pos 0) ≡ negℤ (pos (accidentalMoment (getD (c′ .forces) x 0) d)))
+      of-its-force c c′ e x h =
+          let f : getD fs x 0 ≡ getD (c′ .forces) x 0
+          = sym (ap (λ (y : Buffers). getD (y .forces) x 0) (passed-cells v T ws hs c c′ e) ∙ laid-at fs (c .forces) x (level x h)) in
+          (positive-cell x h ∙ ap (λ (k : ℕ). pos (accidentalMoment k d)) f, negative-cell x h ∙ ap (λ (k : ℕ). negℤ (pos (accidentalMoment k d))) f)
+
+-- ---- hundredths of a N·dm: the force times '5% of the dimension'
+pub five-per-cent : (f d : ℕ) → Same (over (accidentalMoment f d) 100) (times (over f 1) (times (over 5 100) (over d 1)))
+five-per-cent f d = omega arith
+
+-- ---- the first refusal is the lowest number that applies
+pub lowest-moments : (v T : ℕ) (ws hs : List ℕ) (d : ℕ) (b : MomentBuffers) (r : Refusal) (b′ : MomentBuffers) → MomentAnswers v T ws hs d b (Refused r) b′
+    → (k q : ℕ) → MomentsApply v T ws hs d (shorter b) k q → r .number ≤ k
+lowest-moments v T ws hs d b r b′ e k q w =
+    lowest-following (MomentsApply v T ws hs d (shorter b)) (λ n p. numbered-moments) (verdictOutcome (Refused r)) (r .number) (r .place) k q refl
+    (moments-first v T ws hs d b b′ (Refused r) e) w

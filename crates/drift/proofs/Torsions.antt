@@ -1,7 +1,8 @@
--- The answer of torsion: what it says of the judgment; that no second outcome meets its contract; that it gives the first refusal; and where it is taken, how
+-- The answer of torsion: what it says of the judgment; that no second outcome meets its contract; that it gives the first refusal, which has the lowest
+-- number that applies; and where it is taken, how
 -- the factor lies to the exact one.
 -- Assumes nothing.
-use mathlib.Core.Path.{_≡_, sym, ap, subst, _∙_}
+use mathlib.Core.Path.{_≡_, refl, sym, ap, subst, _∙_}
 use mathlib.Core.Logic.{_⊎_}
 use Prim.Native.Nat.{ℕ, _≤_}
 use Rattle.whole.specs.Fraction.{over, AtMost, Less, plus}
@@ -12,6 +13,7 @@ use Rattle.limits.specs.FirstRefusal.{FirstRefusal}
 use Rattle.limits.specs.Floor.{judgedFloor}
 use Rattle.limits.specs.Outcome.{Outcome, accepted, refused, Done, number, place, _>>_}
 use Rattle.limits.proofs.AcceptedDrift.{floor-allowed}
+use Rattle.limits.proofs.DriftNumbers.{numbered-floor, lowest-following}
 use Rattle.limits.proofs.DriftStage as judged
 use Rattle.limits.proofs.First.{first-then-value}
 use Rattle.limits.proofs.Passed.{never, one-value, then-passed}
@@ -70,3 +72,9 @@ module _ (l a : ℕ) where
     -- and less than a thousandth above it
     pub taken-near : Less (over k 1_000) (plus (amplification l a) (over 1 1_000))
     taken-near = rw factor-is (factor-near l a (taken-allowed .average .0))
+
+-- ---- the first refusal is the lowest number that applies
+pub lowest-torsion : (l a : ℕ) (r : Refusal) → TorsionAnswers l a (Refused r) → (k q : ℕ) → FloorApplies l a k q → r .number ≤ k
+lowest-torsion l a r e k q w =
+    lowest-following (FloorApplies l a) (λ n p. numbered-floor) (torsionOutcome (Refused r)) (r .number) (r .place) k q refl
+    (torsion-first l a (Refused r) e) w

@@ -1,4 +1,5 @@
 pub mod Answering
 pub mod Drift
+pub mod Turned
 pub mod Torsion
 pub mod Accidental

@@ -99,9 +99,9 @@ pub fn put_torsion(out: &mut [u64; 2], a: TorsionAnswer) -> u64
             *out = [0, factor];
             0
         }
-        TorsionAnswer::Refused(r) => {
-            *out = [r.place, 0];
-            r.number
+        TorsionAnswer::Refused(refused) => {
+            *out = [refused.place, 0];
+            refused.number
         }
     }
 }

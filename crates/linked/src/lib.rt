@@ -205,9 +205,9 @@ pub extern "C" fn rukeshomaji_drift(
     ensures { λ n. ⌜ DriftReplies (now (heights .entry)) (now (displacements .entry)) limit (now (verdicts .entry)) n (now (place .exit)) (now (verdicts .exit)) ⌝ }
 {
     let a = drift::storey_drift::drift(heights, displacements, limit, verdicts);
-    let r = a.refusal();
-    *place = r.place;
-    r.number
+    let refused = a.refusal();
+    *place = refused.place;
+    refused.number
 }
 
 // The torsion factor of a floor by its largest and its average displacement in 0.01 mm: place, and the factor in thousandths.
@@ -243,9 +243,9 @@ pub extern "C" fn rukeshomaji_accidental_moments(
         positive,
         negative,
     );
-    let r = a.refusal();
-    *place = r.place;
-    r.number
+    let refused = a.refusal();
+    *place = refused.place;
+    refused.number
 }
 
 // The site class of a soil log: place and class.
