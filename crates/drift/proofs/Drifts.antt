@@ -1,5 +1,6 @@
 -- The answer of drift: what it says of the judgment and of the buffer, storey by storey; that no second outcome meets its contract; that it gives the first
--- refusal, which has the lowest number that applies; and that a larger limit never turns yes into no.
+-- refusal, which has the lowest number that applies; that a larger limit never turns yes into no; and
+-- that nothing but the call's own input plays a part.
 -- Assumes nothing.
 use mathlib.Core.Path.{_≡_, refl, sym, ap, _∙_}
 use mathlib.Core.Bool.{Bool, true, false}
@@ -20,10 +21,12 @@ use Rattle.limits.specs.DriftAllowed.{AllowedDrift}
 use Rattle.limits.specs.DriftApplies.{DriftApplies}
 use Rattle.limits.specs.DriftJudging.{judgedDrift}
 use Rattle.limits.specs.FirstRefusal.{FirstRefusal}
-use Rattle.limits.specs.Outcome.{accepted, verdictOutcome}
+use Rattle.limits.specs.Outcome.{Outcome, Done, accepted, verdictOutcome, _>>_}
 use Rattle.limits.proofs.AcceptedDrift.{drift-allowed}
 use Rattle.limits.proofs.DriftNumbers.{numbered-drift, lowest-following}
 use Rattle.limits.proofs.DriftStage as judged
+use Rattle.limits.proofs.Unique.{verdict-unique}
+use Rattle.job.specs.Distribution.{doneOnly}
 use Rattle.drift.specs.Drift.{storeyHeight, top, under, withinLimit, verdict, verdicts, driftOf, DriftAnswers}
 use Rattle.drift.proofs.Answering as answering
 use Rattle.drift.proofs.Limit.{by-products}
@@ -118,3 +121,19 @@ pub lowest-drift : (hs : List ℕ) (zs : List ℤ) (m : ℕ) (old : List ℕ) (r
 lowest-drift hs zs m old r held e k q w =
     lowest-following (DriftApplies hs zs m (length old)) (λ n p. numbered-drift) (verdictOutcome (Refused r)) (r .number) (r .place) k q refl
     (drift-first hs zs m old held (Refused r) e) w
+
+-- ---- whatever the buffers held, and however much longer than the lists they are, the answer is one, and so are the verdicts
+room-for-storeys : (hs : List ℕ) (zs : List ℤ) (m room room′ : ℕ) → length hs ≤ room → length hs ≤ room′ → judgedDrift hs zs m room ≡ judgedDrift hs zs m room′
+unfolding judgedDrift
+room-for-storeys hs zs m room room′ h h′ = rw (le-leb (length hs) room h, le-leb (length hs) room′ h′)
+
+module _ (hs : List ℕ) (zs : List ℤ) (m : ℕ) (old old′ : List ℕ) where
+  pub longer-drift : {a a′ : Verdict} {held held′ : List ℕ} → length hs ≤ length old → length hs ≤ length old′ → DriftAnswers hs zs m old a held
+      → DriftAnswers hs zs m old′ a′ held′ → a ≡ a′
+  unfolding driftOf
+  longer-drift h h′ p q =
+      verdict-unique (p .0 ∙ ap (λ (j : Outcome Done). doneOnly (j >> accepted (verdicts hs zs m))) (room-for-storeys hs zs m (length old) (length old′) h h′)) (q .0)
+
+  pub drift-cells : {held held′ : List ℕ} → DriftAnswers hs zs m old Passed held → DriftAnswers hs zs m old′ Passed held′
+      → (x : ℕ) → x < length hs → getD held x 0 ≡ getD held′ x 0
+  drift-cells {held} {held′} p q x h = cell-is hs zs m old held p x h ∙ sym (cell-is hs zs m old′ held′ q x h)

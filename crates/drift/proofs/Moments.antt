@@ -1,5 +1,5 @@
 -- The answer of the accidental moments: what it says of the judgment and of the two buffers, level by level; that no second outcome meets its contract; that it
--- gives the first refusal, which has the lowest number that applies; and that a level's moments are those of the force that the distribution gives it.
+-- gives the first refusal, which has the lowest number that applies; and that a level's moments are those of the force that the distribution gives it; and that nothing but the call's own input plays a part.
 -- Assumes nothing.
 use mathlib.Core.Path.{_≡_, refl, sym, ap, _∙_}
 use mathlib.Core.List.{List}
@@ -17,11 +17,14 @@ use Rattle.limits.specs.DriftAllowed.{AllowedMoments}
 use Rattle.limits.specs.DriftApplies.{MomentsApply}
 use Rattle.limits.specs.DriftJudging.{judgedMoments}
 use Rattle.limits.specs.FirstRefusal.{FirstRefusal}
-use Rattle.limits.specs.Outcome.{accepted, verdictOutcome}
+use Rattle.limits.specs.Outcome.{Outcome, Done, accepted, verdictOutcome, _>>_}
 use Rattle.limits.proofs.AcceptedDrift.{moments-allowed}
 use Rattle.limits.proofs.DriftNumbers.{numbered-moments, lowest-following}
 use Rattle.limits.proofs.DriftStage as judged
-use Rattle.job.specs.Distribution.{Buffers, columnsAt, Distributed}
+use Rattle.limits.proofs.Room.{room-for-levels}
+use Rattle.limits.proofs.Unique.{verdict-unique}
+use Rattle.limits.specs.Judging.{judgedDistribution}
+use Rattle.job.specs.Distribution.{Buffers, columnsAt, doneOnly, Distributed}
 use Rattle.job.proofs.Columns.{forces-cells}
 use Rattle.job.proofs.Distributed.{passed-cells}
 use Rattle.drift.specs.Accidental.{accidentalMoment, momentsAt, momentsOf, MomentBuffers, shorter, laidEachWay, MomentAnswers}
@@ -122,3 +125,23 @@ pub lowest-moments : (v T : ℕ) (ws hs : List ℕ) (d : ℕ) (b : MomentBuffers
 lowest-moments v T ws hs d b r b′ e k q w =
     lowest-following (MomentsApply v T ws hs d (shorter b)) (λ n p. numbered-moments) (verdictOutcome (Refused r)) (r .number) (r .place) k q refl
     (moments-first v T ws hs d b b′ (Refused r) e) w
+
+-- ---- whatever the buffers held, and however much longer than the lists they are, the answer is one, and so are the moments
+room-for-moments : (v T : ℕ) (ws hs : List ℕ) (d room room′ : ℕ) → length ws ≤ room → length ws ≤ room′
+    → judgedMoments v T ws hs d room ≡ judgedMoments v T ws hs d room′
+unfolding judgedMoments judgedDistribution
+room-for-moments v T ws hs d room room′ h h′ = rw (room-for-levels ws hs room room′ h h′)
+
+module _ (v T : ℕ) (ws hs : List ℕ) (d : ℕ) (b c : MomentBuffers) where
+  pub longer-moments : {a a′ : Verdict} {b′ c′ : MomentBuffers} → length ws ≤ shorter b → length ws ≤ shorter c → MomentAnswers v T ws hs d b a b′
+      → MomentAnswers v T ws hs d c a′ c′ → a ≡ a′
+  unfolding momentsOf
+  longer-moments h h′ p q =
+      verdict-unique (p .0 ∙ ap (λ (j : Outcome Done). doneOnly (j >> accepted (momentsAt T v ws hs d))) (room-for-moments v T ws hs d (shorter b) (shorter c) h h′)) (q .0)
+
+  pub moments-cells : {b′ c′ : MomentBuffers} → MomentAnswers v T ws hs d b Passed b′ → MomentAnswers v T ws hs d c Passed c′ → (x : ℕ) → x < length ws
+      → (getD (b′ .positive) x (pos 0) ≡ getD (c′ .positive) x (pos 0)) × (getD (b′ .negative) x (pos 0) ≡ getD (c′ .negative) x (pos 0))
+  moments-cells {b′} {c′} p q x h = (
+    positive-cell v T ws hs d b b′ p x h ∙ sym (positive-cell v T ws hs d c c′ q x h),
+    negative-cell v T ws hs d b b′ p x h ∙ sym (negative-cell v T ws hs d c c′ q x h),
+  )

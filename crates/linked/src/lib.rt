@@ -223,7 +223,7 @@ pub extern "C" fn rukeshomaji_torsion(largest: u64, average: u64, reply: &mut [u
 // negative in the other, its place in `place`.
 #[no_mangle]
 pub extern "C" fn rukeshomaji_accidental_moments(
-    base_shear: u64,
+    shear: u64,
     period: u64,
     weights: &[u64],
     heights: &[u64],
@@ -232,10 +232,10 @@ pub extern "C" fn rukeshomaji_accidental_moments(
     negative: &mut [i64],
     place: &mut u64,
 ) -> u64
-    ensures { λ n. ⌜ MomentsReplies «base_shear» period (now (weights .entry)) (now (heights .entry)) dimension (record { positive = now (positive .entry); negative = now (negative .entry) }) n (now (place .exit)) (record { positive = now (positive .exit); negative = now (negative .exit) }) ⌝ }
+    ensures { λ n. ⌜ MomentsReplies shear period (now (weights .entry)) (now (heights .entry)) dimension (record { positive = now (positive .entry); negative = now (negative .entry) }) n (now (place .exit)) (record { positive = now (positive .exit); negative = now (negative .exit) }) ⌝ }
 {
     let a = accidental_moments(
-        base_shear,
+        shear,
         period,
         weights,
         heights,

@@ -22,7 +22,7 @@ returns c =
     let a = c .before .before .before .before .before .before .before .before .args in
     let b : MomentBuffers = record { positive = a .positive .now; negative = a .negative .now } in
     let m = c .before .before .before .accidental-moments in
-    laid-replies laidEachWay (momentsOf (a .base-shear) (a .period) (a .weights .now) (a .heights .now) (a .dimension) (shorter b)) b (m .result) (c .refusal .result) _ (m .ensures) (c .refusal .ensures)
+    laid-replies laidEachWay (momentsOf (a .shear) (a .period) (a .weights .now) (a .heights .now) (a .dimension) (shorter b)) b (m .result) (c .refusal .result) _ (m .ensures) (c .refusal .ensures)
 
 pub rukeshomaji-accidental-moments-spec : {M : Type 1} → statement M
 rukeshomaji-accidental-moments-spec =
