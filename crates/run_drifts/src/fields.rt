@@ -48,3 +48,12 @@ pub const MOMENTS_HEAD: usize = 11;
 
 // The most numbers of a list and cells of a buffer that a case has.
 pub const LISTED: usize = 52;
+
+// 1 where a number is below zero.
+pub const BELOW: u64 = 1;
+
+pub const LEAST_SIGNED: i64 = -9_223_372_036_854_775_808;
+
+pub const MOST_SIGNED: i64 = 9_223_372_036_854_775_807;
+// The size of the largest; that of the least is one more.
+pub const SIZE_MOST: u64 = 9_223_372_036_854_775_807;

@@ -1,9 +1,11 @@
 // Runs drift, torsion and accidental moments on the cases of standard input, and says what comes back: the answer, and every cell of the buffers.
 use drift::accidental::accidental_moments;
 use drift::storey_drift::drift;
+use drift::torsion::TorsionAnswer;
 use drift::torsion::torsion;
 use fields::AVERAGE;
 use fields::BASE_SHEAR;
+use fields::BELOW;
 use fields::DIMENSION;
 use fields::DISPLACEMENTS;
 use fields::DRIFT;
@@ -11,35 +13,129 @@ use fields::DRIFT_HEAD;
 use fields::DRIFT_HEIGHTS;
 use fields::HEIGHTS;
 use fields::LARGEST;
+use fields::LEAST_SIGNED;
 use fields::LIMIT;
 use fields::LISTED;
 use fields::MOMENTS_HEAD;
+use fields::MOST_SIGNED;
 use fields::NEGATIVE;
 use fields::OLD_NEGATIVE;
 use fields::OLD_POSITIVE;
 use fields::OLD_VERDICTS;
 use fields::PERIOD;
 use fields::POSITIVE;
+use fields::SIZE_MOST;
 use fields::TORSION;
 use fields::TORSION_HEAD;
 use fields::VERDICTS;
 use fields::WEIGHTS;
 use libc::STDIN_FILENO;
+use libc::STDOUT_FILENO;
+use limits::refusal::Refusal;
+use limits::refusal::Verdict;
 use rows::number;
 use rows::row;
-use said::cells_said;
-use said::factor_said;
-use said::signed_cells_said;
-use said::verdict_said;
-use signed::signed;
-use signed::signed_list;
+use whole::signs::minus;
+use whole::signs::size;
 
 mod fields;
-mod said;
-mod signed;
 
 ghost use Prim.Native.Nat.{_≤_};
 ghost use lib.ListN.{length};
+
+fn number_said(n: u64) {
+    io::write_all(STDOUT_FILENO, b"\t");
+    io::print_decimal(STDOUT_FILENO, n);
+}
+
+fn refusal_said(r: Refusal) {
+    io::write_all(STDOUT_FILENO, b"refused");
+    number_said(r.number);
+    number_said(r.place);
+}
+
+fn verdict_said(v: Verdict) {
+    match v {
+        Verdict::Passed => {
+            io::write_all(STDOUT_FILENO, b"taken");
+        }
+        Verdict::Refused(r) => {
+            refusal_said(r);
+        }
+    }
+    io::write_all(STDOUT_FILENO, b"\n");
+}
+
+fn factor_said(a: TorsionAnswer) {
+    match a {
+        TorsionAnswer::Taken(factor) => {
+            io::write_all(STDOUT_FILENO, b"taken");
+            number_said(factor);
+        }
+        TorsionAnswer::Refused(r) => {
+            refusal_said(r);
+        }
+    }
+    io::write_all(STDOUT_FILENO, b"\n");
+}
+
+fn cells_said(name: &[u8], cells: &[u64]) {
+    io::write_all(STDOUT_FILENO, name);
+    let mut i = 0;
+    while i < cells.len() {
+        number_said(cells[i]);
+        i += 1;
+    }
+    io::write_all(STDOUT_FILENO, b"\n");
+}
+
+// The least number has a size that no i64 is.
+fn signed_said(z: i64) {
+    if z == LEAST_SIGNED {
+        io::write_all(STDOUT_FILENO, b"\t-9223372036854775808");
+        return;
+    }
+    io::write_all(STDOUT_FILENO, b"\t");
+    if z < 0 {
+        io::write_all(STDOUT_FILENO, b"-");
+    }
+    io::print_decimal(STDOUT_FILENO, size(z));
+}
+
+fn signed_cells_said(name: &[u8], cells: &[i64]) {
+    io::write_all(STDOUT_FILENO, name);
+    let mut i = 0;
+    while i < cells.len() {
+        signed_said(cells[i]);
+        i += 1;
+    }
+    io::write_all(STDOUT_FILENO, b"\n");
+}
+
+// A size that no number has stands for the largest one, and behind a 1 for the least.
+fn signed(below: u64, size: u64) -> i64 {
+    if below == BELOW {
+        if SIZE_MOST < size {
+            return LEAST_SIGNED;
+        }
+        return minus(0, size);
+    }
+    if SIZE_MOST < size {
+        return MOST_SIGNED;
+    }
+    minus(size, 0)
+}
+
+// The numbers of a row that was read, two by two.
+fn signed_list(pairs: [u64; 140]) -> [i64; 52] {
+    let mut numbers = [0i64; 52];
+    let mut k = 0;
+    while k < LISTED {
+        numbers[k] = signed(pairs[2 * k], pairs[2 * k + 1]);
+        k += 1;
+    }
+    numbers
+}
 
 // So many, or as many as there are.
 fn least(count: u64) -> usize

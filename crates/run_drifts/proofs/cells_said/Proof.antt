@@ -1,9 +1,9 @@
--- `run_drifts::said::signed_cells_said` ends. Assumes nothing.
+-- `run_drifts::cells_said` ends. Assumes nothing.
 use borrow.Author.Needs.{needs}
 use Prim.Native.Nat.{_-_, _≤_}
 use lib.ListN.{length}
-use Rattle.run_drifts.proofs.said.signed_cells_said.Statement.{statement}
-use Rattle.run_drifts.proofs.said.signed_cells_said.Tie as tie
+use Rattle.run_drifts.proofs.cells_said.Statement.{statement}
+use Rattle.run_drifts.proofs.cells_said.Tie as tie
 
 abbrev Inv-loop : tie.InvT-loop
 Inv-loop name cells i₀ t4 i = i ≤ length cells
@@ -17,14 +17,14 @@ write-all-requires c κs = search needs
 loop-holds : tie.Need-loop-holds Inv-loop μ-loop
 loop-holds c = search needs
 
-mul-signed-said : tie.Need-mul-signed-said Inv-loop μ-loop
-mul-signed-said c = search needs
+mul-number-said : tie.Need-mul-number-said Inv-loop μ-loop
+mul-number-said c = search needs
 
-shared-slice-copy-out-signed-said : tie.Need-shared-slice-copy-out-signed-said Inv-loop μ-loop
-shared-slice-copy-out-signed-said c = search needs
+shared-slice-read-number-said : tie.Need-shared-slice-read-number-said Inv-loop μ-loop
+shared-slice-read-number-said c = search needs
 
-signed-said-requires : tie.Need-signed-said-requires Inv-loop μ-loop
-signed-said-requires c κs = search needs
+number-said-requires : tie.Need-number-said-requires Inv-loop μ-loop
+number-said-requires c κs = search needs
 
 add-i : tie.Need-add-i Inv-loop μ-loop
 add-i c = search needs
@@ -44,17 +44,17 @@ write-all-requires-2 c κs = search needs
 returns : tie.Need-returns Inv-loop μ-loop
 returns c = search needs
 
-pub signed-cells-said-spec : {M : Type 1} → statement M
-signed-cells-said-spec =
+pub cells-said-spec : {M : Type 1} → statement M
+cells-said-spec =
     tie.close
     (tie.spec
     Inv-loop
     μ-loop
     write-all-requires
     loop-holds
-    mul-signed-said
-    shared-slice-copy-out-signed-said
-    signed-said-requires
+    mul-number-said
+    shared-slice-read-number-said
+    number-said-requires
     add-i
     loop-less
     loop-again

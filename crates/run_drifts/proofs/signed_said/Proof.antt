@@ -1,4 +1,4 @@
--- `run_drifts::said::signed_said` takes the size of no least number. Assumes nothing.
+-- `run_drifts::signed_said` takes the size of no least number. Assumes nothing.
 use borrow.Author.Needs.{needs}
 use mathlib.Core.Path.{_≡_}
 use Prim.Native.Nat.{_^_, _<_}
@@ -9,8 +9,8 @@ use mir.Syntax.{w64}
 use mir.Val.{ofZ}
 use mir.Facts.{toZ-ofZ}
 use Rattle.whole.specs.Signed.{size}
-use Rattle.run_drifts.proofs.said.signed_said.Statement.{statement}
-use Rattle.run_drifts.proofs.said.signed_said.Tie as tie
+use Rattle.run_drifts.proofs.signed_said.Statement.{statement}
+use Rattle.run_drifts.proofs.signed_said.Tie as tie
 
 slice-aggregate-write-all : tie.Need-slice-aggregate-write-all
 slice-aggregate-write-all c = search needs

@@ -1,10 +1,10 @@
--- `run_drifts::signed::signed_list` stays inside the row and the list, and ends. Assumes nothing.
+-- `run_drifts::signed_list` stays inside the row and the list, and ends. Assumes nothing.
 use borrow.Author.Needs.{needs}
 use mathlib.Core.Path.{_≡_}
 use Prim.Native.Nat.{_-_, _≤_}
 use lib.ListN.{length}
-use Rattle.run_drifts.proofs.signed.signed_list.Statement.{statement}
-use Rattle.run_drifts.proofs.signed.signed_list.Tie as tie
+use Rattle.run_drifts.proofs.signed_list.Statement.{statement}
+use Rattle.run_drifts.proofs.signed_list.Tie as tie
 
 abbrev Inv-loop : tie.InvT-loop
 Inv-loop pairs numbers₀ k₀ numbers k = (k ≤ 52) × (length numbers ≡ 52)
