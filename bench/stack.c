@@ -8,6 +8,7 @@ enum { STACK = 1 << 18, PAINT = 0xa5 };
 static uint8_t stack[STACK] __attribute__((aligned(4096)));
 static uint8_t *before;
 static volatile u64 kept;
+typedef int64_t i64;
 
 static JobInput job;
 static DistrictInput district;
@@ -83,6 +84,32 @@ static void *one_district(void *p)
     return p;
 }
 
+static void *one_drift(void *p)
+{
+    static i64 displacements[LEVELS];
+    static u64 verdicts[LEVELS], place;
+    HERE();
+    kept += rukeshomaji_drift(job.heights, 50, displacements, 50, 50, verdicts, 50, &place);
+    return p;
+}
+
+static void *one_torsion(void *p)
+{
+    static RukeshomajiTorsion reply;
+    HERE();
+    kept += rukeshomaji_torsion(2500, 2000, &reply);
+    return p;
+}
+
+static void *one_moments(void *p)
+{
+    static i64 positive[LEVELS], negative[LEVELS];
+    static u64 place;
+    HERE();
+    kept += rukeshomaji_accidental_moments(RUKESHOMAJI_MOST_BASE_SHEAR, 1000, job.weights, 50, job.heights, 50, 240, positive, 50, negative, 50, &place);
+    return p;
+}
+
 static void *one_log(void *p)
 {
     static ClassReply reply;
@@ -126,8 +153,8 @@ int main(void)
     long least = depth(one_district);
     drawn_district(&district, JOBS, LEVELS);
     printf("stack touched below the call: job %ld, in the Basin %ld, figures %ld, in the Basin %ld, shear call %ld, in the Basin %ld, "
-           "distribution %ld, district of 1 job %ld, of 256 %ld, soil log %ld, sheet %ld bytes\n",
+           "distribution %ld, district of 1 job %ld, of 256 %ld, drift %ld, torsion %ld, accidental moments %ld, soil log %ld, sheet %ld bytes\n",
            depth(one_job), depth(one_basin_job), depth(one_figures), depth(one_basin_figures), depth(one_shear_call), depth(one_basin_shear_call),
-           depth(one_distribution), least, depth(one_district), depth(one_log), depth(one_sheet));
+           depth(one_distribution), least, depth(one_district), depth(one_drift), depth(one_torsion), depth(one_moments), depth(one_log), depth(one_sheet));
     return 0;
 }
