@@ -1,18 +1,16 @@
 -- The answer of drift: what it says of the judgment and of the buffer, storey by storey; that no second outcome meets its contract; that it gives the first
--- refusal, which has the lowest number that applies; that a larger limit never turns yes into no; and
--- that nothing but the call's own input plays a part.
+-- refusal, which has the lowest number that applies; and that nothing but the call's own input plays a part.
 -- Assumes nothing.
 use mathlib.Core.Path.{_≡_, refl, sym, ap, _∙_}
 use mathlib.Core.Bool.{Bool, true, false}
 use mathlib.Core.List.{List}
 use Prim.Native.Nat.{ℕ, _*_, _≤_, _<_}
-use native.Mathlib.Nat.{mul-le-mul-right}
 use native.Mathlib.Omega.{arith}
-use lib.IntN.{ℤ, _-ℤ_}
+use lib.IntN.{ℤ}
 use lib.ListN.{length, drop, getD}
 use borrow.Author.Tests.{leb-true, le-leb, lt-leb}
 use Rattle.whole.specs.Cells.{laid}
-use Rattle.whole.specs.Signed.{size}
+use Rattle.whole.specs.Choice.{pick}
 use Rattle.whole.proofs.Cells.{cells-length, cells-at, laid-at, laid-rest}
 use Rattle.limits.specs.declared.refusal.Refusal.{Refusal}
 use Rattle.limits.specs.declared.refusal.Verdict.{Verdict}
@@ -23,11 +21,11 @@ use Rattle.limits.specs.DriftJudging.{judgedDrift}
 use Rattle.limits.specs.FirstRefusal.{FirstRefusal}
 use Rattle.limits.specs.Outcome.{Outcome, Done, accepted, verdictOutcome, _>>_}
 use Rattle.limits.proofs.AcceptedDrift.{drift-allowed}
-use Rattle.limits.proofs.DriftNumbers.{numbered-drift, lowest-following}
+use Rattle.limits.proofs.DriftNumbers.{numbered-drift, lowest-of-drift}
 use Rattle.limits.proofs.DriftStage as judged
 use Rattle.limits.proofs.Unique.{verdict-unique}
 use Rattle.job.specs.Distribution.{doneOnly}
-use Rattle.drift.specs.Drift.{storeyHeight, top, under, withinLimit, verdict, verdicts, driftOf, DriftAnswers}
+use Rattle.drift.specs.Drift.{storeyHeight, apart, withinLimit, verdictOf, verdicts, driftOf, DriftAnswers}
 use Rattle.drift.proofs.Answering as answering
 use Rattle.drift.proofs.Limit.{by-products}
 
@@ -74,52 +72,38 @@ module _ (hs : List ℕ) (zs : List ℤ) (m : ℕ) (old : List ℕ) where
       passed-allowed = drift-allowed hs zs m (length old) passed-judged .0
 
       count : length (verdicts hs zs m) ≡ length hs
-      count = cells-length (λ x. verdict (withinLimit hs zs m x)) (length hs)
+      count = cells-length (verdictOf hs zs m) (length hs)
 
       -- each storey's cell is its verdict
-      pub cell-is : (x : ℕ) → x < length hs → getD held x 0 ≡ verdict (withinLimit hs zs m x)
+      pub cell-is : (x : ℕ) → x < length hs → getD held x 0 ≡ verdictOf hs zs m x
       cell-is x h =
           ap (λ (l : List ℕ). getD l x 0) passed-laid
           ∙ laid-at (verdicts hs zs m) old x (rw count h)
-          ∙ cells-at (λ x. verdict (withinLimit hs zs m x)) (length hs) x h
+          ∙ cells-at (verdictOf hs zs m) (length hs) x h
 
       -- and what lies past the last storey is as it was
       pub rest-kept : drop (length hs) held ≡ drop (length hs) old
       rest-kept = ap (λ (l : List ℕ). drop (length hs) l) passed-laid ∙ laid-rest (verdicts hs zs m) old (length hs) count
 
       -- 1 exactly where the difference between the ends is at most the limit times the height, else 0
-      pub yes-within : (x : ℕ) → x < length hs → getD held x 0 ≡ 1 → size (top zs x -ℤ under zs x) ≤ m * storeyHeight hs x
+      pub yes-within : (x : ℕ) → x < length hs → getD held x 0 ≡ 1 → apart zs x ≤ m * storeyHeight hs x
       yes-within x h e = go (withinLimit hs zs m x) refl
         where
-          go : (t : Bool) → withinLimit hs zs m x ≡ t → size (top zs x -ℤ under zs x) ≤ m * storeyHeight hs x
+          go : (t : Bool) → withinLimit hs zs m x ≡ t → apart zs x ≤ m * storeyHeight hs x
           go true t = leb-true _ _ (sym (by-products hs zs m x) ∙ t)
-          go false t = absurd (let z : ⊥ = omega (arith, e, cell-is x h ∙ ap (λ (b : Bool). verdict b) t) in z)
+          go false t = absurd (let z : ⊥ = omega (arith, e, cell-is x h ∙ ap (λ (b : Bool). pick b 1 0) t) in z)
 
-      pub within-yes : (x : ℕ) → x < length hs → size (top zs x -ℤ under zs x) ≤ m * storeyHeight hs x → getD held x 0 ≡ 1
-      within-yes x h l = cell-is x h ∙ ap (λ (b : Bool). verdict b) (by-products hs zs m x ∙ le-leb _ _ l)
+      pub within-yes : (x : ℕ) → x < length hs → apart zs x ≤ m * storeyHeight hs x → getD held x 0 ≡ 1
+      within-yes x h l = cell-is x h ∙ ap (λ (b : Bool). pick b 1 0) (by-products hs zs m x ∙ le-leb _ _ l)
 
-      pub beyond-no : (x : ℕ) → x < length hs → m * storeyHeight hs x < size (top zs x -ℤ under zs x) → getD held x 0 ≡ 0
-      beyond-no x h l = cell-is x h ∙ ap (λ (b : Bool). verdict b) (by-products hs zs m x ∙ lt-leb _ _ l)
+      pub beyond-no : (x : ℕ) → x < length hs → m * storeyHeight hs x < apart zs x → getD held x 0 ≡ 0
+      beyond-no x h l = cell-is x h ∙ ap (λ (b : Bool). pick b 1 0) (by-products hs zs m x ∙ lt-leb _ _ l)
 
--- ---- 'a larger limit never turns yes into no'
-pub larger-limit : (hs : List ℕ) (zs : List ℤ) (m m′ x : ℕ) → m ≤ m′ → withinLimit hs zs m x ≡ true → withinLimit hs zs m′ x ≡ true
-larger-limit hs zs m m′ x h e =
-    let l = leb-true (size (top zs x -ℤ under zs x)) (m * storeyHeight hs x) (sym (by-products hs zs m x) ∙ e) in
-    by-products hs zs m′ x
-    ∙ le-leb (size (top zs x -ℤ under zs x)) (m′ * storeyHeight hs x) (omega (arith, l, mul-le-mul-right (storeyHeight hs x) h))
-
--- of two calls that passed, whatever their buffers held
-pub yes-stays : (hs : List ℕ) (zs : List ℤ) (m m′ : ℕ) (old old′ held held′ : List ℕ) → DriftAnswers hs zs m old Passed held
-    → DriftAnswers hs zs m′ old′ Passed held′ → m ≤ m′ → (x : ℕ) → x < length hs → getD held x 0 ≡ 1 → getD held′ x 0 ≡ 1
-yes-stays hs zs m m′ old old′ held held′ a b h x l e =
-    let within = yes-within hs zs m old held a x l e in
-    within-yes hs zs m′ old′ held′ b x l (omega (arith, within, mul-le-mul-right (storeyHeight hs x) h))
-
--- and the first refusal is the lowest number that applies
+-- ---- the first refusal is the lowest number that applies
 pub lowest-drift : (hs : List ℕ) (zs : List ℤ) (m : ℕ) (old : List ℕ) (r : Refusal) (held : List ℕ) → DriftAnswers hs zs m old (Refused r) held
     → (k q : ℕ) → DriftApplies hs zs m (length old) k q → r .number ≤ k
 lowest-drift hs zs m old r held e k q w =
-    lowest-following (DriftApplies hs zs m (length old)) (λ n p. numbered-drift) (verdictOutcome (Refused r)) (r .number) (r .place) k q refl
+    lowest-of-drift (DriftApplies hs zs m (length old)) (λ n p. numbered-drift) (verdictOutcome (Refused r)) (r .number) (r .place) k q refl
     (drift-first hs zs m old held (Refused r) e) w
 
 -- ---- whatever the buffers held, and however much longer than the lists they are, the answer is one, and so are the verdicts

@@ -3,7 +3,7 @@
 -- Assumes nothing.
 use mathlib.Core.Path.{_≡_, sym, ap, _∙_}
 use mathlib.Core.List.{List}
-use Prim.Native.Nat.{ℕ, _+_, _*_, _^_, _≤_, _<_}
+use Prim.Native.Nat.{ℕ, _+_, _*_, _≤_, _<_}
 use native.Mathlib.Nat.{mul-le-mul}
 use native.Mathlib.Omega.{arith}
 use lib.IntN.{ℤ, pos, negℤ, _-ℤ_, +ℤ-idl}
@@ -19,7 +19,8 @@ use Rattle.storeys.specs.Reach.{Load, Falling}
 use Rattle.storeys.specs.Storeys.{weightHeight, shearUnder, shears, force, forces}
 use Rattle.storeys.proofs.Chain.{shears-length, forces-length}
 use Rattle.storeys.proofs.Telescope.{shear-most, force-whole}
-use Rattle.drift.specs.Accidental.{accidentalMoment, eachWay, Carried}
+use Rattle.drift.specs.Accidental.{accidentalMoment, eachWay}
+use Rattle.drift.specs.Reach.{Carried}
 
 -- ---- how large a moment can be
 pub moment-most : (f d : ℕ) → f ≤ 1_400_000_000 → d ≤ 5_000 → accidentalMoment f d ≤ 35_000_000_000_000

@@ -1,10 +1,10 @@
 -- The torsion factor in whole numbers: as 1.2 squared is 36/25, it is 25,000·l²/(36·a²), rounded up once, and at most 3,000. How it lies to the exact factor of
 -- (22): never below it, but where 3.0 is enough, and less than a thousandth above it.
 -- Assumes nothing.
-use mathlib.Core.Path.{_≡_, refl, sym, ap, _∙_}
+use mathlib.Core.Path.{_≡_, refl, sym, ap}
 use mathlib.Core.Bool.{Bool, true, false}
 use mathlib.Core.Logic.{_⊎_, inl, inr}
-use Prim.Native.Nat.{ℕ, _+_, _*_, _≤_, _<_, min}
+use Prim.Native.Nat.{ℕ, _*_, _≤_, _<_, min}
 use native.Mathlib.Nat.{mul-le-mul-right, mul-le-mul}
 use native.Mathlib.Omega.{arith}
 use lib.Dec.{leb}

@@ -3,7 +3,8 @@ pub mod Limit
 pub mod Factor
 pub mod EachWay
 pub mod Drifts
-pub mod Turned
+pub mod Reversed
+pub mod LargerLimit
 pub mod Torsions
 pub mod Moments
 pub mod WorkedDrift

@@ -4,7 +4,7 @@
 use mathlib.Core.Path.{_≡_, refl, ap}
 use mathlib.Core.Bool.{Bool, true, false}
 use mathlib.Core.List.{List}
-use Prim.Native.Nat.{ℕ, zero, suc, _+_, _-_, _*_, _^_, _≤_, _<_}
+use Prim.Native.Nat.{ℕ, zero, suc, _-_, _*_, _^_, _≤_, _<_}
 use native.Mathlib.Nat.{mul-le-mul-right, mul-lt-mul-of-pos-right}
 use native.Mathlib.Omega.{arith}
 use lib.Dec.{leb}
@@ -17,7 +17,7 @@ use borrow.Author.Tests.{leb-true, leb-false, le-leb, lt-leb}
 use Rattle.whole.specs.Signed.{size}
 use Rattle.whole.proofs.Size.{size-difference, size-fits}
 use Rattle.limits.specs.DriftAllowed.{AllowedDisplacements, AllowedDrift}
-use Rattle.drift.specs.Drift.{storeyHeight, top, under, withinLimit}
+use Rattle.drift.specs.Drift.{storeyHeight, top, under, apart, withinLimit}
 
 -- ---- a factor on both sides
 by-factor : (s m k h : ℕ) → 0 < k → leb (s * k) (m * (k * h)) ≡ leb s (m * h)
@@ -27,9 +27,9 @@ by-factor s m k h p = go (leb s (m * h)) refl
     go true e = le-leb (s * k) (m * (k * h)) (omega (arith, mul-le-mul-right k (leb-true s (m * h) e)))
     go false e = lt-leb (s * k) (m * (k * h)) (omega (arith, mul-lt-mul-of-pos-right (leb-false s (m * h) e) p))
 
-pub by-products : (hs : List ℕ) (zs : List ℤ) (m x : ℕ) → withinLimit hs zs m x ≡ leb (size (top zs x -ℤ under zs x)) (m * storeyHeight hs x)
+pub by-products : (hs : List ℕ) (zs : List ℤ) (m x : ℕ) → withinLimit hs zs m x ≡ leb (apart zs x) (m * storeyHeight hs x)
 unfolding withinLimit
-by-products hs zs m x = by-factor (size (top zs x -ℤ under zs x)) m 10_000 (storeyHeight hs x) (omega arith)
+by-products hs zs m x = by-factor (apart zs x) m 10_000 (storeyHeight hs x) (omega arith)
 
 -- ---- the bottom of a storey
 pub under-at : (zs : List ℤ) (x : ℕ) → 0 < x → getD zs (x - 1) (pos 0) ≡ under zs x
@@ -48,10 +48,10 @@ module _ (zs : List ℤ) (a : AllowedDisplacements zs) (x : ℕ) (h : x < length
       go zero e = omega arith
       go (suc y) e = a y (omega (arith, h, e))
 
-  apart-most : size (top zs x -ℤ under zs x) ≤ 2_000_000
+  apart-most : apart zs x ≤ 2_000_000
   apart-most = omega (arith, size-difference (top zs x) (under zs x), top-size, under-size)
 
-  pub apart-small : size (top zs x -ℤ under zs x) < 2 ^ 63
+  pub apart-small : apart zs x < 2 ^ 63
   apart-small = omega (arith, apart-most)
 
   pub apart-fits : SFits w64 (top zs x -ℤ under zs x)

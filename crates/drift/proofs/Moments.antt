@@ -1,5 +1,6 @@
 -- The answer of the accidental moments: what it says of the judgment and of the two buffers, level by level; that no second outcome meets its contract; that it
--- gives the first refusal, which has the lowest number that applies; and that a level's moments are those of the force that the distribution gives it; and that nothing but the call's own input plays a part.
+-- gives the first refusal, which has the lowest number that applies; that a level's moments are those of the force which the distribution gives it; and that
+-- nothing but the call's own input plays a part.
 -- Assumes nothing.
 use mathlib.Core.Path.{_≡_, refl, sym, ap, _∙_}
 use mathlib.Core.List.{List}
@@ -19,7 +20,7 @@ use Rattle.limits.specs.DriftJudging.{judgedMoments}
 use Rattle.limits.specs.FirstRefusal.{FirstRefusal}
 use Rattle.limits.specs.Outcome.{Outcome, Done, accepted, verdictOutcome, _>>_}
 use Rattle.limits.proofs.AcceptedDrift.{moments-allowed}
-use Rattle.limits.proofs.DriftNumbers.{numbered-moments, lowest-following}
+use Rattle.limits.proofs.DriftNumbers.{numbered-moments, lowest-of-drift}
 use Rattle.limits.proofs.DriftStage as judged
 use Rattle.limits.proofs.Room.{room-for-levels}
 use Rattle.limits.proofs.Unique.{verdict-unique}
@@ -123,7 +124,7 @@ five-per-cent f d = omega arith
 pub lowest-moments : (v T : ℕ) (ws hs : List ℕ) (d : ℕ) (b : MomentBuffers) (r : Refusal) (b′ : MomentBuffers) → MomentAnswers v T ws hs d b (Refused r) b′
     → (k q : ℕ) → MomentsApply v T ws hs d (shorter b) k q → r .number ≤ k
 lowest-moments v T ws hs d b r b′ e k q w =
-    lowest-following (MomentsApply v T ws hs d (shorter b)) (λ n p. numbered-moments) (verdictOutcome (Refused r)) (r .number) (r .place) k q refl
+    lowest-of-drift (MomentsApply v T ws hs d (shorter b)) (λ n p. numbered-moments) (verdictOutcome (Refused r)) (r .number) (r .place) k q refl
     (moments-first v T ws hs d b b′ (Refused r) e) w
 
 -- ---- whatever the buffers held, and however much longer than the lists they are, the answer is one, and so are the moments

@@ -1,6 +1,5 @@
 -- The answer of torsion: what it says of the judgment; that no second outcome meets its contract; that it gives the first refusal, which has the lowest
--- number that applies; and where it is taken, how
--- the factor lies to the exact one.
+-- number that applies; and where it is taken, how the factor lies to the exact one.
 -- Assumes nothing.
 use mathlib.Core.Path.{_≡_, refl, sym, ap, subst, _∙_}
 use mathlib.Core.Logic.{_⊎_}
@@ -13,7 +12,7 @@ use Rattle.limits.specs.FirstRefusal.{FirstRefusal}
 use Rattle.limits.specs.Floor.{judgedFloor}
 use Rattle.limits.specs.Outcome.{Outcome, accepted, refused, Done, number, place, _>>_}
 use Rattle.limits.proofs.AcceptedDrift.{floor-allowed}
-use Rattle.limits.proofs.DriftNumbers.{numbered-floor, lowest-following}
+use Rattle.limits.proofs.DriftNumbers.{numbered-floor, lowest-of-drift}
 use Rattle.limits.proofs.DriftStage as judged
 use Rattle.limits.proofs.First.{first-then-value}
 use Rattle.limits.proofs.Passed.{never, one-value, then-passed}
@@ -76,5 +75,5 @@ module _ (l a : ℕ) where
 -- ---- the first refusal is the lowest number that applies
 pub lowest-torsion : (l a : ℕ) (r : Refusal) → TorsionAnswers l a (Refused r) → (k q : ℕ) → FloorApplies l a k q → r .number ≤ k
 lowest-torsion l a r e k q w =
-    lowest-following (FloorApplies l a) (λ n p. numbered-floor) (torsionOutcome (Refused r)) (r .number) (r .place) k q refl
+    lowest-of-drift (FloorApplies l a) (λ n p. numbered-floor) (torsionOutcome (Refused r)) (r .number) (r .place) k q refl
     (torsion-first l a (Refused r) e) w

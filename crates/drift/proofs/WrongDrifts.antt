@@ -11,11 +11,11 @@ use lib.ListN.{getD}
 use Rattle.limits.specs.declared.refusal.Refusal.{Refusal}
 use Rattle.limits.specs.declared.refusal.Verdict.{Verdict}
 use Rattle.limits.specs.declared.refusal.Verdict.the-variants.{Refused}
-use Rattle.limits.specs.Outcome.{Outcome, accepted, verdictOutcome}
-use Rattle.limits.proofs.Passed.{never}
+use Rattle.limits.specs.Outcome.{Outcome, verdictOutcome}
+use Rattle.limits.proofs.Passed.{never, one-value}
 use Rattle.whole.specs.Cells.{laid}
 use Rattle.job.specs.Distribution.{doneOnly}
-use Rattle.drift.specs.declared.torsion.TorsionAnswer.the-variants.{Taken}
+use Rattle.drift.specs.declared.torsion.TorsionAnswer.the-variants.{Taken, Refused as RefusedFloor}
 use Rattle.drift.specs.Accidental.{Moments, MomentBuffers, laidEachWay, MomentAnswers}
 use Rattle.drift.specs.Answering.{after}
 use Rattle.drift.specs.Drift.{DriftAnswers}
@@ -56,17 +56,17 @@ never-by-height-above-base o₁ o₂ a held t e =
     omega (arith, ap (λ (l : List ℕ). getD l 1 0) (sym e ∙ is))
 
 -- ---- the worked floors
+pub never-refused-floor : (r : Refusal) → TorsionAnswers 2500 2000 (RefusedFloor r) → ⊥
+never-refused-floor r t = never (t ∙ worked-floors .0)
+
 pub never-down : TorsionAnswers 2500 2000 (Taken 1085) → ⊥
-never-down t = omega (arith, value (t ∙ worked-floors .0))
-  where
-    value : {k l : ℕ} → _≡_ {A = Outcome ℕ} (accepted k) (accepted l) → k ≡ l
-    value e = cc
+never-down t = omega (arith, one-value (t ∙ worked-floors .0))
 
 pub never-unbounded : TorsionAnswers 2400 1000 (Taken 4000) → ⊥
-never-unbounded t = omega (arith, value (t ∙ worked-floors .1))
-  where
-    value : {k l : ℕ} → _≡_ {A = Outcome ℕ} (accepted k) (accepted l) → k ≡ l
-    value e = cc
+never-unbounded t = omega (arith, one-value (t ∙ worked-floors .1))
+
+pub never-at-least-one : TorsionAnswers 1800 1800 (Taken 1000) → ⊥
+never-at-least-one t = omega (arith, one-value (t ∙ worked-floors .2))
 
 -- ---- the worked moments, with three cells each way
 module _ (p₁ p₂ p₃ n₁ n₂ n₃ : ℤ) (a : Verdict) (b′ : MomentBuffers)

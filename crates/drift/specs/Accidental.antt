@@ -4,15 +4,14 @@
 --   accidentalMoment f d         of a force f in N: 'force times five times the dimension in hundredths of a N·dm, unrounded'
 --   Moments                      per level, lowest first, 'once positive and once negative'
 --   eachWay d fs                 those of forces fs
---   momentsAt T v ws hs d        those of the forces that the distribution gives
+--   momentsAt T v ws hs d        those of the forces that the distribution gives, by (21)
 --   momentsOf v T ws hs d room   these, or the first refusal; room is the length of the shorter result buffer
---   Carried us                   shears of at most 1,400,000,000 N each: what the code asks of them, so that no product goes beyond 64 bits
 --   MomentBuffers, shorter b     what two lent buffers hold, and the length of the shorter
 --   laidEachWay m b              what they hold that held b with each level's cell written, the rest as it was
 --   MomentAnswers v T ws hs d b a b′    a is the answer, and b′ what the buffers hold that held b: so where data is accepted; where it is refused, all
 --                                as it was
 use mathlib.Core.List.{List}
-use Prim.Native.Nat.{ℕ, _*_, _≤_, _<_, min}
+use Prim.Native.Nat.{ℕ, _*_, min}
 use lib.IntN.{ℤ, pos, negℤ}
 use lib.ListN.{length, getD}
 use Rattle.whole.specs.Cells.{cells, laid}
@@ -43,9 +42,6 @@ unfoldable pub momentsOf : ℕ → ℕ → List ℕ → List ℕ → ℕ → ℕ
 momentsOf v T ws hs d room = do
   judgedMoments v T ws hs d room
   accepted (momentsAt T v ws hs d)
-
-abbrev pub Carried : List ℕ → Type 0
-Carried us = (x : ℕ) → x < length us → getD us x 0 ≤ 1_400_000_000
 
 pub record MomentBuffers : Type 0 where
   pub positive : List ℤ

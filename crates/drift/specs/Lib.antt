@@ -1,5 +1,6 @@
 pub mod Answering
 pub mod Drift
-pub mod Turned
 pub mod Torsion
 pub mod Accidental
+pub mod Reach
+pub mod Reversed

@@ -1,6 +1,7 @@
 // Accidental moments (2.5.2): the force of each level, moved each way by 5% of the plan dimension.
 use job::distribution::shorter;
 use limits::drift::judged_moments;
+use limits::level::Level;
 use limits::refusal::Verdict;
 use storeys::level_force::level_force;
 use storeys::shear::fill_shears;
@@ -11,24 +12,25 @@ ghost use lib.ListN.{length};
 ghost use Rattle.whole.specs.Cells.{laid};
 ghost use Rattle.storeys.specs.Reach.{Load, Falling, Standing};
 ghost use Rattle.storeys.specs.Storeys.{forces};
-ghost use Rattle.drift.specs.Accidental.{accidentalMoment, eachWay, momentsAt, Carried, MomentAnswers};
+ghost use Rattle.drift.specs.Accidental.{accidentalMoment, eachWay, momentsAt, MomentAnswers};
+ghost use Rattle.drift.specs.Reach.{Carried};
 
-// 5%, in hundredths.
-const FIVE: u64 = 5;
+// How far the mass is moved each way, in hundredths of the dimension.
+const PER_CENT: u64 = 5;
 
 // As many shears as a building can have levels.
-const LEVELS: usize = 50;
+const LEVELS: usize = Level::MOST as usize;
 
 // Force in N times five times the dimension in dm: hundredths of a N·dm, with nothing to round.
-pub fn accidental_moment(force: u64, dimension: u64) -> u64
+fn accidental_moment(force: u64, dimension: u64) -> u64
     requires { ⌜ (force ≤ 1_400_000_000) × (dimension ≤ 5_000) ⌝ }
     ensures { λ r. ⌜ r ≡ accidentalMoment force dimension ⌝ }
 {
-    force * (FIVE * dimension)
+    force * (PER_CENT * dimension)
 }
 
 // The moments of every level each way, out of the shears under the levels, into the first cells of the two buffers.
-pub fn fill_each_way(shears: &[u64], dimension: u64, positive: &mut [i64], negative: &mut [i64])
+fn fill_each_way(shears: &[u64], dimension: u64, positive: &mut [i64], negative: &mut [i64])
     requires { ⌜ Falling (now shears) × Carried (now shears) × (dimension ≤ 5_000) × (length (now shears) ≤ length (now positive)) × (length (now shears) ≤ length (now negative)) ⌝ }
     ensures { λ _. ⌜ (now (positive .exit) ≡ laid (eachWay dimension (forces (now (shears .entry))) .positive) (now (positive .entry))) × (now (negative .exit) ≡ laid (eachWay dimension (forces (now (shears .entry))) .negative) (now (negative .entry))) ⌝ }
 {
@@ -41,23 +43,23 @@ pub fn fill_each_way(shears: &[u64], dimension: u64, positive: &mut [i64], negat
     }
 }
 
-// The same of a base shear v at a period t. The shears under the levels go into the first cells of `under`.
-pub fn fill_moments(
+// The same of a base shear v at a period t. The shears under the levels go into the first cells of `shears`.
+fn fill_moments(
     t: u64,
     v: u64,
     weights: &[u64],
     heights: &[u64],
     dimension: u64,
-    under: &mut [u64],
+    shears: &mut [u64],
     positive: &mut [i64],
     negative: &mut [i64],
 )
-    requires { ⌜ Load t v × Standing (now weights) (now heights) × (dimension ≤ 5_000) × (length (now weights) ≤ length (now under)) × (length (now weights) ≤ length (now positive)) × (length (now weights) ≤ length (now negative)) ⌝ }
+    requires { ⌜ Load t v × Standing (now weights) (now heights) × (dimension ≤ 5_000) × (length (now weights) ≤ length (now shears)) × (length (now weights) ≤ length (now positive)) × (length (now weights) ≤ length (now negative)) ⌝ }
     ensures { λ _. ⌜ (now (positive .exit) ≡ laid (momentsAt t v (now (weights .entry)) (now (heights .entry)) dimension .positive) (now (positive .entry))) × (now (negative .exit) ≡ laid (momentsAt t v (now (weights .entry)) (now (heights .entry)) dimension .negative) (now (negative .entry))) ⌝ }
 {
     let n = weights.len();
-    fill_shears(t, v, weights, heights, under);
-    fill_each_way(&under[..n], dimension, positive, negative);
+    fill_shears(t, v, weights, heights, shears);
+    fill_each_way(&shears[..n], dimension, positive, negative);
 }
 
 // A base shear in N at a period in ms, weights in kN, heights and a plan dimension in dm: the accidental moment of each level in the lent buffers, in
@@ -78,14 +80,14 @@ pub fn accidental_moments(
     let Verdict::Passed = v else {
         return v;
     };
-    let mut under = [0u64; LEVELS];
+    let mut shears = [0u64; LEVELS];
     fill_moments(
         period,
         shear,
         weights,
         heights,
         dimension,
-        &mut under[..],
+        &mut shears[..],
         positive,
         negative,
     );

@@ -1,4 +1,4 @@
-// Drift (2.5.4): whether each storey keeps a limit.
+// Drift (2.5.4): whether each storey stays within a limit.
 use limits::drift::judged_drift;
 use limits::refusal::Verdict;
 use storeys::overturning::bottom;
@@ -6,22 +6,21 @@ use whole::signs::difference;
 use whole::signs::size;
 ghost use mathlib.Core.Path.{_≡_};
 ghost use Prim.Native.Nat.{_≤_, _<_};
-ghost use lib.IntN.{_-ℤ_};
-ghost use lib.ListN.{length};
+ghost use lib.ListN.{length, getD};
 ghost use Rattle.whole.specs.Cells.{laid};
-ghost use Rattle.whole.specs.Signed.{size};
+ghost use Rattle.storeys.specs.Storeys.{bottom};
 ghost use Rattle.limits.specs.DriftAllowed.{AllowedDisplacements, AllowedDrift};
-ghost use Rattle.drift.specs.Drift.{top, under, withinLimit, verdict, verdicts, DriftAnswers};
+ghost use Rattle.drift.specs.Drift.{storeyHeight, under, apart, verdictOf, verdicts, DriftAnswers};
 
-pub const YES: u64 = 1;
+const YES: u64 = 1;
 
-pub const NO: u64 = 0;
+const NO: u64 = 0;
 
 // The displacement of the base.
-pub const BASE: i64 = 0;
+const BASE: i64 = 0;
 
 // The displacement of the bottom of storey x: that of level x - 1, or of the base.
-pub fn under(displacements: &[i64], x: usize) -> i64
+fn under(displacements: &[i64], x: usize) -> i64
     requires { ⌜ x ≤ length (now displacements) ⌝ }
     ensures { λ z. ⌜ z ≡ under (now (displacements .entry)) x ⌝ }
 {
@@ -32,28 +31,35 @@ pub fn under(displacements: &[i64], x: usize) -> i64
 }
 
 // How far the ends of storey x are apart, whichever way: the size of the difference, not the difference of the sizes.
-pub fn apart(displacements: &[i64], x: usize) -> u64
+fn apart(displacements: &[i64], x: usize) -> u64
     requires { ⌜ AllowedDisplacements (now displacements) × (x < length (now displacements)) ⌝ }
-    ensures { λ r. ⌜ r ≡ size (top (now (displacements .entry)) x -ℤ under (now (displacements .entry)) x) ⌝ }
+    ensures { λ r. ⌜ r ≡ apart (now (displacements .entry)) x ⌝ }
 {
     size(difference(displacements[x], under(displacements, x)))
 }
 
-// Whether storey x keeps the limit. In the units of the call the angle is at most the limit where the difference between the ends is at most the
-// limit times the height: the tens of thousands on both sides cancel, and nothing is rounded.
-pub fn verdict_of(heights: &[u64], displacements: &[i64], limit: u64, x: usize) -> u64
-    requires { ⌜ AllowedDrift (now heights) (now displacements) limit × (x < length (now heights)) ⌝ }
-    ensures { λ r. ⌜ r ≡ verdict (withinLimit (now (heights .entry)) (now (displacements .entry)) limit x) ⌝ }
+// The storey's own height: that of its top less that of its bottom.
+fn storey_height(heights: &[u64], x: usize) -> u64
+    requires { ⌜ (x < length (now heights)) × (bottom (now heights) x ≤ getD (now heights) x 0) ⌝ }
+    ensures { λ r. ⌜ r ≡ storeyHeight (now (heights .entry)) x ⌝ }
 {
-    let height = heights[x] - bottom(heights, x);
-    if apart(displacements, x) <= limit * height {
+    heights[x] - bottom(heights, x)
+}
+
+// Whether storey x stays within the limit. In the units of the call the angle is at most the limit where the difference between the ends is at most the
+// limit times the height: the tens of thousands on both sides cancel, and nothing is rounded.
+fn verdict_of(heights: &[u64], displacements: &[i64], limit: u64, x: usize) -> u64
+    requires { ⌜ AllowedDrift (now heights) (now displacements) limit × (x < length (now heights)) ⌝ }
+    ensures { λ r. ⌜ r ≡ verdictOf (now (heights .entry)) (now (displacements .entry)) limit x ⌝ }
+{
+    if apart(displacements, x) <= limit * storey_height(heights, x) {
         return YES;
     }
     NO
 }
 
 // The verdict of every storey, into the first cells of out.
-pub fn fill_verdicts(heights: &[u64], displacements: &[i64], limit: u64, out: &mut [u64])
+fn fill_verdicts(heights: &[u64], displacements: &[i64], limit: u64, out: &mut [u64])
     requires { ⌜ AllowedDrift (now heights) (now displacements) limit × (length (now heights) ≤ length (now out)) ⌝ }
     ensures { λ _. ⌜ now (out .exit) ≡ laid (verdicts (now (heights .entry)) (now (displacements .entry)) limit) (now (out .entry)) ⌝ }
 {

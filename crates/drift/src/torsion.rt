@@ -35,7 +35,7 @@ impl TorsionAnswer {
 }
 
 // (22), in thousandths, up, and at most 3.0.
-pub fn torsion_factor(largest: u64, average: u64) -> u64
+fn torsion_factor(largest: u64, average: u64) -> u64
     requires { ⌜ (largest ≤ 1_000_000) × (0 < average) × (average ≤ 1_000_000) ⌝ }
     ensures { λ r. ⌜ r ≡ torsionFactor largest average ⌝ }
 {

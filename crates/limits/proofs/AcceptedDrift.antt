@@ -7,7 +7,8 @@ use lib.Dec.{leb, eqb}
 use lib.IntN.{ℤ}
 use lib.ListN.{length}
 use borrow.Author.Tests.{leb-true, eqb-true}
-use Rattle.limits.specs.Displacement.{displaced, judgedDriftLimit}
+use Rattle.limits.specs.Displacement.{displaced}
+use Rattle.limits.specs.DriftLimit.{judgedDriftLimit}
 use Rattle.limits.specs.DriftAllowed.{AllowedDrift, AllowedFloor, AllowedMoments}
 use Rattle.limits.specs.DriftJudging.{judgedDrift, judgedMoments}
 use Rattle.limits.specs.Floor.{judgedUnsigned, judgedAverage, judgedFloor}

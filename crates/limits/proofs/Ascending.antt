@@ -1,7 +1,7 @@
 -- What the order comes to. For 1 to 15, the refusals of a job and of a log, to be judged no later is to have no higher number: 'the lowest
 -- number that applies is given'. And '17, then 16, precede everything for a sheet'; 18 stands where 5 to 7 stand,
 -- after 1 to 4 and before 8 to 12; 19, then 20, stand after 1 to 4; 22, then 21, stand before all of
--- a job.
+-- a job; 23 to 26, one after the other, stand after 1 to 4, 19 and 20.
 --   OfBasin n         n is 1 to 4, 18 or 8 to 12
 --   OfDistribution n  n is 1 to 4, 19 or 20
 -- Assumes nothing.
@@ -16,7 +16,7 @@ use Rattle.whole.specs.Choice.{pick}
 use Rattle.whole.proofs.Range.{allBelow, all-from}
 use Rattle.limits.specs.Order.{rank, Before, NoLater}
 
-lower : ℕ → ℕ → Bool
+unfoldable pub lower : ℕ → ℕ → Bool
 lower n m = pick (leb (rank n) (rank m)) (leb n m) true
 
 pub lowest-first : (n m : ℕ) → (1 ≤ n) × (n ≤ 15) → (1 ≤ m) × (m ≤ 15) → NoLater n m → n ≤ m
@@ -87,7 +87,7 @@ lowest-handed n m h (inr high) (inr other) =
     leb→le n m (rw (le-leb _ _ h) at cell)
 
 -- 23 to 26 'follow 1 to 4, 19 and 20', each after those below it
-pub displaced-after : ((n : ℕ) → (1 ≤ n) × (n ≤ 4) → Before n 23) × Before 20 23 × Before 23 24 × Before 24 25 × Before 25 26
+pub drift-after : ((n : ℕ) → (1 ≤ n) × (n ≤ 4) → Before n 23) × Before 20 23 × Before 23 24 × Before 24 25 × Before 25 26
 unfolding before allBelow
-displaced-after =
+drift-after =
     (λ n h. ltb→lt (rank n) (rank 23) (all-from (λ k. before k 23) 1 4 tt n (h .0) (omega arith)), omega arith, omega arith, omega arith, omega arith)

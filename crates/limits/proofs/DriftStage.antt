@@ -11,12 +11,13 @@ use lib.IntN.{ℤ}
 use lib.ListN.{length}
 use borrow.Author.Tests.{leb-false, lt-leb, eqb-false, ne-eqb}
 use Rattle.limits.specs.Applies.{OutOf, count, lists, buffer, height, rising, DistributionApplies}
-use Rattle.limits.specs.Displacement.{displaced, judgedDriftLimit}
+use Rattle.limits.specs.Displacement.{displaced}
+use Rattle.limits.specs.DriftLimit.{judgedDriftLimit}
 use Rattle.limits.specs.DriftApplies.{displacement, limit, DriftApplies, of-height-count, of-drift-lengths, of-drift-heights, of-displacements, of-limit}
 use Rattle.limits.specs.DriftApplies.{FloorApplies, largest, average, no-average, above-largest, dimension, MomentsApply, of-distribution, of-dimension}
 use Rattle.limits.specs.DriftJudging.{judgedDrift, judgedMoments}
 use Rattle.limits.specs.FirstRefusal.{FirstRefusal}
-use Rattle.limits.specs.Floor.{judgedUnsigned, judgedAverage, judgedFloor}
+use Rattle.limits.specs.Floor.{judgedUnsigned, judgedFloor}
 use Rattle.limits.specs.Judging.{judgedDistribution}
 use Rattle.limits.specs.Lengths.{sameLength, roomy}
 use Rattle.limits.specs.Levels.{counted, raised}

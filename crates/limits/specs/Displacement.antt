@@ -1,15 +1,13 @@
--- Numbers 23 and 24: displacements, of an analysis run, in 0.01 mm, and the limit by which their drift is judged.
+-- Number 23: displacements, of an analysis run, in 0.01 mm.
 --   displacementMost          how large a displacement may be, of either sign: a million
 --   judgedDisplacement z p    23: a displacement above that in size, at p
 --   displaced p zs            23: the first of the displacements that is; the first of the list stands at place p
---   judgedDriftLimit m        24: a limit of the drift angle, in ten-thousandths, that is 0 or above 10,000
 use mathlib.Core.List.{List, [], _∷_}
 use Prim.Native.Nat.{ℕ, _+_}
 use lib.Dec.{leb}
 use lib.IntN.{ℤ}
 use Rattle.whole.specs.Signed.{size}
 use Rattle.limits.specs.Outcome.{Outcome, accepted, Done, require, _>>_}
-use Rattle.limits.specs.Ranges.{within}
 
 abbrev pub displacementMost : ℕ
 displacementMost = 1_000_000
@@ -22,6 +20,3 @@ displaced p [] = accepted tt
 displaced p (z ∷ zs) = do
   judgedDisplacement z p
   displaced (p + 1) zs
-
-abbrev pub judgedDriftLimit : ℕ → Outcome Done
-judgedDriftLimit m = within 1 10_000 m 24 0

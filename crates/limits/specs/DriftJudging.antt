@@ -5,7 +5,8 @@ use mathlib.Core.List.{List}
 use Prim.Native.Nat.{ℕ}
 use lib.IntN.{ℤ}
 use lib.ListN.{length}
-use Rattle.limits.specs.Displacement.{displaced, judgedDriftLimit}
+use Rattle.limits.specs.Displacement.{displaced}
+use Rattle.limits.specs.DriftLimit.{judgedDriftLimit}
 use Rattle.limits.specs.Judging.{judgedDistribution}
 use Rattle.limits.specs.Lengths.{sameLength, roomy}
 use Rattle.limits.specs.Levels.{counted, raised}

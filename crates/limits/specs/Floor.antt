@@ -3,9 +3,8 @@
 --   judgedAverage l a   25: an average a that is 0 or above the largest l
 --   judgedFloor l a     23 of either, then 25
 use Prim.Native.Nat.{ℕ}
-use lib.Dec.{leb}
 use Rattle.limits.specs.Displacement.{displacementMost}
-use Rattle.limits.specs.Outcome.{Outcome, Done, require, _>>_}
+use Rattle.limits.specs.Outcome.{Outcome, Done, _>>_}
 use Rattle.limits.specs.Ranges.{within}
 
 abbrev pub judgedUnsigned : ℕ → Outcome Done

@@ -1,5 +1,6 @@
 -- Number 2: lists and result buffers beside one another, at place 0.
---   sameLength n m     a list of another length, m, beside one of n: heights beside weights; in a soil log kinds and values beside thicknesses
+--   sameLength n m     a list of another length, m, beside one of n: heights beside weights; of drift displacements beside heights; in a soil log
+--                      kinds and values beside thicknesses
 --   roomy n cells      a result buffer of fewer cells than levels
 use Prim.Native.Nat.{ℕ}
 use lib.Dec.{leb, eqb}

@@ -1,5 +1,5 @@
--- Numbers 1 to 4: the levels of a job.
---   counted n          1: no level, or over 50, at 0; judged on the weight list
+-- Numbers 1 to 4: the levels of a job, and of drift their heights.
+--   counted n          1: no level, or over 50, at 0; judged on the weight list, of drift on the heights
 --   judgedWeight w p, judgedHeight b h p    3 and 4 of one level, at p
 --   judgedLevel b w h p    3, then 4, of the level above the height b, and the level
 --   weighed p ws       3: the first weight that is not 1 to 20,000 kN; the first of the list stands at place p

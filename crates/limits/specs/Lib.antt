@@ -7,6 +7,7 @@ pub mod Building
 pub mod Handed
 pub mod District
 pub mod Displacement
+pub mod DriftLimit
 pub mod Floor
 pub mod Plan
 pub mod Class

@@ -9,8 +9,8 @@
 --   InOrder n     n stands there
 --   Before m n    m is judged before n
 --   NoLater m n   m is judged no later than n
--- That these sentences hold of it: `lowest-first`, `sheet-first`, `zone-between`, `handed-after`, `stretch-first`, `displaced-after` (proofs/Ascending.antt). That calls, logs and sheets are
--- judged in it: their `FirstRefusal`. That every number that applies stands there, and two at two places: `in-order`, `one-rank`
+-- That these sentences hold of it: `lowest-first`, `sheet-first`, `zone-between`, `handed-after`, `stretch-first`, `drift-after`
+-- (proofs/Ascending.antt). That calls, logs and sheets are judged in it: their `FirstRefusal`. That every number that applies stands there, and two at two places: `in-order`, `one-rank`
 -- (proofs/InOrder.antt).
 use mathlib.Core.List.{List, [], _∷_}
 use Prim.Native.Nat.{ℕ, suc, _≤_, _<_}

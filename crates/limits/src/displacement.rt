@@ -1,9 +1,8 @@
-// Displacements of an analysis run, in 0.01 mm: 23; and the limit of their drift: 24.
-use crate::ranges::within;
+// Displacements of an analysis run, in 0.01 mm: 23.
 use crate::refusal::Refusal;
 use crate::refusal::Verdict;
 ghost use mathlib.Core.Path.{_≡_};
-ghost use Rattle.limits.specs.Displacement.{judgedDisplacement, displaced, judgedDriftLimit};
+ghost use Rattle.limits.specs.Displacement.{judgedDisplacement, displaced};
 ghost use Rattle.limits.specs.Outcome.{verdictOutcome};
 
 // A displacement in 0.01 mm, of either sign.
@@ -22,19 +21,13 @@ impl Displacement {
     pub fn judged(d: i64, place: u64) -> Verdict
         ensures { λ v. ⌜ verdictOutcome v ≡ judgedDisplacement d place ⌝ }
     {
-        if d < Self::LEAST {
-            return Verdict::Refused(Refusal {
-                number: Refusal::DISPLACEMENT,
-                place,
-            });
+        if Self::LEAST <= d && d <= Self::MOST {
+            return Verdict::Passed;
         }
-        if Self::MOST < d {
-            return Verdict::Refused(Refusal {
-                number: Refusal::DISPLACEMENT,
-                place,
-            });
-        }
-        Verdict::Passed
+        Verdict::Refused(Refusal {
+            number: Refusal::DISPLACEMENT,
+            place,
+        })
     }
 }
 
@@ -51,28 +44,4 @@ pub fn displaced(displacements: &[i64]) -> Verdict
         i += 1;
     }
     Verdict::Passed
-}
-
-// A limit of the drift angle, in ten-thousandths.
-pub struct DriftLimit {
-    pub limit: u64,
-}
-
-impl DriftLimit {
-    pub const LEAST: u64 = 1;
-
-    pub const MOST: u64 = 10_000;
-
-    // 24.
-    pub fn judged(limit: u64) -> Verdict
-        ensures { λ v. ⌜ verdictOutcome v ≡ judgedDriftLimit limit ⌝ }
-    {
-        within(
-            Self::LEAST,
-            Self::MOST,
-            limit,
-            Refusal::DRIFT_LIMIT,
-            Refusal::NOWHERE,
-        )
-    }
 }

@@ -1,6 +1,6 @@
 // All that is judged of drift and of accidental moments, and in which order.
-use crate::displacement::DriftLimit;
 use crate::displacement::displaced;
+use crate::drift_limit::DriftLimit;
 use crate::judging::judged_distribution;
 use crate::lengths::roomy;
 use crate::lengths::same_length;

@@ -18,7 +18,7 @@ impl Floor {
     pub const AVERAGE_LEAST: u64 = 1;
 
     // 23, of either displacement.
-    pub fn judged_unsigned(d: u64) -> Verdict
+    fn judged_unsigned(d: u64) -> Verdict
         ensures { λ v. ⌜ verdictOutcome v ≡ judgedUnsigned d ⌝ }
     {
         within(
@@ -30,8 +30,8 @@ impl Floor {
         )
     }
 
-    // 25: no average is above the largest.
-    pub fn judged_average(largest: u64, average: u64) -> Verdict
+    // 25: an average of 0, or above the largest.
+    fn judged_average(largest: u64, average: u64) -> Verdict
         ensures { λ v. ⌜ verdictOutcome v ≡ judgedAverage largest average ⌝ }
     {
         within(

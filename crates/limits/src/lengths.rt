@@ -1,4 +1,4 @@
-// Lists and result buffers beside one another: 2, of a job, of the distribution and of a soil log.
+// Lists and result buffers beside one another: 2, of a job, of the distribution, of drift and moments and of a soil log.
 use crate::refusal::Refusal;
 use crate::refusal::Verdict;
 ghost use mathlib.Core.Path.{_≡_};

@@ -1,4 +1,4 @@
-// The levels of a job, judged together: 1 to 4.
+// The levels of a job, judged together: 1 to 4. Drift judges their number and their heights.
 use crate::lengths::roomy;
 use crate::lengths::same_length;
 use crate::level::Level;

@@ -1,10 +1,12 @@
-// The quantities of a job, of its two calls, of a soil log, of a sheet, of a district and of drift and torsion: their limits, who judges them, and what a refusal says.
+// The quantities of a job, of its two calls, of a soil log, of a sheet, of a district and of drift and torsion: their limits, who judges them, and
+// what a refusal says.
 
 pub mod building;
 pub mod class;
 pub mod displacement;
 pub mod district;
 pub mod drift;
+pub mod drift_limit;
 pub mod floor;
 pub mod frame;
 pub mod ground;

@@ -13,11 +13,11 @@ use Rattle.limits.specs.declared.refusal.Verdict.{Verdict}
 use Rattle.limits.specs.declared.refusal.Verdict.the-variants.{Passed, Refused as RefusedVerdict}
 use Rattle.limits.specs.Order.{InOrder}
 use Rattle.limits.specs.Outcome.{Outcome, accepted, refused, number, place, refusalOf, verdictOutcome}
-use Rattle.limits.proofs.DriftNumbers.{following-in-order, numbered-drift, numbered-floor, numbered-moments}
+use Rattle.limits.proofs.DriftNumbers.{of-drift-in-order, numbered-drift, numbered-floor, numbered-moments}
 use Rattle.job.specs.Distribution.{doneOnly}
 use Rattle.drift.specs.declared.torsion.TorsionAnswer.{TorsionAnswer}
 use Rattle.drift.specs.declared.torsion.TorsionAnswer.the-variants.{Taken, Refused}
-use Rattle.drift.specs.Answering.{after, Answered}
+use Rattle.drift.specs.Answering.{Answered}
 use Rattle.drift.specs.Drift.{driftOf, DriftAnswers}
 use Rattle.drift.specs.Torsion.{torsionOf, torsionOutcome, TorsionAnswers}
 use Rattle.drift.specs.Accidental.{momentsOf, MomentBuffers, shorter, laidEachWay, MomentAnswers}
@@ -37,7 +37,7 @@ module _ {A B : Type 0} (lay : A → B → B) (o : Outcome A) (old : B) where
       record {
         returned = ap (λ (x : Refusal). x .number) same ∙ refused-number o .0;
         placed = ap (λ (x : Refusal). x .place) same ∙ refused-number o .1;
-        held = t .1;
+        lent = t .1;
       }
 
   -- and the other way: what is proved of an answer of the core holds of the reply that says it
@@ -46,9 +46,9 @@ module _ {A B : Type 0} (lay : A → B → B) (o : Outcome A) (old : B) where
   replied-laid n p held t = go o refl
     where
       go : (q : Outcome A) → o ≡ q → (a : Verdict) × Answered lay o old a held × (n ≡ number (verdictOutcome a)) × (p ≡ place (verdictOutcome a))
-      go (accepted c) e = (Passed, (sym (ap doneOnly e), t .held), t .returned ∙ ap number e, t .placed ∙ ap place e)
+      go (accepted c) e = (Passed, (sym (ap doneOnly e), t .lent), t .returned ∙ ap number e, t .placed ∙ ap place e)
       go (refused k q) e =
-          (RefusedVerdict (record { number = k; place = q }), (sym (ap doneOnly e), t .held), t .returned ∙ ap number e, t .placed ∙ ap place e)
+          (RefusedVerdict (record { number = k; place = q }), (sym (ap doneOnly e), t .lent), t .returned ∙ ap number e, t .placed ∙ ap place e)
 
   -- where 0 is returned, and every refusal that is given has a number of the order, the call was accepted
   pub zero-laid : ((r : Refusal) (held : B) → Answered lay o old (RefusedVerdict r) held → InOrder (r .number)) → (p : ℕ) (held : B)
@@ -63,14 +63,14 @@ module _ {A B : Type 0} (lay : A → B → B) (o : Outcome A) (old : B) where
       go (RefusedVerdict k) d n q = absurd (never-zero (k .number) (sym n) (numbered k held d))
 
   pub one-laid-reply : {n n′ p p′ : ℕ} {c c′ : B} → LaidReplies lay o old n p c → LaidReplies lay o old n′ p′ c′ → (n ≡ n′) × (p ≡ p′) × (c ≡ c′)
-  one-laid-reply x y = (determined (x .returned) (y .returned), determined (x .placed) (y .placed), determined (x .held) (y .held))
+  one-laid-reply x y = (determined (x .returned) (y .returned), determined (x .placed) (y .placed), determined (x .lent) (y .lent))
 
 -- ---- `rukeshomaji_drift`
 module _ (hs : List ℕ) (zs : List ℤ) (m : ℕ) (old : List ℕ) where
   pub zero-drift : (p : ℕ) (held : List ℕ) → DriftReplies hs zs m old 0 p held → DriftAnswers hs zs m old Passed held × (p ≡ 0)
   zero-drift =
       zero-laid laid (driftOf hs zs m (length old)) old
-      (λ r held d. following-in-order (r .number)
+      (λ r held d. of-drift-in-order (r .number)
       (numbered-drift (drift-first hs zs m old held (RefusedVerdict r) d .refused-applies (r .number) (r .place) refl)))
 
   pub one-drift-reply : {n n′ p p′ : ℕ} {c c′ : List ℕ} → DriftReplies hs zs m old n p c → DriftReplies hs zs m old n′ p′ c′
@@ -104,7 +104,7 @@ module _ (l a : ℕ) where
       go (Taken k) t q = (k, t, q .replied)
       go (Refused r) t q =
           absurd (never-zero (r .number) (sym (q .returned))
-          (following-in-order (r .number) (numbered-floor (torsion-first l a (Refused r) t .refused-applies (r .number) (r .place) refl))))
+          (of-drift-in-order (r .number) (numbered-floor (torsion-first l a (Refused r) t .refused-applies (r .number) (r .place) refl))))
 
   pub one-torsion-reply : {n n′ : ℕ} {r r′ : List ℕ} → TorsionReplies l a n r → TorsionReplies l a n′ r′ → (n ≡ n′) × (r ≡ r′)
   one-torsion-reply p q = replies-unique p q
@@ -114,7 +114,7 @@ module _ (v T : ℕ) (ws hs : List ℕ) (d : ℕ) (b : MomentBuffers) where
   pub zero-moments : (p : ℕ) (b′ : MomentBuffers) → MomentsReplies v T ws hs d b 0 p b′ → MomentAnswers v T ws hs d b Passed b′ × (p ≡ 0)
   zero-moments =
       zero-laid laidEachWay (momentsOf v T ws hs d (shorter b)) b
-      (λ r b′ e. following-in-order (r .number)
+      (λ r b′ e. of-drift-in-order (r .number)
       (numbered-moments (moments-first v T ws hs d b b′ (RefusedVerdict r) e .refused-applies (r .number) (r .place) refl)))
 
   pub one-moments-reply : {n n′ p p′ : ℕ} {c c′ : MomentBuffers} → MomentsReplies v T ws hs d b n p c → MomentsReplies v T ws hs d b n′ p′ c′

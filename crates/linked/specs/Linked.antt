@@ -53,10 +53,10 @@ ClassReply = Replies (λ (c : Class). classNumber c ∷ []) 1
 abbrev pub TorsionReply : Outcome ℕ → ℕ → List ℕ → Type 0
 TorsionReply = Replies (λ (k : ℕ). k ∷ []) 1
 
-pub record LaidReplies {A B : Type 0} (lay : A → B → B) (o : Outcome A) (old : B) (n p : ℕ) (now : B) : Type 0 where
+pub record LaidReplies {A B : Type 0} (lay : A → B → B) (o : Outcome A) (old : B) (n p : ℕ) (held : B) : Type 0 where
   pub returned : n ≡ number o
   pub placed : p ≡ place o
-  pub held : now ≡ after lay o old
+  pub lent : held ≡ after lay o old
 
 abbrev pub onSite : List ℕ → GroundValues
 onSite l = Site (siteValues l)

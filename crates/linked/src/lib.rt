@@ -192,8 +192,8 @@ pub extern "C" fn rukeshomaji_district(
     refused.number
 }
 
-// The drift of each storey by displacements in 0.01 mm and a limit in ten-thousandths: a verdict of each in the lent buffer, 1 yes, 0 no, its place in
-// `place`.
+// The drift of each storey by displacements in 0.01 mm and a limit in ten-thousandths: a verdict of each in the lent buffer, 1 yes, 0 no; the place of a
+// refusal in `place`.
 #[no_mangle]
 pub extern "C" fn rukeshomaji_drift(
     heights: &[u64],
@@ -220,7 +220,7 @@ pub extern "C" fn rukeshomaji_torsion(largest: u64, average: u64, reply: &mut [u
 }
 
 // The accidental moments of each level by a base shear in N, a period in ms and a plan dimension in dm: in 0.01 N·dm, positive in one lent buffer and
-// negative in the other, its place in `place`.
+// negative in the other; the place of a refusal in `place`.
 #[no_mangle]
 pub extern "C" fn rukeshomaji_accidental_moments(
     shear: u64,

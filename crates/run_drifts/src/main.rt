@@ -137,8 +137,8 @@ fn signed_list(pairs: [u64; 140]) -> [i64; 52] {
     numbers
 }
 
-// So many, or as many as there are.
-fn least(count: u64) -> usize
+// At most as many as are listed.
+fn at_most_listed(count: u64) -> usize
     ensures { λ r. ⌜ r ≤ 52 ⌝ }
 {
     let so_many = count as usize;
@@ -159,9 +159,9 @@ fn drift_called(heights: &[u64], displacements: &[i64], limit: u64, verdicts: &m
 fn drift_parted(head: [u64; 140], heights: &[u64], displacements: &[i64], verdicts: &mut [u64])
     requires { ⌜ (52 ≤ length (now heights)) × (52 ≤ length (now displacements)) × (52 ≤ length (now verdicts)) ⌝ }
 {
-    let height_count = least(head[DRIFT_HEIGHTS]);
-    let displacement_count = least(head[DISPLACEMENTS]);
-    let cells = least(head[VERDICTS]);
+    let height_count = at_most_listed(head[DRIFT_HEIGHTS]);
+    let displacement_count = at_most_listed(head[DISPLACEMENTS]);
+    let cells = at_most_listed(head[VERDICTS]);
     drift_called(
         &heights[..height_count],
         &displacements[..displacement_count],
@@ -177,9 +177,9 @@ fn drift_case(s: &[u8], at: usize) -> usize
 {
     let first = row(s, at, DRIFT_HEAD);
     let head = first.values;
-    let second = row(s, first.next, least(head[DRIFT_HEIGHTS]));
+    let second = row(s, first.next, at_most_listed(head[DRIFT_HEIGHTS]));
     let heights = second.values;
-    let third = row(s, second.next, 2 * least(head[DISPLACEMENTS]));
+    let third = row(s, second.next, 2 * at_most_listed(head[DISPLACEMENTS]));
     let pairs = third.values;
     let displacements = signed_list(pairs);
     let mut verdicts = [head[OLD_VERDICTS]; 52];
@@ -232,10 +232,10 @@ fn moments_parted(
 )
     requires { ⌜ (52 ≤ length (now weights)) × (52 ≤ length (now heights)) × (52 ≤ length (now positive)) × (52 ≤ length (now negative)) ⌝ }
 {
-    let weight_count = least(head[WEIGHTS]);
-    let height_count = least(head[HEIGHTS]);
-    let positive_cells = least(head[POSITIVE]);
-    let negative_cells = least(head[NEGATIVE]);
+    let weight_count = at_most_listed(head[WEIGHTS]);
+    let height_count = at_most_listed(head[HEIGHTS]);
+    let positive_cells = at_most_listed(head[POSITIVE]);
+    let negative_cells = at_most_listed(head[NEGATIVE]);
     moments_called(
         head[BASE_SHEAR],
         head[PERIOD],
@@ -254,9 +254,9 @@ fn moments_case(s: &[u8], at: usize) -> usize
 {
     let first = row(s, at, MOMENTS_HEAD);
     let head = first.values;
-    let second = row(s, first.next, least(head[WEIGHTS]));
+    let second = row(s, first.next, at_most_listed(head[WEIGHTS]));
     let weights = second.values;
-    let third = row(s, second.next, least(head[HEIGHTS]));
+    let third = row(s, second.next, at_most_listed(head[HEIGHTS]));
     let heights = third.values;
     let mut positive = [signed(head[OLD_POSITIVE], head[OLD_POSITIVE + 1]); 52];
     let mut negative = [signed(head[OLD_NEGATIVE], head[OLD_NEGATIVE + 1]); 52];

@@ -1,4 +1,4 @@
--- Sizes: of a number turned about, of a sum and of a difference; and what the machine's test and negation find.
+-- Sizes: of a number with its sign reversed, of a sum and of a difference; and what the machine's test and negation find.
 -- Assumes nothing.
 use mathlib.Core.Path.{_≡_, refl, sym, ap, _∙_}
 use mathlib.Core.Bool.{Bool, true, false, cond}
@@ -12,14 +12,14 @@ use mir.Val.{SFits}
 use borrow.Author.Tests.{ltb-true}
 use Rattle.whole.specs.Signed.{size}
 
-pub size-turned : (z : ℤ) → size (negℤ z) ≡ size z
-size-turned (pos zero) = refl
-size-turned (pos (suc n)) = refl
-size-turned (negsuc n) = refl
+pub size-reversed : (z : ℤ) → size (negℤ z) ≡ size z
+size-reversed (pos zero) = refl
+size-reversed (pos (suc n)) = refl
+size-reversed (negsuc n) = refl
 
--- two numbers that are both turned about are as far apart as before
-pub apart-turned : (a b : ℤ) → size (negℤ a -ℤ negℤ b) ≡ size (a -ℤ b)
-apart-turned a b = sym (ap size (negℤ-+ℤ a (negℤ b))) ∙ size-turned (a -ℤ b)
+-- two numbers with their signs reversed are as far apart as before
+pub apart-reversed : (a b : ℤ) → size (negℤ a -ℤ negℤ b) ≡ size (a -ℤ b)
+apart-reversed a b = sym (ap size (negℤ-+ℤ a (negℤ b))) ∙ size-reversed (a -ℤ b)
 
 size-less : (a b : ℕ) → size (subℕ a b) ≤ a + b
 size-less a b = go (ltb a b) refl
@@ -35,7 +35,7 @@ size-sum (negsuc a) (pos b) = omega (arith, size-less b (suc a))
 size-sum (negsuc a) (negsuc b) = omega arith
 
 pub size-difference : (a b : ℤ) → size (a -ℤ b) ≤ size a + size b
-size-difference a b = omega (arith, size-sum a (negℤ b), size-turned b)
+size-difference a b = omega (arith, size-sum a (negℤ b), size-reversed b)
 
 pub size-fits : (z : ℤ) → size z < 2 ^ 63 → SFits w64 z
 size-fits (pos n) h = record { sfits = omega (arith, h) }

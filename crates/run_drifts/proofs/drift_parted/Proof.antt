@@ -6,23 +6,23 @@ use lib.Seq.{length-take-le}
 use Rattle.run_drifts.proofs.drift_parted.Statement.{statement}
 use Rattle.run_drifts.proofs.drift_parted.Tie as tie
 
-array-read-least : tie.Need-array-read-least
-array-read-least c = search needs
+array-read-at-most-listed : tie.Need-array-read-at-most-listed
+array-read-at-most-listed c = search needs
 
-least-requires : tie.Need-least-requires
-least-requires c κs = search needs
+at-most-listed-requires : tie.Need-at-most-listed-requires
+at-most-listed-requires c κs = search needs
 
-array-read-least-2 : tie.Need-array-read-least-2
-array-read-least-2 c = search needs
+array-read-at-most-listed-2 : tie.Need-array-read-at-most-listed-2
+array-read-at-most-listed-2 c = search needs
 
-least-requires-2 : tie.Need-least-requires-2
-least-requires-2 c κs = search needs
+at-most-listed-requires-2 : tie.Need-at-most-listed-requires-2
+at-most-listed-requires-2 c κs = search needs
 
-array-read-least-3 : tie.Need-array-read-least-3
-array-read-least-3 c = search needs
+array-read-at-most-listed-3 : tie.Need-array-read-at-most-listed-3
+array-read-at-most-listed-3 c = search needs
 
-least-requires-3 : tie.Need-least-requires-3
-least-requires-3 c κs = search needs
+at-most-listed-requires-3 : tie.Need-at-most-listed-requires-3
+at-most-listed-requires-3 c κs = search needs
 
 slice-aggregate-drift-called : tie.Need-slice-aggregate-drift-called
 slice-aggregate-drift-called c = sym (length-take-le _ _ (omega arith))
@@ -52,12 +52,12 @@ pub drift-parted-spec : {M : Type 1} → statement M
 drift-parted-spec =
     tie.close
     (tie.spec
-    array-read-least
-    least-requires
-    array-read-least-2
-    least-requires-2
-    array-read-least-3
-    least-requires-3
+    array-read-at-most-listed
+    at-most-listed-requires
+    array-read-at-most-listed-2
+    at-most-listed-requires-2
+    array-read-at-most-listed-3
+    at-most-listed-requires-3
     slice-aggregate-drift-called
     slice-aggregate-drift-called-2
     array-read-drift-called

@@ -6,29 +6,29 @@ use lib.Seq.{length-take-le}
 use Rattle.run_drifts.proofs.moments_parted.Statement.{statement}
 use Rattle.run_drifts.proofs.moments_parted.Tie as tie
 
-array-read-least : tie.Need-array-read-least
-array-read-least c = search needs
+array-read-at-most-listed : tie.Need-array-read-at-most-listed
+array-read-at-most-listed c = search needs
 
-least-requires : tie.Need-least-requires
-least-requires c κs = search needs
+at-most-listed-requires : tie.Need-at-most-listed-requires
+at-most-listed-requires c κs = search needs
 
-array-read-least-2 : tie.Need-array-read-least-2
-array-read-least-2 c = search needs
+array-read-at-most-listed-2 : tie.Need-array-read-at-most-listed-2
+array-read-at-most-listed-2 c = search needs
 
-least-requires-2 : tie.Need-least-requires-2
-least-requires-2 c κs = search needs
+at-most-listed-requires-2 : tie.Need-at-most-listed-requires-2
+at-most-listed-requires-2 c κs = search needs
 
-array-read-least-3 : tie.Need-array-read-least-3
-array-read-least-3 c = search needs
+array-read-at-most-listed-3 : tie.Need-array-read-at-most-listed-3
+array-read-at-most-listed-3 c = search needs
 
-least-requires-3 : tie.Need-least-requires-3
-least-requires-3 c κs = search needs
+at-most-listed-requires-3 : tie.Need-at-most-listed-requires-3
+at-most-listed-requires-3 c κs = search needs
 
-array-read-least-4 : tie.Need-array-read-least-4
-array-read-least-4 c = search needs
+array-read-at-most-listed-4 : tie.Need-array-read-at-most-listed-4
+array-read-at-most-listed-4 c = search needs
 
-least-requires-4 : tie.Need-least-requires-4
-least-requires-4 c κs = search needs
+at-most-listed-requires-4 : tie.Need-at-most-listed-requires-4
+at-most-listed-requires-4 c κs = search needs
 
 array-read-moments-called : tie.Need-array-read-moments-called
 array-read-moments-called c = search needs
@@ -73,14 +73,14 @@ pub moments-parted-spec : {M : Type 1} → statement M
 moments-parted-spec =
     tie.close
     (tie.spec
-    array-read-least
-    least-requires
-    array-read-least-2
-    least-requires-2
-    array-read-least-3
-    least-requires-3
-    array-read-least-4
-    least-requires-4
+    array-read-at-most-listed
+    at-most-listed-requires
+    array-read-at-most-listed-2
+    at-most-listed-requires-2
+    array-read-at-most-listed-3
+    at-most-listed-requires-3
+    array-read-at-most-listed-4
+    at-most-listed-requires-4
     array-read-moments-called
     array-read-moments-called-2
     slice-aggregate-moments-called

@@ -1,9 +1,9 @@
 -- `drift::accidental::fill_each_way` meets its contract: cell after cell of both buffers, and the rest untouched. Assumes nothing.
 use borrow.Author.Needs.{needs}
 use mathlib.Core.Path.{_≡_, ap, _∙_}
-use Prim.Native.Nat.{ℕ, _-_, _^_, _≤_, _<_}
+use Prim.Native.Nat.{ℕ, _-_, _≤_}
 use native.Mathlib.Omega.{arith}
-use lib.IntN.{ℤ, pos, negℤ}
+use lib.IntN.{pos, negℤ}
 use lib.ListN.{length}
 use Rattle.storeys.specs.Storeys.{force}
 use Rattle.drift.specs.Accidental.{accidentalMoment}
@@ -54,7 +54,7 @@ slice-set-from-negative : tie.Need-slice-set-from-negative Inv-loop μ-loop
 slice-set-from-negative c = search needs
 
 minus-requires-2 : tie.Need-minus-requires-2 Inv-loop μ-loop
-minus-requires-2 c κs = (omega arith, omega (arith, made-most (c .before)))
+minus-requires-2 c κs = (omega (arith, made-most (c .before)), omega (arith, made-most (c .before)))
 
 mul-t7 : tie.Need-mul-t7 Inv-loop μ-loop
 mul-t7 c = search needs

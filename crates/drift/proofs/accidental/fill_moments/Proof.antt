@@ -11,7 +11,8 @@ use Rattle.storeys.proofs.Chain.{shears-length}
 use Rattle.storeys.proofs.Telescope.{shears-fall}
 use Rattle.storeys.specs.Reach.{Falling}
 use Rattle.storeys.specs.Storeys.{shears, forces}
-use Rattle.drift.specs.Accidental.{eachWay, Carried}
+use Rattle.drift.specs.Accidental.{eachWay}
+use Rattle.drift.specs.Reach.{Carried}
 use Rattle.drift.proofs.EachWay.{shears-carried}
 use Rattle.drift.proofs.accidental.fill_moments.Statement.{statement}
 use Rattle.drift.proofs.accidental.fill_moments.Tie as tie
@@ -26,8 +27,8 @@ us s = shears (s .args .t) (s .args .v) (s .args .weights .now) (s .args .height
 size : (s : tie.Start) → length (us s) ≡ levels s
 size s = shears-length (s .args .t) (s .args .v) (s .args .weights .now) (s .args .heights .now)
 
-sheared : (s : tie.Start) {b : List ℕ} → b ≡ laid (us s) (s .args .under .now) → take (levels s) b ≡ us s
-sheared s e = ap (λ (l : List ℕ). take (levels s) l) e ∙ laid-part (us s) (s .args .under .now) (levels s) (size s)
+sheared : (s : tie.Start) {b : List ℕ} → b ≡ laid (us s) (s .args .shears .now) → take (levels s) b ≡ us s
+sheared s e = ap (λ (l : List ℕ). take (levels s) l) e ∙ laid-part (us s) (s .args .shears .now) (levels s) (size s)
 
 fill-shears-requires : tie.Need-fill-shears-requires
 fill-shears-requires c κs = search needs

@@ -1,15 +1,15 @@
 -- `drift::storey_drift::fill_verdicts` meets its contract: cell after cell, and the rest untouched. Assumes nothing.
 use borrow.Author.Needs.{needs}
-use Prim.Native.Nat.{ℕ, _-_, _≤_}
+use Prim.Native.Nat.{_-_, _≤_}
 use native.Mathlib.Omega.{arith}
 use lib.ListN.{length}
 use Rattle.whole.proofs.Cells.{Filling, filling-none, filling-more, filling-all}
-use Rattle.drift.specs.Drift.{withinLimit, verdict}
+use Rattle.drift.specs.Drift.{verdictOf}
 use Rattle.drift.proofs.storey_drift.fill_verdicts.Statement.{statement}
 use Rattle.drift.proofs.storey_drift.fill_verdicts.Tie as tie
 
 abbrev Inv-loop : tie.InvT-loop
-Inv-loop hs zs m out₀ x₀ out x = (x ≤ length hs) × Filling (λ (y : ℕ). verdict (withinLimit hs zs m y)) out₀ x out
+Inv-loop hs zs m out₀ x₀ out x = (x ≤ length hs) × Filling (verdictOf hs zs m) out₀ x out
 
 abbrev μ-loop : tie.MeasureT-loop
 μ-loop hs zs m out₀ x₀ out x = length hs - x

@@ -1,5 +1,4 @@
 -- `drift::torsion::torsion_factor` meets its contract: no product goes beyond 64 bits. Assumes nothing.
-use borrow.Author.Needs.{needs}
 use mathlib.Core.Path.{_≡_, sym, ap, _∙_}
 use Prim.Native.Nat.{ℕ, min}
 use native.Mathlib.Omega.{arith}
