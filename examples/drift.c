@@ -1,6 +1,6 @@
-/* Drift, torsion and accidental moments: which storeys of a frame are within the drift limit of document 000, 0.005, the torsion factor of three
- * floors, and the accidental moments of the worked sheet's forces. docs/manual/drift.md works these figures out by hand. After
- * examples/build.sh, from the project's root:
+/* Drift, torsion and accidental moments: the base shear under which the drift of the worked sheet is judged, which storeys of a frame are within
+ * the drift limit of document 000, 0.005, the torsion factor of three floors, and the accidental moments of the worked sheet's forces.
+ * docs/manual/drift.md works these figures out by hand. After examples/build.sh, from the project's root:
  *
  *     cc -Iinclude -o target/lib/drift examples/drift.c target/lib/librukeshomaji.a && target/lib/drift
  */
@@ -8,7 +8,14 @@
 #include <stdio.h>
 #include "rukeshomaji.h"
 
-enum { STOREYS = 6, LIMIT = 50, FLOORS = 3, LEVELS = 3, BASE_SHEAR = 1071429, PERIOD = 1000, DIMENSION = 240 };
+enum { STOREYS = 6, FLOORS = 3, LEVELS = 3 };
+enum {
+    LIMIT = 50,             /* ten-thousandths: 0.005 */
+    BASE_SHEAR = 1071429,   /* V_D of the worked sheet, N */
+    PERIOD = 1000,          /* T of the worked sheet, ms */
+    DIMENSION = 240,        /* of the plan, at a right angle to the forces, dm */
+    ALPHA_Y = 100           /* hundredths: 1.00, with which V* is the base shear of the drift */
+};
 
 /* the frame: heights of its levels in dm and their displacements in 0.01 mm, lowest level first */
 static const uint64_t frame_heights[STOREYS] = {45, 80, 115, 150, 185, 220};
@@ -17,13 +24,27 @@ static const int64_t displacements[STOREYS] = {2251, 4001, 2880, 1270, -700, -16
 /* the floors: largest and average displacement of each, in 0.01 mm */
 static const uint64_t floors[FLOORS][2] = {{2500, 2000}, {2400, 1000}, {1800, 1800}};
 
-/* the levels of the worked sheet */
+/* the worked sheet: its site, its frame with that alpha-y, and weights in kN and heights in dm of its levels */
+static const RukeshomajiSite site = {80, 45, 100, 55, 100, 100, 100, 100, RUKESHOMAJI_HARD};
+static const RukeshomajiFrame frame = {RUKESHOMAJI_CONCRETE, 1000, 480, 100, ALPHA_Y};
 static const uint64_t weights[LEVELS] = {5000, 5000, 5000}, heights[LEVELS] = {100, 200, 300};
 
 static int refusal(uint64_t number, uint64_t place)
 {
     fprintf(stderr, "refused %" PRIu64 " at %" PRIu64 "\n", number, place);
     return 1;
+}
+
+/* The base shear of the drift, in N: V* of the worked sheet with alpha-y as 1.00. */
+static int print_base_shear(void)
+{
+    RukeshomajiFigures f;
+    uint64_t weight = 0;
+    for (int x = 0; x < LEVELS; x++) weight += weights[x];
+    uint64_t refused = rukeshomaji_shear_call(&site, &frame, weight, heights[LEVELS - 1], &f);
+    if (refused) return refusal(refused, f.place);
+    printf("V_drift\t%" PRIu64 "\n", f.star);
+    return 0;
 }
 
 /* Of each storey, the highest first: the difference between its ends and the most that the limit allows, in 0.01 mm, and the verdict. */
@@ -70,5 +91,5 @@ int main(void)
         fprintf(stderr, "the library is of another major version than the header, or older than 2.6.0\n");
         return 2;
     }
-    return print_drift() || print_torsion() || print_moments();
+    return print_base_shear() || print_drift() || print_torsion() || print_moments();
 }

@@ -60,10 +60,10 @@ TEXTS = {
     20: 'period out of its range',
     21: 'stretch outside the store',
     22: 'over 256 jobs, lists of unequal length, or fewer rows than jobs',
-    23: 'displacement out of its range',
-    24: 'limit 0, or above 10,000',
-    25: 'average 0, or above the largest',
-    26: 'plan dimension out of its range',
+    23: 'displacement above 1,000,000 in size, in 0.01 mm',
+    24: 'limit not 1 to 10,000; 0.005 is 50',
+    25: 'average 0 or above the largest',
+    26: 'plan dimension not 1 to 5,000 dm',
 }
 OF_A_SHEAR_CALL = {3: 'total weight out of its range', 4: 'top height out of its range'}    # at place 0
 PLACES = {
@@ -213,8 +213,10 @@ def district(jobs, weights, heights):
 
 
 def drift(heights, displacements, limit):
-    """For each storey, lowest first, whether its drift angle is within the limit, in ten-thousandths: 0.005 is 50. Displacements are in 0.01 mm, each
-    with its sign."""
+    """For each storey, lowest first, whether its drift angle is within the limit.
+
+    Heights of the levels above the base are in dm, displacements in 0.01 mm, each with its sign, the limit in ten-thousandths: 0.005 is 50.
+    """
     heights, displacements, (limit,) = _array(heights), _array(displacements, kind=I64), _array([limit])
     verdicts, place = (U64 * len(heights))(), (U64 * 1)()
     _taken(_core.rukeshomaji_drift(heights, len(heights), displacements, len(displacements), limit, verdicts, len(verdicts), place), place)
@@ -222,14 +224,20 @@ def drift(heights, displacements, limit):
 
 
 def torsion(largest, average):
-    """The torsion factor of a floor in thousandths, from its largest and its average displacement in 0.01 mm, without a sign."""
+    """The torsion factor of a floor in thousandths: 1086 means 1.086. It can be below 1: equal displacements give 695.
+
+    The largest and the average displacement of the floor are in 0.01 mm, without a sign.
+    """
     reply = (U64 * 2)()
     return _taken(_core.rukeshomaji_torsion(*_array([largest, average]), reply), reply)[0]
 
 
 def accidental_moments(base_shear, period, weights, heights, dimension):
-    """The accidental moment of each level, lowest first, once positive and once negative, in 0.01 N*dm: its force by `distribution` times five times
-    the plan dimension in dm."""
+    """The accidental moment of each level, lowest first, once positive and once negative, in 0.01 N*dm: its force in N by `distribution` times five
+    times the plan dimension.
+
+    The base shear is in N, the period in ms, weights in kN, heights and the plan dimension in dm.
+    """
     (base_shear, period, dimension), weights, heights = _array([base_shear, period, dimension]), _array(weights), _array(heights)
     positive, negative, place = (I64 * len(weights))(), (I64 * len(weights))(), (U64 * 1)()
     _taken(_core.rukeshomaji_accidental_moments(base_shear, period, weights, len(weights), heights, len(heights), dimension, positive, len(positive),

@@ -333,7 +333,8 @@ uint64_t rukeshomaji_district(const RukeshomajiDistrictJob *jobs, uint64_t job_c
  * Refused    1 for the heights, 2 for lists of unequal length or a buffer shorter than them, 4 at its level, 23 at its level, 24
  * Written    place: of the refusal; 0 on success. On success the first cells of verdicts, one per storey, lowest first: 1 yes, 0 no. Other
  *            cells hold what they held
- * Moves      with every displacement of the other sign the answer is the same, and its refusals too; a larger limit turns no 1 into a 0
+ * Moves      if each displacement is given with the opposite sign, the answer is the same, and so is a refusal; a larger limit never turns a 1 into
+ *            a 0
  * Reference  document 000, 2.5.4. The base shear of its (24), under which the displacements are to be found, is not worked out; docs/manual/drift.md
  */
 uint64_t rukeshomaji_drift(const uint64_t *heights, uint64_t height_count, const int64_t *displacements, uint64_t displacement_count,
@@ -361,7 +362,8 @@ uint64_t rukeshomaji_torsion(uint64_t largest, uint64_t average, RukeshomajiTors
  * Returned   0, or the refusal
  * Refused    1 to 4 as for rukeshomaji_job, with 2 also for either buffer, then 19, 20, 26
  * Written    place: of the refusal; 0 on success. On success the first cells of both buffers, one per level, lowest first, 0.01 N*dm: in positive
- *            the force in N times 5 times the dimension in dm, unrounded; in negative the same with a minus. Other cells hold what they held
+ *            the force in N times 5 times the dimension in dm, unrounded; in negative the same with the opposite sign. Other cells hold what they
+ *            held
  * Reference  document 000, 2.5.2; its forces as for rukeshomaji_distribution. The moments are not multiplied by A_x; docs/manual/drift.md
  */
 uint64_t rukeshomaji_accidental_moments(uint64_t base_shear, uint64_t period, const uint64_t *weights, uint64_t weight_count,

@@ -179,13 +179,11 @@ def of_refusals():
            f'of a shear call, {row} of a district, {displaced} of drift or of torsion, {limit} of drift, {average} of torsion, {dimension} of accidental moments. '
            f'No sheet gets them. {whole} is of a district or of a file of sheets, never of one sheet.')
     assert handed[-1] + 1 == row
-    yield (f'In [drift] {displaced}, then {limit}, come after 1, 2 and 4; in torsion {average} comes after {of_floor}; in accidental moments '
-           f'{handed[-2]}, {handed[-1]} and {dimension} come after {runs(before)}.')
     assert order('drift')[:-2] == [1, 2, 4] and order('accidental_moments') == [*handed, dimension]
     yield f'Check the unit: {float(DRIFT_LIMIT)} is {DRIFT_LIMIT * drift.PARTS_OF_LIMIT} |'
     yield f'Check the unit: mm times {1 / Fraction(str(hundredth()))}, so 22.51 mm is {Fraction("22.51") * 100} |'
     yield 'Check the unit, dm: 24 m is 240 |'
-    yield f'[take {torsion.MOST}.000] for the factor'
+    yield f'If the average is 0 and the largest is not, [take {torsion.MOST}.000]. If both are 0 there is no factor |'
     yield (f'In a log {log[0]} comes first, then {log[1]}, then {log[2]} at the first layer of thickness 0, then {log[2]} at place 0, then {log[3]}.')
     yield f'a `site` line has neither {sheet.SITE.groups} nor {sheet.TWO_PAIRS.groups} numbers'
     yield f'Cohesive soil with N below {soil.VALUE[soil.COHESIVE][0]} is entered as [soft clay], kind {soil.SOFT_CLAY}'
@@ -231,13 +229,16 @@ def of_drift_page():
     limit = DRIFT_LIMIT * parts
     assert Fraction(str(unit)) * drift.UNITS_OF_A_DM == 100 and parts == drift.UNITS_OF_A_DM
     yield f'with its sign: mm times {100}'
+    yield f'The unit is {unit} mm: mm times {100}, cm times {comma(100 * 10)}, m times {comma(100 * 1000)}.'
+    yield f'angle = difference in {unit} mm / ({comma(parts)} · own height in dm)'
+    yield f'compare it with {float(DRIFT_LIMIT)} directly'
     yield f'the {float(DRIFT_LIMIT)} of 2.5.4 is {limit} |'
     yield f'The limit of 2.5.4, {float(DRIFT_LIMIT)}, is {limit} here.'
     yield f'1 dm is {comma(parts)} times {unit} mm, and the limit is in ten-thousandths. So the two {comma(parts)} cancel'
-    yield f'the bars of storeys 1 and 5 reach beyond the limit of {float(DRIFT_LIMIT)}'
+    yield f'the bar of storey 5 reaches well beyond the limit of {float(DRIFT_LIMIT)}, that of storey 1 by too little to see, and that of storey 2 ends at it'
     yield f'In the Taipei Basin. (24) has {decimal(sites.V_STAR)} everywhere; (19) has {decimal(basins.V_STAR)} in the Basin'
     yield f'could not pass (2 / {decimal(torsion.TIMES_AVERAGE)})² ='
-    yield f'2.5.2 asks for no more than {float(torsion.MOST)}: take {torsion.MOST}.000.'
+    yield f'2.5.2 asks for no more than {float(torsion.MOST)}. If the average is 0 and the largest is not, take {torsion.MOST}.000.'
     yield f'The factor is at most {torsion.MOST}.000. It is never below the smaller of the exact A_x and {float(torsion.MOST)}, and less than one thousandth above it'
     yield f'each way by {percent} % of the plan dimension'
     yield f'{comma(10_000 * accidental.HUNDREDTHS)} hundredths of a N·dm are 1 kN·m. To check: {percent} % of'

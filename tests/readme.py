@@ -136,8 +136,10 @@ def of_drifts():
     yield 'Three more calls are for'
     yield f'make them for a frame, {NUMBER_WORDS[len(ENDS)]} floors and the worked sheet.'
     yield f'displacements in {hundredth()} mm with their signs, the limit in ten-thousandths: {float(DRIFT_LIMIT)} is {DRIFT_LIMIT * drift.PARTS_OF_LIMIT}.'
-    yield f'the base shear of {DRIFT_SHEAR}, which is [not V_D]'
-    yield f'rounded up, at most {factors()[1]:,} and with no lower bound'
+    yield f"Use the displacements under the base shear of the code's equation {DRIFT_SHEAR}, which is [not V_D]"
+    least, most = factors()
+    assert least < 1000
+    yield f'rounded up, at most {most:,}; it can be below 1: equal displacements give {least}'
     yield f'in hundredths of a N·dm, by a plan dimension of {ranged(limits.DIMENSION)} dm'
     yield f'The torsion factor is at most {torsion.MOST}.000, never below the smaller of the exact A_x and {float(torsion.MOST)}, and less than one thousandth above it.'
 

@@ -29,7 +29,7 @@ CONSTANTS = {
     'MOST_LEVELS': 'limits/level MOST', 'MOST_LAYERS': 'limits/layer MOST', 'MOST_BYTES': 'limits/sheet BYTES_MOST',
     'LONGEST_LISTING': 'sheet/listing LONGEST', 'MOST_TOTAL_WEIGHT': 'limits/building WEIGHT_MOST',
     'MOST_BASE_SHEAR': 'limits/handed SHEAR_MOST', 'DISTRICT_JOBS': 'limits/district JOBS_MOST', 'CELLS': 'district_call/report CELLS',
-    'MOST_DISPLACEMENT': 'limits/displacement SIZE_MOST', 'MOST_DRIFT_LIMIT': 'limits/displacement DriftLimit::MOST', 'MOST_DIMENSION': 'limits/plan DIMENSION_MOST',
+    'MOST_DISPLACEMENT': 'limits/displacement SIZE_MOST', 'MOST_DRIFT_LIMIT': 'limits/drift_limit MOST', 'MOST_DIMENSION': 'limits/plan DIMENSION_MOST',
     'MOST_TORSION_FACTOR': 'drift/torsion FACTOR_MOST',
     'HARD': 'limits/class HARD', 'NORMAL': 'limits/class NORMAL', 'SOFT': 'limits/class SOFT',
     'STEEL': 'limits/kind STEEL', 'CONCRETE': 'limits/kind CONCRETE', 'BRACED': 'limits/kind BRACED', 'OTHER': 'limits/kind OTHER',
@@ -59,7 +59,7 @@ RANGES = [
     ('among the levels, N: ', 'limits/handed SHEAR_LEAST SHEAR_MOST'), ('roof force, ms: ', 'limits/handed PERIOD_LEAST PERIOD_MOST'),
     ('of the stretch, levels: ', 'limits/level FEWEST MOST'), ('see above: at most ', 'limits/district JOBS_MOST'),
     ('of a whole district: over ', 'limits/district JOBS_MOST'),
-    ('each with its sign: at most ', 'limits/displacement SIZE_MOST', ' in size'), ('of the angle, ten-thousandths: ', 'limits/displacement DriftLimit::LEAST DriftLimit::MOST'),
+    ('each with its sign: at most ', 'limits/displacement SIZE_MOST', ' in size'), ('of the angle, ten-thousandths: ', 'limits/drift_limit LEAST MOST'),
     ('without a sign, 0.01 mm: at most ', 'limits/displacement SIZE_MOST'), ('right angle to the forces, dm: ', 'limits/plan DIMENSION_LEAST DIMENSION_MOST'),
     ('thousandths, rounded up, and at most ', 'drift/torsion FACTOR_MOST'), ('for each of ', 'limits/level FEWEST MOST', ' levels'),
 ]

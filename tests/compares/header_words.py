@@ -279,7 +279,7 @@ def drift_entries(of):
         f'lowest first, {hundredth()} mm, each with its sign', f'The limit of document 000, {float(DRIFT_LIMIT)}, is {DRIFT_LIMIT * drift.PARTS_OF_LIMIT}',
         RETURNED, f'Refused {one} for the heights, {two} for lists of unequal length or a buffer shorter than them, {four} at its level, '
         f'{displaced} at its level, {limit} Written', 'of the refusal; 0 on success', f'lowest first: {drift.YES} yes, {drift.NO} no.',
-        f'turns no {drift.YES} into a {drift.NO}', f"Reference {of['drift']} The base shear of its {DRIFT_SHEAR}"]
+        f'never turns a {drift.YES} into a {drift.NO}', f"Reference {of['drift']} The base shear of its {DRIFT_SHEAR}"]
     yield 'torsion', [
         f'since {DRIFT}: the amplification', f'(largest / ({float(torsion.TIMES_AVERAGE)} * average)) squared, in thousandths',
         f'the smaller of the exact A_x and {float(torsion.MOST)}', f'It is not raised to 1.0: equal displacements get {least}.',

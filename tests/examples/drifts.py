@@ -3,6 +3,7 @@
 from tests.examples.refusals import HEIGHTS, WEIGHTS
 from tests.model import accidental, drift, limits, torsion
 from tests.writes import six_storeys as frame
+from tests.writes.by_hand.text import ranged
 
 MOST = limits.DISPLACEMENT[-1]
 # heights, displacements and limit of a drift call: both ends of each range, and both signs
@@ -26,4 +27,7 @@ def drifts(core):
         forces = core.distribution(base_shear, period, WEIGHTS, HEIGHTS).forces
         yield f'accidental moments of {base_shear} N at {period} ms', said == (found.positive, found.negative)
         yield 'by the forces of the distribution', said.positive == [force * 5 * dimension for force in forces]
-    yield 'a displacement and a moment in words', 'at level 2: displacement' in str(core.Refused(23, 2)) and str(core.Refused(23, 0)) == 'refusal 23: displacement out of its range'
+    said = f'displacement above {MOST:,} in size, in 0.01 mm'
+    yield 'a displacement in words', [str(core.Refused(23, place)) for place in (2, 0)] == [f'refusal 23 at level 2: {said}', f'refusal 23: {said}']
+    ranges = f'limit not {ranged(limits.DRIFT_LIMIT)}; 0.005 is {frame.LIMIT}', f'plan dimension not {ranged(limits.DIMENSION)} dm'
+    yield 'a limit and a dimension in words', [core.Refused(number, 0).text for number in (24, 26)] == [*ranges]

@@ -120,8 +120,8 @@ def order(text):
     beyond = limits.DISPLACEMENT[-1] + 1
     wrong = (limits.drift_refusals([0], [beyond] * 2, 0, ()), limits.torsion_refusals(0, beyond), limits.accidental_refusals(0, 10_000, [0], [0, 0], 0, ()))
     found = [[number for number, _ in each] for each in wrong] + [[limits.judge_drift([], [0], LIMIT)[0]]]
-    yield found == [[2, 4, 23, 23, 24], [23, 25], [2, 3, 4, 4, 19, 20, 26], [1]], 'docs/manual/refusals.md: 23 to 26 are not where the page says'
-    said = '23, then 24, come after 1, 2 and 4; in torsion 25 comes after 23; in accidental moments 19, 20 and 26 come after 1 to 4'
+    yield found == [[2, 4, 23, 23, 24], [23, 25], [2, 3, 4, 4, 19, 20, 26], [1]], 'docs/manual/drift.md: 23 to 26 are not where the page says'
+    said = '[Drift, torsion and accidental moments](drift.md#the-order-of-refusals) have an order of their own.'
     yield said in text.replace('\n', ' '), 'docs/manual/refusals.md: the place of 23 to 26'
 
 

@@ -13,7 +13,7 @@ use Rattle.limits.specs.Floor.{judgedFloor}
 use Rattle.limits.specs.Outcome.{Outcome, accepted, refused, Done, number, place, _>>_}
 use Rattle.limits.proofs.AcceptedDrift.{floor-allowed}
 use Rattle.limits.proofs.DriftNumbers.{numbered-floor, lowest-of-drift}
-use Rattle.limits.proofs.DriftStage as judged
+use Rattle.limits.proofs.FloorStage as judged
 use Rattle.limits.proofs.First.{first-then-value}
 use Rattle.limits.proofs.Passed.{never, one-value, then-passed}
 use Rattle.drift.specs.declared.torsion.TorsionAnswer.{TorsionAnswer}

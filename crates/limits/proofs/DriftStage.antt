@@ -1,23 +1,21 @@
--- Drift, a floor and accidental moments are given the first refusal that applies: 1, 2, 4, 23 and 24 of drift, 23 and 25 of a floor, those of the distribution
--- and 26 of moments.
+-- Drift and accidental moments are given the first refusal that applies: 1, 2, 4, 23 and 24 of drift, those of the distribution and 26 of moments.
 -- Assumes nothing.
 use mathlib.Core.Path.{refl}
 use mathlib.Core.List.{List}
-use mathlib.Core.Logic.{inl, inr, ⊎-elim}
-use Prim.Native.Nat.{ℕ, _+_, _<_}
+use mathlib.Core.Logic.{inl, inr}
+use Prim.Native.Nat.{ℕ, _+_}
 use native.Mathlib.Omega.{arith}
 use lib.Dec.{leb, eqb}
 use lib.IntN.{ℤ}
 use lib.ListN.{length}
 use borrow.Author.Tests.{leb-false, lt-leb, eqb-false, ne-eqb}
-use Rattle.limits.specs.Applies.{OutOf, count, lists, buffer, height, rising, DistributionApplies}
+use Rattle.limits.specs.Applies.{count, lists, buffer, height, rising, DistributionApplies}
 use Rattle.limits.specs.Displacement.{displaced}
 use Rattle.limits.specs.DriftLimit.{judgedDriftLimit}
 use Rattle.limits.specs.DriftApplies.{displacement, limit, DriftApplies, of-height-count, of-drift-lengths, of-drift-heights, of-displacements, of-limit}
-use Rattle.limits.specs.DriftApplies.{FloorApplies, largest, average, no-average, above-largest, dimension, MomentsApply, of-distribution, of-dimension}
+use Rattle.limits.specs.DriftApplies.{dimension, MomentsApply, of-distribution, of-dimension}
 use Rattle.limits.specs.DriftJudging.{judgedDrift, judgedMoments}
 use Rattle.limits.specs.FirstRefusal.{FirstRefusal}
-use Rattle.limits.specs.Floor.{judgedUnsigned, judgedFloor}
 use Rattle.limits.specs.Judging.{judgedDistribution}
 use Rattle.limits.specs.Lengths.{sameLength, roomy}
 use Rattle.limits.specs.Levels.{counted, raised}
@@ -95,41 +93,6 @@ module _ (hs : List ℕ) (zs : List ℤ) (m room : ℕ) where
 
   pub drift-first : FirstRefusal D (judgedDrift hs zs m room)
   drift-first = first-refusal D (judgedDrift hs zs m room) drift-stops drift-told
-
--- ---- a floor
-over-most : (x : ℕ) → OutOf 0 1_000_000 x → 1_000_000 < x
-over-most x o = ⊎-elim (λ h. absurd (omega arith)) (λ h. h) o
-
-module _ (l a : ℕ) where
-  abbrev F : ℕ → ℕ → Type 0
-  F = FloorApplies l a
-
-  average-stops : OutOf 1 l a → Stops 25 0 (judgedFloor l a)
-  unfolding judgedFloor
-  average-stops o =
-      later-stops 25 0 (judgedUnsigned l) _ (within-yields 25 0 0 1_000_000 l 23 0 (inl (omega arith)))
-      (λ _. later-stops 25 0 (judgedUnsigned a) _ (within-yields 25 0 0 1_000_000 a 23 0 (inl (omega arith)))
-      (λ _. range-stops 25 0 1 l a 25 0 o (inr (refl, inl refl))))
-
-  floor-stops : (n q : ℕ) → F n q → Stops n q (judgedFloor l a)
-  unfolding judgedFloor
-  floor-stops n q (largest o) =
-      first-stops 23 0 (judgedUnsigned l) _ (range-stops 23 0 0 1_000_000 l 23 0 (inr o) (inr (refl, inl refl)))
-  floor-stops n q (average o) =
-      later-stops 23 0 (judgedUnsigned l) _ (within-yields 23 0 0 1_000_000 l 23 0 (inr (refl, inl refl)))
-      (λ _. first-stops 23 0 (judgedUnsigned a) _ (range-stops 23 0 0 1_000_000 a 23 0 (inr o) (inr (refl, inl refl))))
-  floor-stops n q (no-average e) = average-stops (inl (omega (arith, e)))
-  floor-stops n q (above-largest o) = average-stops (inr o)
-
-  floor-told : Told F (judgedFloor l a)
-  unfolding judgedFloor
-  floor-told =
-      then-told F (judgedUnsigned l) _ (within-told F 0 1_000_000 l 23 0 (λ o. largest (over-most l o)))
-      (λ _. then-told F (judgedUnsigned a) _ (within-told F 0 1_000_000 a 23 0 (λ o. average (over-most a o)))
-      (λ _. within-told F 1 l a 25 0 (λ o. ⊎-elim (λ h. no-average (omega arith)) above-largest o)))
-
-  pub floor-first : FirstRefusal F (judgedFloor l a)
-  floor-first = first-refusal F (judgedFloor l a) floor-stops floor-told
 
 -- ---- accidental moments
 module _ (v t : ℕ) (ws hs : List ℕ) (d room : ℕ) where

@@ -35,6 +35,7 @@ pub mod DistrictStage
 pub mod Sizes
 pub mod DisplacedStage
 pub mod DriftStage
+pub mod FloorStage
 pub mod DriftNumbers
 pub mod AcceptedDrift
 pub mod Room
