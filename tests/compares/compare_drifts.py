@@ -1,6 +1,10 @@
 """Drift, torsion and accidental moments of the comparison (Wish 10), sound and bad, every cell of every buffer; what the storeys, floors and levels are
 is counted.
 
+Every fifth call of drift that is drawn, sound or bad, is made twice more, and each is a comparison on top. With all signs reversed, where each displacement
+has an opposite among the i64, answer and cells are those of the first call. With a larger limit, where there is one up to 10,000, they are the model's; the
+call passes where the first did, and every 1 stays 1.
+
 usage: python3 -m tests.compares.compare_drifts [SEED [DRIFTS [DRIFTS_BAD [TORSIONS [TORSIONS_BAD [MOMENTS [MOMENTS_BAD]]]]]]]
 
 It compares these alone, as tests/compares/compare.py does. It needs x86-64, or RUKESHOMAJI_LIBRARY, a shared library of the core for the machine at hand.
@@ -15,7 +19,7 @@ from tests.compares.parts import A_STRATUM, chunks
 from tests.compares.running import compared
 from tests.compares.tally import refusal_words
 from tests.draws import accidentals, drift_faults, drifts, torsions
-from tests.model import accidental, drift, torsion
+from tests.model import accidental, drift, limits, torsion
 from tests.writes import drifts as stored_cases, stored_drifts
 
 DRIFTS = TORSIONS = MOMENTS = 100_000
@@ -23,6 +27,10 @@ DRIFTS_BAD = TORSIONS_BAD = MOMENTS_BAD = 24_000
 OLD_VERDICTS = 7_000_000                        # what the verdicts held: all cells differ
 OLD_MOMENTS = -(7_000_000 * 10**9), 8_000_000   # what the positive and the negative moments held
 PLAIN = 'drawn from all that is allowed'
+AGAIN_EACH = 5                                  # of the calls of drift that are drawn, every fifth is made again
+OPPOSITE, LARGER = 'drift again: all signs reversed', 'drift again: a larger limit'
+TAKEN = 0, 0                                    # number and place of a call that passes
+SAID = {drift.YES: 'yes', drift.NO: 'no'}
 
 
 def held_verdicts(room):
@@ -97,8 +105,47 @@ def level_words(call):
     return ['with a force' if force else 'without force' for force in accidental.accidental(*call).forces]
 
 
+def larger_words(call, larger):
+    """What is counted of each storey by a limit and by a larger one, where the first call is taken."""
+    before, after = (drift.drift(*each) for each in (call, larger))
+    if before[0] != 'refused':
+        yield from (f'{SAID[one]}, and {SAID[other]} by a larger limit' for one, other in zip(before.verdicts, after.verdicts))
+
+
+def compare_opposite(tally, library, call, first):
+    """Drift with all signs reversed, where each displacement has an opposite among the i64: answer and cells are those of the first call."""
+    opposite = drifts.opposite(call)
+    if all(each in drift_faults.SIGNED for each in opposite.displacements):
+        tally.compare(OPPOSITE, opposite, got_drift(library, *opposite), first)
+        tally.counts[f"of drift with all signs reversed, {'taken' if first[0] == TAKEN else 'refused'}"] += 1
+
+
+def yes_stays(first, larger):
+    """Whether the call with a larger limit passes where the first did, and every 1 stays 1; None where something was written beside a reply."""
+    if any(answer is None or None in cells for answer, cells, _ in (first, larger)):
+        return None
+    (answer, [verdicts], _), (after, [others], _) = first, larger
+    return answer != TAKEN or (after == TAKEN and all(other == drift.YES for one, other in zip(verdicts, others) if one == drift.YES))
+
+
+def compare_larger(tally, library, rng, call, first):
+    """Drift with a larger limit, where there is one: the model's answer and cells, and every yes of the first call stays."""
+    if call.limit < limits.DRIFT_LIMIT[-1]:
+        larger = drifts.with_larger_limit(rng, call)
+        got = got_drift(library, *larger)
+        tally.compare(LARGER, (call, larger), (got, yes_stays(first, got)), (expected_drift(*larger), True))
+        tally.counts.update(f'of the storeys of drift, {words}' for words in larger_words(call, larger))
+
+
+def compare_again(tally, library, rng, call, first):
+    """Both, beside the core's first answer."""
+    compare_opposite(tally, library, call, first)
+    compare_larger(tally, library, rng, call, first)
+
+
 class Entry(NamedTuple):
-    """An entry: its name, what expects and gets its answer, its draws, its strata, its bad calls, and what is counted of what, where it is taken."""
+    """An entry: its name, what expects and gets its answer, its draws, its strata, its bad calls, what is counted of what, where it is taken, and what
+    makes a call again."""
 
     name: str
     expected: Callable
@@ -110,11 +157,12 @@ class Entry(NamedTuple):
     stored: type
     counted: str
     words: Callable
+    again: Callable | None = None
 
 
 ENTRIES = {
     'drift': Entry('drift', expected_drift, got_drift, drifts.draw_drift, drifts.strata, drift_faults.random_drift, drift_faults.systematic_drifts,
-                   stored_drifts.Drift, 'storeys', storey_words),
+                   stored_drifts.Drift, 'storeys', storey_words, compare_again),
     'torsion': Entry('torsion', expected_torsion, core.torsion, torsions.draw_torsion, torsions.strata, drift_faults.random_torsion,
                      drift_faults.systematic_torsions, stored_drifts.Torsion, 'floors', floor_words),
     'accidental': Entry('accidental moments', expected_accidental, got_accidental, accidentals.draw_accidental, accidentals.strata,
@@ -128,34 +176,43 @@ def first_two(expected):
 
 
 def compare_call(tally, library, entry, call, stratum=None):
-    """One call; a bad one is counted by the refusal that the model gives."""
+    """What the core answers to one call; a bad one is counted by the refusal that the model gives."""
     expected = entry.expected(*call)
     number, place = first_two(expected)
     refused = f'{entry.name}: refusal {refusal_words(number, place)}' if number else f'{entry.name}: changed, and accepted'
-    tally.compare(stratum or refused, call, entry.got(library, *call), expected)
+    got = entry.got(library, *call)
+    tally.compare(stratum or refused, call, got, expected)
     if not number:
         tally.counts.update(f'of the {entry.counted} of {entry.name}, {words}' for words in entry.words(call))
+    return got
+
+
+def compare_drawn(tally, library, seed, entry, draw, count, stratum=None):
+    """So many calls of an entry, drawn one by one; every fifth again, where that is said of the entry."""
+    rng = random.Random(seed)
+    for number in range(count):
+        call = draw(rng)
+        got = compare_call(tally, library, entry, call, stratum)
+        if entry.again and number % AGAIN_EACH == 0:
+            entry.again(tally, library, rng, call, got)
 
 
 def run_drift_stratum(library, tally, seed, name, count, kind):
     """Calls drawn for a stratum of an entry."""
-    rng, one = random.Random(seed), dict(ENTRIES[kind].strata())[name]
-    for _ in range(count):
-        compare_call(tally, library, ENTRIES[kind], one(rng), name)
+    entry = ENTRIES[kind]
+    compare_drawn(tally, library, seed, entry, dict(entry.strata())[name], count, name)
 
 
 def run_drifts(library, tally, seed, count, kind):
     """Calls of an entry."""
-    rng, entry = random.Random(seed), ENTRIES[kind]
-    for _ in range(count):
-        compare_call(tally, library, entry, entry.draw(rng), f'{entry.name}: {PLAIN}')
+    entry = ENTRIES[kind]
+    compare_drawn(tally, library, seed, entry, entry.draw, count, f'{entry.name}: {PLAIN}')
 
 
 def run_drifts_bad(library, tally, seed, count, kind):
     """Random bad calls of an entry."""
-    rng, entry = random.Random(seed), ENTRIES[kind]
-    for _ in range(count):
-        compare_call(tally, library, entry, entry.bad(rng))
+    entry = ENTRIES[kind]
+    compare_drawn(tally, library, seed, entry, entry.bad, count)
 
 
 def run_systematic_drifts(library, tally, seed, count):

@@ -123,6 +123,17 @@ def draw_drift(rng, heights=draw_levels, displaced=None, limit=None):
     return DriftInputs(levels, displaced(rng, levels, limit), limit, room(rng, len(levels)))
 
 
+def opposite(call):
+    """A call with all signs reversed."""
+    return call._replace(displacements=[-each for each in call.displacements])
+
+
+def with_larger_limit(rng, call):
+    """A call with the next limit, the largest, or any between."""
+    more = range(1, limits.DRIFT_LIMIT[-1] - call.limit + 1)
+    return call._replace(limit=call.limit + rng.choice((more[0], more[-1], any_of(rng, more))))
+
+
 def from_where(moved):
     """Where the lower end of a storey can lie that moves by so much."""
     return range(max(-MOST, -MOST - moved), min(MOST, MOST - moved) + 1)

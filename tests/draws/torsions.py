@@ -18,7 +18,7 @@ ENDS = (1, 2, MOST - 1, MOST)
 RATIOS = tuple(Fraction(over, 25) for over in range(25, 52) if 10 * over**2 % 9 == 0)       # 1,000 * (ratio / 1.2)^2 is 10 * over^2 / 9
 SIDES = {'one below': -1, 'at': 0, 'one above': 1}
 LEAST = 695                                                 # thousandths, of equal displacements
-BEYOND = 480_000                                            # up to this average a largest displacement beyond 3.0 is in range
+BEYOND = isqrt(25_000 * MOST**2 // (36 * THREE))            # 481,125: up to this average a largest displacement beyond 3.0 is in range
 PREFIX = 'torsion: '                                        # of a stratum's name
 
 
@@ -79,9 +79,11 @@ def at_any_ratio(rng, of_average):
 
 
 def at_thousandth(rng, beyond):
-    """The last largest displacement within a thousandth, or the first beyond it."""
-    average = rng.choice((uniform, any_of))(rng, range(1, BEYOND + 1))
-    return TorsionInputs(last_within(average, rng.randint(LEAST, THREE)) + beyond, average)
+    """The last largest displacement within a thousandth, or the first beyond it, of those that an average can have."""
+    average = rng.choice((uniform, any_of))(rng, range(1, MOST + 1))
+    passed = 25_000 * MOST**2 // (36 * average**2)          # the last thousandth beyond which there is one
+    thousandths = rng.randint(LEAST - beyond, min(THREE, passed + 1 - beyond))
+    return TorsionInputs(min(MOST, max(average, last_within(average, thousandths) + beyond)), average)
 
 
 def convergents(number):

@@ -18,7 +18,7 @@ def drifts(core):
     for heights, displacements, limit in ((frame.HEIGHTS, frame.DISPLACEMENTS, frame.LIMIT), *DRIFTS):
         said = core.drift(heights, displacements, limit)
         yield f'the drift of {len(heights)} levels by {limit}', said == [each == drift.YES for each in drift.drift(heights, displacements, limit).verdicts]
-        yield 'and turned about', core.drift(iter(heights), (-each for each in displacements), limit) == said and all(isinstance(each, bool) for each in said)
+        yield 'and with all signs reversed', core.drift(iter(heights), (-each for each in displacements), limit) == said and all(isinstance(each, bool) for each in said)
     for floor in FLOORS:
         yield f'the torsion factor of {floor}', core.torsion(*floor) == torsion.torsion(*floor).factor
     for base_shear, period, dimension in MOMENTS:

@@ -7,12 +7,14 @@ hundredths of a N*dm.
 
 import random
 from fractions import Fraction
+from math import ceil
 
 from tests.compares.checks.refusals import HUGE, LISTS
+from tests.compares.compare_drifts import expected_drift, yes_stays
 from tests.draws import accidentals, drifts, torsions
 from tests.model import accidental, calls, drift, limits, torsion
 
-SEED, EACH = 10, 2
+SEED, EACH, BESIDE = 10, 2, 40
 MOST, LEAST_SIGNED, LARGEST_SIGNED = 2**64 - 1, -2**63, 2**63 - 1
 STOREYS, LIMIT = [30, 60, 90], 50
 # displacements of three storeys of 3 m: verdicts by a limit of 50
@@ -38,6 +40,11 @@ FACTORS = {
 WORKED = 1_071_429, 1_000, [5_000] * 3, [100, 200, 300]
 # dimension: moments of the worked sheet
 MOMENTS = {200: [166_071_000, 332_143_000, 573_215_000], 1: [830_355, 1_660_715, 2_866_075], 5_000: [4_151_775_000, 8_303_575_000, 14_330_375_000]}
+# number and cells of drift, and those with a larger limit: whether every yes stays
+STAYS = {
+    ((0, 1, 0), (0, 1, 0)): True, ((0, 1, 0), (0, 1, 1)): True, ((0, 1, 0), (0, 0, 0)): False, ((0, 1, 0), (0, 0, 1)): False, ((0, 0, 7), (0, 1, 7)): True,
+    ((0, 1, 0), (24, 1, 0)): False, ((0, 0, 0), (24, 7, 8)): False, ((24, 7, 8), (0, 0, 1)): True, ((23, 7, 8), (23, 7, 8)): True,
+}
 # limit: refusal of drift that is good otherwise
 LIMITS = {**dict.fromkeys((1, 2, 50, 9_999, 10_000)), **dict.fromkeys((0, 10_001, 2**16 + 1, 2**32 + 1, 2**63 + 1, MOST), (24, 0))}
 # displacement: refusal at its level
@@ -59,6 +66,8 @@ def figures():
         yield f'three storeys, {displacements}', lambda given=displacements: drift.drift(STOREYS, given, LIMIT).verdicts, wanted
     for *call, wanted in OTHERS:
         yield f'drift {call}', lambda call=call: drift.drift(*call).verdicts, wanted
+    for both, wanted in STAYS.items():
+        yield f'yes stays, {both}', lambda both=both: yes_stays(*(((number, 0), [cells], True) for number, *cells in both)), wanted
     yield 'a drift angle of 0.005', lambda: drift.drift([30], [-1_500], LIMIT).angles, [Fraction(-5, 1_000)]
     for floor, wanted in FACTORS.items():
         yield f'factor of {floor}', lambda floor=floor: torsion.torsion(*floor).factor, wanted
@@ -96,6 +105,10 @@ def drawn_checks():
     for name, one in drifts.strata():
         for call in (one(rng) for _ in range(EACH)):
             yield name, lambda call=call: drift.drift(*call).verdicts, verdicts_by_products(call)
+            yield f'{name}, with all signs reversed', lambda call=call: expected_drift(*drifts.opposite(call)) == expected_drift(*call), True
+            if call.limit < limits.DRIFT_LIMIT[-1]:
+                both = call, drifts.with_larger_limit(rng, call)
+                yield f'{name}, a larger limit', lambda both=both: yes_stays(*(expected_drift(*each) for each in both)), True
     for name, one in torsions.strata():
         yield from ((name, lambda call=one(rng): least_factor(call), True) for _ in range(EACH))
     for name, one in accidentals.strata():
@@ -107,6 +120,25 @@ def moves(call):
     bottoms = [0, *call.displacements]
     return [(top - bottom, call.limit * rise, bottom, top, high)
             for rise, bottom, top, high in zip(drifts.rises(call.heights), bottoms, call.displacements, call.heights)]
+
+
+def thousandths(largest, average):
+    """(22) in thousandths, rounded up, without a bound."""
+    return ceil(torsion.amplification(largest, average) * 1_000)
+
+
+def beside_thousandth(call, beyond):
+    """That a thousandth lies next above a largest displacement, or next below; or that none above or below it is in range."""
+    last = call.largest - beyond
+    return call.largest == (call.average if beyond else torsions.MOST) or thousandths(last, call.average) < thousandths(last + 1, call.average)
+
+
+def at_thousandths(rng, every):
+    """That drawn calls are beside a thousandth, and that their averages go up to the largest."""
+    for words, beyond in (('the last within', 0), ('the first beyond', 1)):
+        drawn = [every[f'{torsions.PREFIX}{words} a thousandth'](rng) for _ in range(BESIDE)]
+        yield from ((f'{words} a thousandth, {call}', lambda call=call, beyond=beyond: beside_thousandth(call, beyond), True) for call in drawn)
+        yield f'{words} a thousandth, averages', lambda drawn=drawn: max(call.average for call in drawn) > 900_000, True
 
 
 def in_stratum():
@@ -127,10 +159,13 @@ def in_stratum():
         below, at, above = (torsion.torsion(*every[f'{torsions.PREFIX}largest {side} {float(ratio)} of the average'](rng)) for side in torsions.SIDES)
         yield f'whole at {ratio}', lambda at=at: at.quotient * 1_000 == at.factor, True
         yield f'beside {ratio}', lambda whole=at.factor, both=(below, above): (both[0].factor <= whole, both[1].factor > whole), (True, True)
-    for average in (1, 10, 999, 480_000):
+    for average in (1, 10, 999, torsions.BEYOND):
         last = torsions.last_within(average, torsions.THREE)
         yield f'the last up to 3.0 over {average}', lambda last=last, average=average: [
             torsion.amplification(largest, average) > 3 for largest in (last, last + 1)], [False, True]
+    yield ('the last average with a largest beyond 3.0', lambda: [(average, torsion.amplification(torsions.MOST, average) > 3)
+                                                                  for average in (torsions.BEYOND, torsions.BEYOND + 1)], [(481_125, True), (481_126, False)])
+    yield from at_thousandths(rng, every)
     yield 'without force', lambda: 0 in accidental.accidental(*accidentals.without_force(rng)).forces, True
     yield ('ratios', lambda: [torsion.torsion(int(25 * ratio), 25).factor for ratio in torsions.RATIOS],
            [810, 1_000, 1_210, 1_440, 1_690, 1_960, 2_250, 2_560, 2_890])
