@@ -59,3 +59,19 @@ factor-near l a p =
     let near = up-law (1_000 * x .num) (x .den) (in-full-high l a p) .1 in
     by-most (λ (k : ℕ). Less (over k 1_000) (plus x (over 1 1_000))) (upIn 1_000 x) 3_000
     (λ h. omega (arith, near)) (λ h. omega (arith, near, mul-le-mul-right (x .den) h))
+
+-- no average is above the largest, so that equal displacements give the least
+pub factor-least : (l a : ℕ) → 0 < a → a ≤ l → 695 ≤ torsionFactor l a
+factor-least l a p h =
+    let u = up (25_000 * (l * l)) (36 * (a * a)) in
+    let covers = up-law (25_000 * (l * l)) (36 * (a * a)) (divisor-high a p) .0 in
+    rw (in-whole l a p) (by-most (λ (k : ℕ). 695 ≤ k) u 3_000 (λ _. high u (omega (arith, covers, square-most a l h))) (λ _. omega arith))
+  where
+    high : (u : ℕ) → 25_000 * (a * a) ≤ 36 * (a * a) * u → 695 ≤ u
+    high u e = go (leb 695 u) refl
+      where
+        go : (t : Bool) → leb 695 u ≡ t → 695 ≤ u
+        go true t = leb-true 695 u t
+        go false t =
+            let low : u ≤ 694 = omega (arith, leb-false 695 u t) in
+            absurd (let z : ⊥ = omega (arith, e, mul-le-mul-right (a * a) low, square-high a p) in z)

@@ -17,9 +17,7 @@ use Rattle.limits.specs.Applies.{lists, buffer}
 use Rattle.limits.specs.DriftApplies.{limit, DriftApplies, of-height-count, of-drift-lengths, of-drift-heights, of-displacements, of-limit}
 use Rattle.limits.proofs.Passed.{never}
 use Rattle.limits.specs.Outcome.{Done, accepted, verdictOutcome}
-use Rattle.limits.proofs.DriftStage as judged
 use Rattle.drift.specs.Drift.{storeyHeight, apart, withinLimit, DriftAnswers}
-use Rattle.drift.proofs.Answering as answering
 use Rattle.drift.proofs.Limit.{by-products}
 use Rattle.drift.proofs.Drifts.{drift-first, passed-allowed, yes-within, within-yes}
 

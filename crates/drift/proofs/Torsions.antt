@@ -19,7 +19,7 @@ use Rattle.limits.proofs.Passed.{never, one-value, then-passed}
 use Rattle.drift.specs.declared.torsion.TorsionAnswer.{TorsionAnswer}
 use Rattle.drift.specs.declared.torsion.TorsionAnswer.the-variants.{Taken, Refused}
 use Rattle.drift.specs.Torsion.{amplification, torsionFactor, torsionOf, torsionOutcome, TorsionAnswers}
-use Rattle.drift.proofs.Factor.{factor-most, factor-covers, factor-near}
+use Rattle.drift.proofs.Factor.{factor-most, factor-least, factor-covers, factor-near}
 
 -- ---- an answer is known by its outcome
 outcome-unique : (r s : TorsionAnswer) → torsionOutcome r ≡ torsionOutcome s → r ≡ s
@@ -63,6 +63,9 @@ module _ (l a : ℕ) where
 
     pub taken-most : k ≤ 3_000
     taken-most = rw factor-is (factor-most l a)
+
+    pub taken-least : 695 ≤ k
+    taken-least = rw factor-is (factor-least l a (taken-allowed .average .0) (taken-allowed .average .1))
 
     -- never below the exact factor, or 3.0, which is enough
     pub taken-covers : AtMost (amplification l a) (over k 1_000) ⊎ (k ≡ 3_000)

@@ -1,6 +1,6 @@
 -- Answers that the contracts of drift, torsion and accidental moments rule out, whatever the buffers held: any refusal of good data; a storey judged by the
--- difference of the sizes, by the height above the base or by 'below the limit'; every storey passed; a factor rounded down, or without its bound; moments of one
--- sign, or of shears.
+-- difference of the sizes, by the height above the base or by 'below the limit'; every storey passed; a factor rounded down, without its bound, or raised to
+-- 1.0; moments of one sign, or of shears.
 -- Assumes nothing.
 use mathlib.Core.Path.{_≡_, sym, ap, _∙_}
 use mathlib.Core.List.{List, [], _∷_}

@@ -19,6 +19,7 @@ use Rattle.limits.specs.Order.{NoLater}
 use Rattle.limits.specs.Outcome.{accepted, _>>_}
 use Rattle.limits.proofs.Passed.{then-passed, require-passed}
 use Rattle.limits.proofs.Precedence.{Stops, UpTo, both-up-to, require-up-to, first-stops, later-stops, require-yields, require-stops}
+use Rattle.limits.proofs.Refusing.{next}
 use Rattle.limits.proofs.Told.{Told, then-told, require-told}
 
 -- ---- from the i-th on
@@ -50,9 +51,6 @@ displaced-stops q p (z ∷ zs) (suc x) h e l o =
     later-stops 23 q (judgedDisplacement z p) (displaced (p + 1) zs)
     (require-yields 23 q (leb (size z) 1_000_000) 23 p (inr (refl, inr (h, omega arith))))
     (λ _. displaced-stops q (p + 1) zs x (omega arith) (omega arith) (omega arith) o)
-
-next : (p x : ℕ) → p + suc x ≡ p + 1 + x
-next p x = omega arith
 
 pub displaced-told : (A : ℕ → ℕ → Type 0) (p : ℕ) (zs : List ℤ)
     → ((x : ℕ) → x < length zs → 1_000_000 < size (getD zs x (pos 0)) → A 23 (p + x)) → Told A (displaced p zs)

@@ -44,7 +44,7 @@ unfolding listed
 listed-told A vs x n p f = require-told A (among vs x) n p (λ e. f (not-among vs x e))
 
 -- ---- levels, one by one
-next : (p x : ℕ) → p + suc x ≡ p + 1 + x
+pub next : (p x : ℕ) → p + suc x ≡ p + 1 + x
 next p x = omega arith
 
 weighed-told : (A : ℕ → ℕ → Type 0) (p : ℕ) (ws : List ℕ) → ((x : ℕ) → x < length ws → OutOf 1 20_000 (getD ws x 0) → A 3 (p + x))
