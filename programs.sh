@@ -66,11 +66,7 @@ seen() {
     case $1$line in
     "1site$(printf '\t')"*)
         fields=$(($(printf %s "$line" | tr -cd '\t' | wc -c)))
-        { [ "$fields" -ge 7 ] && [ "$fields" -le 10 ]; } || why="$why, a site line has 7 to 10 numbers, this one has $fields fields"
-        ;;
-    "1basin$(printf '\t')"*)
-        fields=$(($(printf %s "$line" | tr -cd '\t' | wc -c)))
-        [ "$fields" -eq 1 ] || why="$why, a basin line has one number and no profile, this one has $fields fields"
+        [ "$fields" -eq 7 ] || [ "$fields" -eq 9 ] || why="$why, a site line has 7 or 9 numbers, this one has $fields fields"
         ;;
     esac
     [ -n "$open" ] || [ "$(sed -n "${1}p" "$2" | wc -c)" -ne 1 ] || why="$why, it is empty"
@@ -84,13 +80,8 @@ too_long() {
     if [ "$ended" -gt 0 ]; then echo ": a CR stands at the end of $ended of its lines"; else echo ': does an empty line stand between the sheets?'; fi
 }
 
-# Where a class or a profile stands on line 1 of the file of a sheet, if that line names a profile.
-stands() {
-    case $(($(sed -n 1p "$2" | tr -cd '\t' | wc -c))) in 8 | 10) echo ": on a line of 8 or 10 numbers it is the $1: is a number missing, or one too many?" ;; esac
-}
-
-# What a refusal of a sheet means: its number, its place, and the file of the sheet, which is looked at for 7, 16 and 27; of a file of sheets also the line
-# of the file at which the sheet begins, and the sheet is looked at for 17 too.
+# What a refusal of a sheet means: its number, its place, and the file of the sheet, which is looked at for 16; of a file of sheets also the line of the
+# file at which the sheet begins, and the sheet is looked at for 17 too.
 meaning() {
     at=
     case $1 in
@@ -100,7 +91,7 @@ meaning() {
     4) means='height out of its range, or not above the one below' at="level $2" ;;
     5) means='mapped value not in its table' at=$(echo 'S_S design,S_1 design,S_S MCE,S_1 MCE' | cut -d, -f"$2") ;;
     6) means='near-fault factor out of its range' at=$(echo 'N_A,N_V,N_A MCE,N_V MCE' | cut -d, -f"$2") ;;
-    7) means="unknown site class$(stands 'last but one' "$3")" ;;
+    7) means='unknown site class' ;;
     8) means='R out of its range' ;;
     9) means='I not in its table' ;;
     10) means='alpha-y out of its range' ;;
@@ -110,7 +101,6 @@ meaning() {
     17) means="sheet over 4,096 bytes${4:+$(too_long "$3")}" ;;
     18) means='zone not 1 to 4' ;;
     22) means='over 256 sheets, or over 1,048,832 bytes' ;;
-    27) means="profile not 1 (ours) or 2 (the draft)$(stands last "$3")" ;;
     *) means='a refusal that this script does not know' ;;
     esac
     echo "refusal $1${at:+ at $at}: $means"

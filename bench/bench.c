@@ -36,7 +36,7 @@ static u64 job_call(Job *job, const JobInput *p)
 static u64 log_call(Log *log, const LogInput *p)
 {
     ClassReply reply;
-    log(p->profile, p->thicknesses, LAYERS, p->kinds, LAYERS, p->values, LAYERS, &reply);
+    log(p->thicknesses, LAYERS, p->kinds, LAYERS, p->values, LAYERS, &reply);
     return reply.class_number;
 }
 
@@ -117,7 +117,7 @@ static int same_log(const LogInput *p)
     u64 numbers[SIDES];
     for (int s = 0; s < SIDES; s++) {
         if (!sides[s].log) continue;
-        numbers[s] = sides[s].log(p->profile, p->thicknesses, LAYERS, p->kinds, LAYERS, p->values, LAYERS, replies + s);
+        numbers[s] = sides[s].log(p->thicknesses, LAYERS, p->kinds, LAYERS, p->values, LAYERS, replies + s);
         if (numbers[s] != *numbers || memcmp(replies, replies + s, sizeof *replies)) return 0;
     }
     return 1;
@@ -137,41 +137,22 @@ static int same_sheet(const char *bytes, size_t length)
     return 1;
 }
 
-/* by a drawn profile, many with a bad number, some with two */
-static LogInput compared_log(int i)
-{
-    LogInput l = i ? i % 3 ? drawn_log() : i % 9 ? clay_log() : limit_log() : fixed_log();
-    l.profile = 1 + drawn(2);
-    if (i % 4 == 1) l.thicknesses[drawn(LAYERS)] = drawn(3) ? 0 : 99;
-    if (i % 4 == 2) l.values[drawn(LAYERS)] = drawn(60);
-    if (i % 8 == 3) l.kinds[drawn(LAYERS)] = drawn(6);
-    if (i % 11 == 5) l.profile = 3 * drawn(2);
-    return l;
-}
-
-/* the fixed job, and with another R, by both profiles */
-static int same_fixed(void)
-{
-    for (size_t n = 1; n <= LEVELS; n++)
-        for (int i = 0; i < 4; i++) {
-            JobInput p = i < 2 ? fixed_job(n) : ductile_job(n);
-            p.site.profile = 1 + i % 2;
-            if (!same_job(&p) || !near_job(&p)) return 0;
-        }
-    return 1;
-}
-
 static int same(void)
 {
-    if (!same_fixed()) return 0;
+    for (size_t n = 1; n <= LEVELS; n++) {
+        JobInput p = fixed_job(n);
+        if (!same_job(&p) || !near_job(&p)) return 0;
+    }
     for (int i = 0; i < COMPARED; i++) {
         size_t n = 1 + drawn(LEVELS);
-        JobInput p = i % 5 ? either_job(n) : spoilt_job(n);
-        LogInput l = compared_log(i);
+        JobInput p = i % 5 ? drawn_job(n) : spoilt_job(n);
+        LogInput l = i ? i % 3 ? drawn_log() : clay_log() : fixed_log();
         char text[BYTES + 64];
         size_t length = sheet_of(&p, text);
+        if (i % 4 == 1) l.thicknesses[drawn(LAYERS)] = drawn(3) ? 0 : 99;
+        if (i % 4 == 2) l.values[drawn(LAYERS)] = drawn(60);
+        if (i % 8 == 3) l.kinds[drawn(LAYERS)] = drawn(6);
         if (i % 7 == 3) text[drawn(length)] = '0' + drawn(12);
-        if (i % 7 == 5) text[drawn(length)] = '\t';
         if (i % 100 == 99) long_sheet(&p, text, drawn_weight), length = BYTES;
         if (!same_job(&p) || !same_log(&l) || !same_sheet(text, length)) return 0;
     }
@@ -235,12 +216,9 @@ int main(void)
     refused.frame.calculated = 60001;
     time_jobs("job of 1 level", 1, 100, fixed_job(1), drawn_job);
     time_drawn("job of 1 level, R alone", 1, 100, ductile_job);
-    time_drawn("job of 1 level, the draft", 1, 100, draft_job);
     time_jobs("job of 10 levels", 10, 200, fixed_job(10), drawn_job);
-    time_drawn("job of 10 levels, the draft", 10, 200, draft_job);
     time_jobs("job of 25 levels", 25, 400, fixed_job(25), drawn_job);
     time_jobs("job of 50 levels", 50, 800, fixed_job(50), drawn_job);
-    time_drawn("job of 50 levels, the draft", 50, 800, draft_job);
     time_jobs("refused job of 50 levels", 50, 80, refused, spoilt_job);
     time_sheets("sheet of 1 level", 1, 400);
     time_sheets("sheet of 50 levels", 50, 5000);

@@ -7,13 +7,11 @@ typedef int64_t i64;
 
 static inline u64 up(u64 n, u64 d) { return (n + d - 1) / d; }
 
-/* F_a and F_v by profile and class, the last column twice: beyond it nothing changes */
-static const u64 FA[6][6] = {{10000, 10000, 10000, 10000, 10000, 10000}, {11000, 11000, 10000, 10000, 10000, 10000},
-                             {12000, 12000, 11000, 10000, 10000, 10000}, {10000, 10000, 10000, 10000, 10000, 10000},
-                             {12000, 12000, 11000, 11000, 10000, 10000}, {14000, 13000, 12000, 12000, 11000, 11000}};
-static const u64 FV[6][6] = {{10000, 10000, 10000, 10000, 10000, 10000}, {15000, 14000, 13000, 12000, 11000, 11000},
-                             {18000, 17000, 16000, 15000, 14000, 14000}, {10000, 10000, 10000, 10000, 10000, 10000},
-                             {15000, 14000, 13000, 13000, 12000, 12000}, {17000, 16000, 15000, 15000, 14000, 14000}};
+/* Table 2, the last column twice: beyond it nothing changes */
+static const u64 FA[3][6] = {{10000, 10000, 10000, 10000, 10000, 10000}, {11000, 11000, 10000, 10000, 10000, 10000},
+                             {12000, 12000, 11000, 10000, 10000, 10000}};
+static const u64 FV[3][6] = {{10000, 10000, 10000, 10000, 10000, 10000}, {15000, 14000, 13000, 12000, 11000, 11000},
+                             {18000, 17000, 16000, 15000, 14000, 14000}};
 
 /* A, by F_a, and B, by F_v */
 static inline u64 fa(u64 c, u64 x)
@@ -68,13 +66,6 @@ static inline u64 modified(u64 q)
     return up(7 * q, 10);
 }
 
-static inline u64 draft_modified(u64 q)
-{
-    if (q <= 4000000) return q;
-    if (q <= 9000000) return up(55 * q + 180000000, 100);
-    return up(3 * q, 4);
-}
-
 static inline __attribute__((always_inline)) u64 lower_q(u64 a, u64 b, u64 t, u64 thirds, u64 square)
 {
     u64 ta = t * a, sa = spectrum(a, b, ta, t), f;
@@ -86,20 +77,6 @@ static inline __attribute__((always_inline)) u64 lower_q(u64 a, u64 b, u64 t, u6
         else f = k - up((k - 10000000) * (200 * b - ta), 200 * b);
     }
     return up(sa * 10000000, f);
-}
-
-/* p, by A and B without factors */
-static inline u64 blended(u64 a, u64 b, u64 t, u64 design, u64 square)
-{
-    u64 ta = t * a, sa = spectrum(a, b, ta, t), f;
-    if (1000 * b <= ta) f = up(design, 3);
-    else {
-        u64 k = root_of(square) + 1;
-        if (600 * b <= ta) f = k + up((design - 3 * k) * (ta - 600 * b), 1200 * b);
-        else if (200 * b <= ta) f = k;
-        else f = k - (k - 10000000) * (200 * b - ta) / (200 * b);
-    }
-    return 10 * sa <= 3 * f ? sa : 10 * sa <= 8 * f ? up(520 * sa + 144 * f, 1000) : up(7 * sa, 10);
 }
 
 /* the part of V_D at the roof, in 100,000: none up to 700 ms, then 0.07 a second, at most a quarter */
@@ -121,23 +98,26 @@ u64 OF(job)(const Site *s, const Frame *f, const u64 *w, u64 n, const u64 *h, u6
     bad |= (s->ssm - 70 > 30) | (s->ssm % 10 != 0) | (s->s1m - 40 > 15) | (s->s1m % 5 != 0);
     bad |= (s->nad - 100 > 50) | (s->nvd - 100 > 100) | (s->nam - 100 > 50) | (s->nvm - 100 > 100) | (s->class_number - 1 > 2);
     bad |= (f->r - 100 > 500) | ((f->i != 100) & (f->i != 125) & (f->i != 150)) | (f->alpha_y - 100 > 100) | (f->kind - 1 > 3);
-    bad |= (f->calculated > 60000) | !known(s->profile);
+    bad |= f->calculated > 60000;
     if (bad) {
     refuse:
         return refuse_job(reply, OF(judged)(s, f, w, n, h, m, room));
     }
-    u64 T = period(f->kind, f->calculated, below), c = 3 * s->profile + s->class_number - 4;
+    u64 T = period(f->kind, f->calculated, below), c = s->class_number - 1;
     u64 a = fa(c, s->ssd * s->nad), b = fv(c, s->s1d * s->nvd), am = fa(c, s->ssm * s->nam), bm = fv(c, s->s1m * s->nvm);
-    u64 design = (2 * f->r + 100) * 100000, mce = 3 * f->r * 100000;
+    u64 ap = fa(c, 100 * s->ssd), bp = fv(c, 100 * s->s1d), design = (2 * f->r + 100) * 100000, mce = 3 * f->r * 100000;
     u64 q = lower_q(a, b, T, design, 100000000000000 * (f->r - 25) / 75), qm = lower_q(am, bm, T, mce, 100000000000000 * (f->r - 50) / 50);
-    u64 iw = f->i * W, d = 14000 * f->alpha_y, v, vm, star = 0;
-    if (s->profile == RUKESHOMAJI_DRAFT) v = up(iw * draft_modified(q), d), vm = up(iw * draft_modified(qm), d);
+    u64 ta = T * ap, sa = spectrum(ap, bp, ta, T), uf;
+    if (1000 * bp <= ta) uf = up(design, 3);
     else {
-        v = up(iw * modified(q), d), vm = up(iw * modified(qm), d);
-        u64 ap = fa(c, 100 * s->ssd), bp = fv(c, 100 * s->s1d);
-        star = up(iw * blended(ap, bp, T, design, (100000000000000 * (f->r - 25) - 1) / 75), 3 * d);
+        u64 k = root_of((100000000000000 * (f->r - 25) - 1) / 75) + 1;
+        if (600 * bp <= ta) uf = k + up((design - 3 * k) * (ta - 600 * bp), 1200 * bp);
+        else if (200 * bp <= ta) uf = k;
+        else uf = k - (k - 10000000) * (200 * bp - ta) / (200 * bp);
     }
-    u64 vd = v > vm ? v : vm;
+    u64 p = 10 * sa <= 3 * uf ? sa : 10 * sa <= 8 * uf ? up(520 * sa + 144 * uf, 1000) : up(7 * sa, 10);
+    u64 iw = f->i * W, d = 14000 * f->alpha_y;
+    u64 v = up(iw * modified(q), d), vm = up(iw * modified(qm), d), star = up(iw * p, 3 * d), vd = v > vm ? v : vm;
     vd = star > vd ? star : vd;
     u64 ft = up(roof_part(T) * vd, 100000), px = 0, above = 0, moment = 0, part = vd - ft;
     double inv = 1.0 / (double)(i64)P;

@@ -19,10 +19,9 @@ __attribute__((constructor)) static void make(void)
     for (u64 q = 1; q <= 400; q++) vel[2][q] = clay_velocity(q), inverse[2][q] = 1.0 / vel[2][q];
 }
 
-u64 OF(site_class)(u64 profile, const u64 *d, u64 n, const u64 *kinds, u64 nk, const u64 *values, u64 nv, ClassReply *reply)
+u64 OF(site_class)(const u64 *d, u64 n, const u64 *kinds, u64 nk, const u64 *values, u64 nv, ClassReply *reply)
 {
     if (nk != n || nv != n) return reply_class(reply, 2, 0, 0);
-    if (!known(profile)) return reply_class(reply, 27, 0, 0);
     if (n < 1 || n > 40) return reply_class(reply, 13, 0, 0);
     u64 sum = 0, bad = 0, zero = 0;
     for (size_t i = 0; i < n; i++) zero |= d[i] == 0, bad |= d[i] > 3000, sum += d[i];
@@ -47,5 +46,7 @@ u64 OF(site_class)(u64 profile, const u64 *d, u64 n, const u64 *kinds, u64 nk, c
             lower += q, upper += q + (q * v != ns);
         }
     }
-    return reply_class(reply, 0, 0, class_of(profile, upper, lower));
+    if (27 * upper < 3000000000) return reply_class(reply, 0, 0, 1);
+    if (18 * lower > 3000000000) return reply_class(reply, 0, 0, 3);
+    return reply_class(reply, 0, 0, 2);
 }

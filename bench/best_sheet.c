@@ -57,22 +57,18 @@ static inline const uint8_t *numbers(const uint8_t *p, const uint8_t *end, int c
     return p < end && *p == '\n' ? p + 1 : NULL;
 }
 
-/* 7 to 10 numbers of a site and LF, or NULL */
-static inline const uint8_t *site_numbers(const uint8_t *p, const uint8_t *end, u64 *values, int *count)
-{
-    for (*count = 0; *count < 7 || (*count < 10 && p < end && *p == '\t'); ++*count)
-        if (!(p = digits(p, end, values + *count))) return NULL;
-    return p < end && *p == '\n' ? p + 1 : NULL;
-}
-
 u64 OF(sheet)(const char *s, u64 length, char *listing, SheetReply *reply)
 {
     const uint8_t *p = (const uint8_t *)s, *end = p + length;
     uint8_t *out = (uint8_t *)listing;
-    u64 site[10], frame[5], level[2], w[50], h[50], forces[50], shears[50], moments[50];
-    int count;
+    u64 site[9], frame[5], level[2], w[50], h[50], forces[50], shears[50], moments[50];
     if (length > 4096) REFUSED(17, 0);
-    if (length < 4 || memcmp(p, "site", 4) || !(p = site_numbers(p + 4, end, site, &count))) REFUSED(16, 1);
+    if (length < 4 || memcmp(p, "site", 4)) REFUSED(16, 1);
+    p += 4;
+    for (int i = 0; i < 7; i++)
+        if (!(p = digits(p, end, site + i))) REFUSED(16, 1);
+    if (p < end && *p == '\n') site[8] = site[6], site[6] = site[4], site[7] = site[5], p++;
+    else if (!(p = numbers(p, end, 2, site + 7))) REFUSED(16, 1);
     if (end - p < 5 || memcmp(p, "frame", 5) || !(p = numbers(p + 5, end, 5, frame))) REFUSED(16, 2);
     size_t n = 0;
     for (; p < end; n++) {
@@ -80,7 +76,7 @@ u64 OF(sheet)(const char *s, u64 length, char *listing, SheetReply *reply)
         if (n < 50) w[n] = level[0], h[n] = level[1];
     }
     if (n > 50) REFUSED(1, 0);
-    Site si = site_of(site, count);
+    Site si = {site[0], site[1], site[2], site[3], site[4], site[5], site[6], site[7], site[8]};
     Frame fr = {frame[0], frame[1], frame[2], frame[3], frame[4]};
     JobReply j;
     u64 number = OF(job)(&si, &fr, w, n, h, n, forces, n, shears, n, moments, n, &j);

@@ -1,5 +1,5 @@
 /* count LEVELS JOBS: one job of the fixed input, then a job and a sheet of each of a pool of drawn ones; then districts of JOBS jobs, of the fixed
- * input and drawn, each in one call and in calls without buffers; then a job of each of a pool by the draft, for bench/growth to count in. */
+ * input and drawn, each in one call and in calls without buffers, for bench/growth to count in. */
 #include <stdio.h>
 #include <stdlib.h>
 #include "inputs.h"
@@ -37,8 +37,6 @@ COUNTED(core_fixed_job, base_shear(rukeshomaji_job))
 COUNTED(core_drawn_job, base_shear(rukeshomaji_job))
 COUNTED(plain_fixed_job, base_shear(plain_job))
 COUNTED(plain_drawn_job, base_shear(plain_job))
-COUNTED(core_draft_job, base_shear(rukeshomaji_job))
-COUNTED(plain_draft_job, base_shear(plain_job))
 COUNTED(core_drawn_sheet, listed(rukeshomaji_sheet))
 COUNTED(plain_drawn_sheet, listed(plain_sheet))
 COUNTED(fixed_district_call, (one_call(&district), 0))
@@ -62,10 +60,6 @@ int main(int count, char **words)
     for (int i = 0; i < DISTRICTS; i++) {
         drawn_district(&district, jobs, levels);
         drawn_district_call(), drawn_single_calls();
-    }
-    for (int i = 0; i < POOL; i++) {
-        job = draft_job(levels);
-        core_draft_job(), plain_draft_job();
     }
     return 0;
 }

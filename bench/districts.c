@@ -45,7 +45,7 @@ static int same(void)
 {
     for (int i = 0; i < COMPARED; i++) {
         DistrictInput *d = districts + i % DISTRICTS;
-        (i % 4 ? either_district : spoilt_district)(d, 1 + drawn(JOBS), 0);
+        (i % 4 ? drawn_district : spoilt_district)(d, 1 + drawn(JOBS), 0);
         if (!same_district(d)) return 0;
     }
     return 1;

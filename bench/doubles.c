@@ -3,18 +3,8 @@
 #include "rules.h"
 
 static const double COLUMNS_A[] = {0.5, 0.6, 0.7, 0.8, 0.9}, COLUMNS_V[] = {0.3, 0.35, 0.4, 0.45, 0.5};
-
-/* by profile: F_a and F_v, by class, and the ratio: as it is up to `first`, times and plus up to `last`, times beyond */
-typedef struct {
-    double fa[3][5], fv[3][5], first, last, times, plus, beyond;
-} Profile;
-
-static const Profile PROFILES[] = {
-    {{{1, 1, 1, 1, 1}, {1.1, 1.1, 1, 1, 1}, {1.2, 1.2, 1.1, 1, 1}},
-     {{1, 1, 1, 1, 1}, {1.5, 1.4, 1.3, 1.2, 1.1}, {1.8, 1.7, 1.6, 1.5, 1.4}}, 0.3, 0.8, 0.52, 0.144, 0.7},
-    {{{1, 1, 1, 1, 1}, {1.2, 1.2, 1.1, 1.1, 1}, {1.4, 1.3, 1.2, 1.2, 1.1}},
-     {{1, 1, 1, 1, 1}, {1.5, 1.4, 1.3, 1.3, 1.2}, {1.7, 1.6, 1.5, 1.5, 1.4}}, 0.4, 0.9, 0.55, 0.18, 0.75},
-};
+static const double FA[3][5] = {{1, 1, 1, 1, 1}, {1.1, 1.1, 1, 1, 1}, {1.2, 1.2, 1.1, 1, 1}};
+static const double FV[3][5] = {{1, 1, 1, 1, 1}, {1.5, 1.4, 1.3, 1.2, 1.1}, {1.8, 1.7, 1.6, 1.5, 1.4}};
 
 static double between(const double *columns, const double *values, double x)
 {
@@ -43,20 +33,7 @@ static double factor(double a, double b, double t, double capacity)
     return root + (root - 1) * (t - 0.2 * t0) / (0.2 * t0);
 }
 
-static double modified(const Profile *by, double q)
-{
-    return q <= by->first ? q : q <= by->last ? by->times * q + by->plus : by->beyond * q;
-}
-
-/* V* over a third of the share; the draft has none */
-static double blended(const Profile *by, const Site *s, double t, double design)
-{
-    if (s->profile == RUKESHOMAJI_DRAFT) return 0;
-    double ss = s->ssd / 100.0, s1 = s->s1d / 100.0;
-    double a = between(COLUMNS_A, by->fa[s->class_number - 1], ss) * ss, b = between(COLUMNS_V, by->fv[s->class_number - 1], s1) * s1;
-    double f = factor(a, b, t, design);
-    return f * modified(by, spectrum(a, b, t) / f);
-}
+static double modified(double q) { return q <= 0.3 ? q : q <= 0.8 ? 0.52 * q + 0.144 : 0.7 * q; }
 
 u64 OF(job)(const Site *s, const Frame *f, const u64 *w, u64 n, const u64 *h, u64 m, u64 *forces, u64 nf, u64 *shears, u64 ns,
             u64 *moments, u64 nm, JobReply *reply)
@@ -71,16 +48,16 @@ u64 OF(job)(const Site *s, const Frame *f, const u64 *w, u64 n, const u64 *h, u6
     t = floor(1000 * t);
     if (f->calculated) t = fmin(f->calculated, floor(1.4 * t));
     t /= 1000;
-    const Profile *by = PROFILES + s->profile - 1;
-    const double *fa = by->fa[s->class_number - 1], *fv = by->fv[s->class_number - 1];
+    const double *fa = FA[s->class_number - 1], *fv = FV[s->class_number - 1];
     double ss = s->ssd * s->nad / 1e4, s1 = s->s1d * s->nvd / 1e4, ms = s->ssm * s->nam / 1e4, m1 = s->s1m * s->nvm / 1e4;
-    double r = f->r / 100.0, design = 1 + (r - 1) / 1.5;
+    double ps = s->ssd / 100.0, p1 = s->s1d / 100.0, r = f->r / 100.0, design = 1 + (r - 1) / 1.5;
     double a = between(COLUMNS_A, fa, ss) * ss, b = between(COLUMNS_V, fv, s1) * s1;
     double am = between(COLUMNS_A, fa, ms) * ms, bm = between(COLUMNS_V, fv, m1) * m1;
-    double share = f->i / 1.4 / f->alpha_y * W;
-    double v = share * modified(by, spectrum(a, b, t) / factor(a, b, t, design));
-    double vm = share * modified(by, spectrum(am, bm, t) / factor(am, bm, t, r));
-    double star = share / 3 * blended(by, s, t, design), vd = fmax(fmax(v, vm), star);
+    double ap = between(COLUMNS_A, fa, ps) * ps, bp = between(COLUMNS_V, fv, p1) * p1;
+    double share = f->i / 1.4 / f->alpha_y * W, fs = factor(ap, bp, t, design);
+    double v = share * modified(spectrum(a, b, t) / factor(a, b, t, design));
+    double vm = share * modified(spectrum(am, bm, t) / factor(am, bm, t, r));
+    double star = share / 3 * fs * modified(spectrum(ap, bp, t) / fs), vd = fmax(fmax(v, vm), star);
     double ft = t <= 0.7 ? 0 : fmin(0.07 * t, 0.25) * vd, px = 0, above = 0, moment = 0;
     for (size_t x = n; x-- > 0;) {
         px += (double)w[x] * h[x];

@@ -14,7 +14,7 @@ u64 drawn(u64 count)
 
 JobInput fixed_job(size_t levels)
 {
-    JobInput p = {{70, 40, 90, 50, 112, 123, 112, 123, 2, RUKESHOMAJI_OURS}, {2, 700, 480, 125, 150}, levels, {0}, {0}, 0};
+    JobInput p = {{70, 40, 90, 50, 112, 123, 112, 123, 2}, {2, 700, 480, 125, 150}, levels, {0}, {0}};
     for (size_t x = 0; x < levels; x++) p.weights[x] = 5000 + 10 * x, p.heights[x] = 38 * (x + 1);
     return p;
 }
@@ -24,26 +24,12 @@ JobInput fixed_job(size_t levels)
 JobInput drawn_job(size_t levels)
 {
     JobInput p = {{50 + 10 * drawn(4), 30 + 5 * drawn(4), 70 + 10 * drawn(4), 40 + 5 * drawn(4), 100 + drawn(51), 100 + drawn(101), 100, 100,
-                   1 + drawn(3), RUKESHOMAJI_OURS},
+                   1 + drawn(3)},
                   {1 + drawn(4), drawn(2) ? 0 : 1 + drawn(3000), 100 + drawn(501), 100 + 25 * drawn(3), 100 + drawn(101)},
-                  levels, {0}, {0}, 0};
+                  levels, {0}, {0}};
     u64 storey = 2000 / levels < 45 ? 2000 / levels : 45, height = 0;
     for (size_t x = 0; x < levels; x++) p.weights[x] = 1 + drawn(20000), p.heights[x] = height += 1 + drawn(storey);
     p.site.nam = p.site.nad % 2 ? 250 - p.site.nad : p.site.nad, p.site.nvm = p.site.nad % 2 ? 300 - p.site.nvd : p.site.nvd;
-    return p;
-}
-
-JobInput draft_job(size_t levels)
-{
-    JobInput p = drawn_job(levels);
-    p.site.profile = RUKESHOMAJI_DRAFT;
-    return p;
-}
-
-JobInput either_job(size_t levels)
-{
-    JobInput p = drawn_job(levels);
-    p.site.profile = 1 + drawn(2), p.named = drawn(2);
     return p;
 }
 
@@ -56,14 +42,13 @@ JobInput ductile_job(size_t levels)
 
 JobInput spoilt_job(size_t levels)
 {
-    JobInput p = either_job(levels);
-    switch (drawn(7)) {
+    JobInput p = drawn_job(levels);
+    switch (drawn(6)) {
     case 0: p.weights[drawn(levels)] = 0; break;
     case 1: p.heights[drawn(levels)] = 0; break;
     case 2: p.site.ssm = 75; break;
     case 3: *(p.site.nad % 2 ? &p.site.nvm : &p.site.nvd) = 201; break;
     case 4: p.frame.i = 110; break;
-    case 5: p.site.profile = 3 * drawn(2); break;
     default: p.frame.calculated = 60001;
     }
     return p;
@@ -91,19 +76,18 @@ static void lay_district(DistrictInput *d, size_t jobs, size_t levels, JobInput 
 
 void fixed_district(DistrictInput *d, size_t jobs, size_t levels) { lay_district(d, jobs, levels, fixed_job, 1); }
 void drawn_district(DistrictInput *d, size_t jobs, size_t levels) { lay_district(d, jobs, levels, drawn_job, 2); }
-void either_district(DistrictInput *d, size_t jobs, size_t levels) { lay_district(d, jobs, levels, either_job, 2); }
 void spoilt_district(DistrictInput *d, size_t jobs, size_t levels) { lay_district(d, jobs, levels, spoilt_job, 1); }
 
 LogInput fixed_log(void)
 {
-    LogInput p = {.profile = RUKESHOMAJI_OURS};
+    LogInput p;
     for (size_t i = 0; i < LAYERS; i++) p.thicknesses[i] = 75, p.kinds[i] = 2 + i % 2, p.values[i] = 2 + i % 24;
     return p;
 }
 
 LogInput drawn_log(void)
 {
-    LogInput p = {.profile = RUKESHOMAJI_OURS};
+    LogInput p;
     u64 left = 3000;
     for (size_t i = 0; i < LAYERS; i++) {
         u64 later = LAYERS - 1 - i, most = later ? 2 * (left - later) / (later + 1) : left;
@@ -123,23 +107,13 @@ LogInput clay_log(void)
     return p;
 }
 
-LogInput limit_log(void)
-{
-    LogInput p = drawn_log();
-    u64 value = 1799 + 900 * drawn(3) + drawn(3);
-    for (size_t i = 0; i < LAYERS; i++) p.kinds[i] = 1, p.values[i] = value;
-    return p;
-}
-
 static size_t first_lines(const JobInput *p, char *out)
 {
     const Site *s = &p->site;
     const Frame *f = &p->frame;
     size_t n = sprintf(out, "site\t%lu\t%lu\t%lu\t%lu\t%lu\t%lu", s->ssd, s->s1d, s->ssm, s->s1m, s->nad, s->nvd);
     if (s->nam != s->nad || s->nvm != s->nvd) n += sprintf(out + n, "\t%lu\t%lu", s->nam, s->nvm);
-    n += sprintf(out + n, "\t%lu", s->class_number);
-    if (p->named || s->profile != RUKESHOMAJI_OURS) n += sprintf(out + n, "\t%lu", s->profile);
-    return n + sprintf(out + n, "\nframe\t%lu\t%lu\t%lu\t%lu\t%lu\n", f->kind, f->calculated, f->r, f->i, f->alpha_y);
+    return n + sprintf(out + n, "\t%lu\nframe\t%lu\t%lu\t%lu\t%lu\t%lu\n", s->class_number, f->kind, f->calculated, f->r, f->i, f->alpha_y);
 }
 
 size_t sheet_of(const JobInput *p, char *out)

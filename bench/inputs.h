@@ -8,11 +8,10 @@ typedef struct {
     Frame frame;
     size_t levels;
     u64 weights[LEVELS], heights[LEVELS];
-    int named;                                    /* whether its sheet names ours too, which it need not */
 } JobInput;
 
 typedef struct {
-    u64 profile, thicknesses[LAYERS], kinds[LAYERS], values[LAYERS];
+    u64 thicknesses[LAYERS], kinds[LAYERS], values[LAYERS];
 } LogInput;
 
 typedef struct {
@@ -28,25 +27,20 @@ typedef struct {
 
 u64 drawn(u64 count);                             /* below count */
 
-/* by ours, where no other profile is said */
 JobInput fixed_job(size_t levels);
 JobInput drawn_job(size_t levels);
-JobInput draft_job(size_t levels);                /* a drawn job by the draft */
-JobInput either_job(size_t levels);               /* a drawn job by a drawn profile */
 JobInput ductile_job(size_t levels);              /* the fixed job with another R, drawn */
-JobInput spoilt_job(size_t levels);               /* a drawn job by a drawn profile, with one number that is refused */
+JobInput spoilt_job(size_t levels);               /* a drawn job with one number that is refused */
 RukeshomajiDistrictJob district_job(const JobInput *, u64 basin, u64 start);  /* in the Basin, where it is asked for, in a drawn zone */
 
 /* so many jobs of so many levels each, or of 1 to LEVELS where they are 0, each on levels of its own */
 void fixed_district(DistrictInput *, size_t jobs, size_t levels);     /* the fixed job over and over, on its site */
 void drawn_district(DistrictInput *, size_t jobs, size_t levels);     /* drawn jobs, half of them in the Basin */
-void either_district(DistrictInput *, size_t jobs, size_t levels);    /* likewise, each on a site by a drawn profile */
 void spoilt_district(DistrictInput *, size_t jobs, size_t levels);    /* spoilt jobs on sites */
 
 LogInput fixed_log(void);
 LogInput drawn_log(void);
 LogInput clay_log(void);                          /* a drawn log with soft clay in it */
-LogInput limit_log(void);                         /* every layer at a limit between classes, or 0.1 m/s beside it */
 
 /* into BYTES bytes, and how many were written */
 size_t sheet_of(const JobInput *, char *);

@@ -3,20 +3,8 @@
 #include "rules.h"
 
 static const u64 COLUMNS_A[] = {5000, 6000, 7000, 8000, 9000}, COLUMNS_V[] = {3000, 3500, 4000, 4500, 5000};
-
-/* by profile: F_a and F_v, by class, and the ratio: as it is up to `first`, times and plus up to `last`, times beyond, in hundredths */
-typedef struct {
-    u64 fa[3][5], fv[3][5], first, last, times, plus, beyond;
-} Profile;
-
-static const Profile PROFILES[] = {
-    {{{10000, 10000, 10000, 10000, 10000}, {11000, 11000, 10000, 10000, 10000}, {12000, 12000, 11000, 10000, 10000}},
-     {{10000, 10000, 10000, 10000, 10000}, {15000, 14000, 13000, 12000, 11000}, {18000, 17000, 16000, 15000, 14000}},
-     3000000, 8000000, 52, 144000000, 70},
-    {{{10000, 10000, 10000, 10000, 10000}, {12000, 12000, 11000, 11000, 10000}, {14000, 13000, 12000, 12000, 11000}},
-     {{10000, 10000, 10000, 10000, 10000}, {15000, 14000, 13000, 13000, 12000}, {17000, 16000, 15000, 15000, 14000}},
-     4000000, 9000000, 55, 180000000, 75},
-};
+static const u64 FA[3][5] = {{10000, 10000, 10000, 10000, 10000}, {11000, 11000, 10000, 10000, 10000}, {12000, 12000, 11000, 10000, 10000}};
+static const u64 FV[3][5] = {{10000, 10000, 10000, 10000, 10000}, {15000, 14000, 13000, 12000, 11000}, {18000, 17000, 16000, 15000, 14000}};
 
 static u64 up(u64 n, u64 d) { return n / d + (n % d != 0); }
 
@@ -85,11 +73,11 @@ static u64 upper_factor(u64 a, u64 b, u64 t, u64 thirds, u64 n, u64 d)
     return k - (k - 10000000) * (200 * b - ta) / (200 * b);
 }
 
-static u64 modified(const Profile *by, u64 q)
+static u64 modified(u64 q)
 {
-    if (q <= by->first) return q;
-    if (q <= by->last) return up(by->times * q + by->plus, 100);
-    return up(by->beyond * q, 100);
+    if (q <= 3000000) return q;
+    if (q <= 8000000) return up(52 * q + 144000000, 100);
+    return up(7 * q, 10);
 }
 
 static u64 blended(u64 sa, u64 f)
@@ -97,15 +85,6 @@ static u64 blended(u64 sa, u64 f)
     if (10 * sa <= 3 * f) return sa;
     if (10 * sa <= 8 * f) return up(520 * sa + 144 * f, 1000);
     return up(7 * sa, 10);
-}
-
-/* V*, which the draft does not have */
-static u64 star_shear(const Site *s, const Frame *f, const u64 *fa, const u64 *fv, u64 T, u64 W)
-{
-    if (s->profile == RUKESHOMAJI_DRAFT) return 0;
-    u64 ss = 100 * s->ssd, s1 = 100 * s->s1d, a = between(COLUMNS_A, fa, ss) * ss, b = between(COLUMNS_V, fv, s1) * s1;
-    u64 p = blended(spectrum(a, b, T), upper_factor(a, b, T, (2 * f->r + 100) * 100000, f->r - 25, 75));
-    return up(f->i * p * W, 42000 * f->alpha_y);
 }
 
 /* the part of V_D at the roof, in 100,000: none up to 700 ms, then 0.07 a second, at most a quarter */
@@ -120,15 +99,17 @@ u64 OF(job)(const Site *s, const Frame *f, const u64 *w, u64 n, const u64 *h, u6
     u64 W = 0, P = 0;
     for (size_t x = 0; x < n; x++) W += w[x], P += w[x] * h[x];
     u64 T = period(f, h[n - 1]);
-    const Profile *by = PROFILES + s->profile - 1;
-    const u64 *fa = by->fa[s->class_number - 1], *fv = by->fv[s->class_number - 1];
-    u64 ss = s->ssd * s->nad, s1 = s->s1d * s->nvd, ms = s->ssm * s->nam, m1 = s->s1m * s->nvm;
+    const u64 *fa = FA[s->class_number - 1], *fv = FV[s->class_number - 1];
+    u64 ss = s->ssd * s->nad, s1 = s->s1d * s->nvd, ms = s->ssm * s->nam, m1 = s->s1m * s->nvm, ps = 100 * s->ssd, p1 = 100 * s->s1d;
     u64 a = between(COLUMNS_A, fa, ss) * ss, b = between(COLUMNS_V, fv, s1) * s1;
     u64 am = between(COLUMNS_A, fa, ms) * ms, bm = between(COLUMNS_V, fv, m1) * m1;
-    u64 q = up(spectrum(a, b, T) * 10000000, lower_factor(a, b, T, (2 * f->r + 100) * 100000, f->r - 25, 75));
-    u64 qm = up(spectrum(am, bm, T) * 10000000, lower_factor(am, bm, T, 3 * f->r * 100000, f->r - 50, 50));
-    u64 v = up(f->i * modified(by, q) * W, 14000 * f->alpha_y), vm = up(f->i * modified(by, qm) * W, 14000 * f->alpha_y);
-    u64 star = star_shear(s, f, fa, fv, T, W), vd = v > vm ? v : vm;
+    u64 ap = between(COLUMNS_A, fa, ps) * ps, bp = between(COLUMNS_V, fv, p1) * p1;
+    u64 design = (2 * f->r + 100) * 100000, mce = 3 * f->r * 100000;
+    u64 q = up(spectrum(a, b, T) * 10000000, lower_factor(a, b, T, design, f->r - 25, 75));
+    u64 qm = up(spectrum(am, bm, T) * 10000000, lower_factor(am, bm, T, mce, f->r - 50, 50));
+    u64 p = blended(spectrum(ap, bp, T), upper_factor(ap, bp, T, design, f->r - 25, 75));
+    u64 v = up(f->i * modified(q) * W, 14000 * f->alpha_y), vm = up(f->i * modified(qm) * W, 14000 * f->alpha_y);
+    u64 star = up(f->i * p * W, 42000 * f->alpha_y), vd = v > vm ? v : vm;
     if (star > vd) vd = star;
     u64 ft = up(roof_part(T) * vd, 100000), px = 0, above = 0;
     for (size_t x = n; x-- > 0;) {
@@ -162,10 +143,9 @@ static u64 velocity(u64 kind, u64 value)
     return lo;
 }
 
-u64 OF(site_class)(u64 profile, const u64 *d, u64 n, const u64 *kinds, u64 nk, const u64 *values, u64 nv, ClassReply *reply)
+u64 OF(site_class)(const u64 *d, u64 n, const u64 *kinds, u64 nk, const u64 *values, u64 nv, ClassReply *reply)
 {
     if (nk != n || nv != n) return reply_class(reply, 2, 0, 0);
-    if (!known(profile)) return reply_class(reply, 27, 0, 0);
     if (n < 1 || n > 40) return reply_class(reply, 13, 0, 0);
     for (size_t i = 0; i < n; i++)
         if (d[i] == 0) return reply_class(reply, 14, i + 1, 0);
@@ -184,5 +164,7 @@ u64 OF(site_class)(u64 profile, const u64 *d, u64 n, const u64 *kinds, u64 nk, c
         upper += up(100000000 * d[i], v);
         lower += 100000000 * d[i] / v;
     }
-    return reply_class(reply, 0, 0, class_of(profile, upper, lower));
+    if (27 * upper < 3000000000) return reply_class(reply, 0, 0, 1);
+    if (18 * lower > 3000000000) return reply_class(reply, 0, 0, 3);
+    return reply_class(reply, 0, 0, 2);
 }

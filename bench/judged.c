@@ -1,4 +1,4 @@
-/* Refusals 1 to 12 and 27 of a job. */
+/* Refusals 1 to 12 of a job. */
 #include "rules.h"
 
 static u64 refusal(u64 number, u64 place) { return number << 32 | place; }
@@ -23,7 +23,6 @@ u64 OF(judged)(const Site *s, const Frame *f, const u64 *w, u64 n, const u64 *h,
         if (h[x] < 1 || h[x] > 2000 || h[x] <= below) return refusal(4, x + 1);
         below = h[x];
     }
-    if (!known(s->profile)) return refusal(27, 0);
     if (!among(ssd, 4, s->ssd)) return refusal(5, 1);
     if (!among(s1d, 4, s->s1d)) return refusal(5, 2);
     if (!among(ssm, 4, s->ssm)) return refusal(5, 3);

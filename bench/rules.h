@@ -13,7 +13,7 @@ typedef RukeshomajiListing SheetReply;
 enum { LONGEST = RUKESHOMAJI_LONGEST_LISTING };
 
 typedef u64 Job(const Site *, const Frame *, const u64 *, u64, const u64 *, u64, u64 *, u64, u64 *, u64, u64 *, u64, JobReply *);
-typedef u64 Log(u64 profile, const u64 *, u64, const u64 *, u64, const u64 *, u64, ClassReply *);
+typedef u64 Log(const u64 *, u64, const u64 *, u64, const u64 *, u64, ClassReply *);
 typedef u64 Sheet(const char *, u64, char *, SheetReply *);
 
 #define JOINED(side, name) side##_##name
@@ -42,21 +42,5 @@ static inline u64 reply_class(ClassReply *reply, u64 number, u64 place, u64 clas
 {
     *reply = (ClassReply){place, class_number};
     return number;
-}
-
-static inline int known(u64 profile) { return profile == RUKESHOMAJI_OURS || profile == RUKESHOMAJI_DRAFT; }
-
-/* by the times of a log, in ns: hard above 270 m/s, by the draft above 360, soft below 180 */
-static inline u64 class_of(u64 profile, u64 upper, u64 lower)
-{
-    if ((profile == RUKESHOMAJI_OURS ? 27 : 36) * upper < 3000000000) return RUKESHOMAJI_HARD;
-    return 18 * lower > 3000000000 ? RUKESHOMAJI_SOFT : RUKESHOMAJI_NORMAL;
-}
-
-/* the site of a line of 7 to 10 numbers: one pair of factors or two, the class, and the profile, or ours */
-static inline Site site_of(const u64 *v, int count)
-{
-    const u64 *m = v + (count < 9 ? 4 : 6);
-    return (Site){v[0], v[1], v[2], v[3], v[4], v[5], m[0], m[1], m[2], count % 2 ? RUKESHOMAJI_OURS : m[3]};
 }
 #endif

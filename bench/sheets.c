@@ -2,7 +2,7 @@
 #include <string.h>
 #include "rules.h"
 
-static inline const uint8_t *field(const uint8_t *p, const uint8_t *end, u64 *value)
+static const uint8_t *field(const uint8_t *p, const uint8_t *end, u64 *value)
 {
     if (!p || p == end || *p != '\t') return NULL;
     const uint8_t *first = ++p;
@@ -18,18 +18,6 @@ static const uint8_t *line(const uint8_t *p, const uint8_t *end, const char *wor
     p += n;
     for (int i = 0; i < count && p; i++) p = field(p, end, values + i);
     return p && p < end && *p == '\n' ? p + 1 : NULL;
-}
-
-/* the line of a site: 7 to 10 numbers */
-static const uint8_t *site_line(const uint8_t *p, const uint8_t *end, Site *site)
-{
-    u64 values[10];
-    int count = 0;
-    if (end - p < 4 || memcmp(p, "site", 4)) return NULL;
-    for (p += 4; count < 10 && p && p < end && *p == '\t'; count++) p = field(p, end, values + count);
-    if (count < 7 || !p || p == end || *p != '\n') return NULL;
-    *site = site_of(values, count);
-    return p + 1;
 }
 
 static uint8_t *put(uint8_t *out, const char *word, const u64 *values, int count)
@@ -59,10 +47,12 @@ u64 OF(sheet)(const char *s, u64 length, char *listing, SheetReply *reply)
 {
     const uint8_t *p = (const uint8_t *)s, *end = p + length;
     uint8_t *out = (uint8_t *)listing;
-    u64 frame[5], level[2], w[50], h[50], forces[50], shears[50], moments[50];
-    Site a;
+    u64 site[9], frame[5], level[2], w[50], h[50], forces[50], shears[50], moments[50];
     if (length > 4096) REFUSED(17, 0);
-    if (!(p = site_line(p, end, &a))) REFUSED(16, 1);
+    const uint8_t *second = line(p, end, "site", 7, site);
+    if (second) site[8] = site[6], site[6] = site[4], site[7] = site[5];
+    else second = line(p, end, "site", 9, site);
+    if (!(p = second)) REFUSED(16, 1);
     if (!(p = line(p, end, "frame", 5, frame))) REFUSED(16, 2);
     size_t n = 0;
     for (; p < end; n++) {
@@ -70,6 +60,7 @@ u64 OF(sheet)(const char *s, u64 length, char *listing, SheetReply *reply)
         if (n < 50) w[n] = level[0], h[n] = level[1];
     }
     if (n > 50) REFUSED(1, 0);
+    Site a = {site[0], site[1], site[2], site[3], site[4], site[5], site[6], site[7], site[8]};
     Frame b = {frame[0], frame[1], frame[2], frame[3], frame[4]};
     JobReply j;
     u64 number = OF(job)(&a, &b, w, n, h, n, forces, n, shears, n, moments, n, &j);

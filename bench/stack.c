@@ -114,7 +114,7 @@ static void *one_log(void *p)
 {
     static ClassReply reply;
     HERE();
-    kept += rukeshomaji_site_class(soil.profile, soil.thicknesses, LAYERS, soil.kinds, LAYERS, soil.values, LAYERS, &reply);
+    kept += rukeshomaji_site_class(soil.thicknesses, LAYERS, soil.kinds, LAYERS, soil.values, LAYERS, &reply);
     return p;
 }
 

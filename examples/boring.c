@@ -15,11 +15,11 @@ int main(void)
                               RUKESHOMAJI_COHESIONLESS};
     uint64_t values[LAYERS] = {8, 25, 40, 12, 35}; /* N = 8; q_u = 0.25 and 0.40 kgf/cm2; N = 12; N = 35 */
     RukeshomajiClass c;
-    if (rukeshomaji_version() / 1000000 != RUKESHOMAJI_VERSION / 1000000) {
-        fprintf(stderr, "the library is of another major version than the header\n");
+    if (rukeshomaji_version() / 1000000 != RUKESHOMAJI_VERSION / 1000000 || rukeshomaji_version() < 2004000) {
+        fprintf(stderr, "the library is of another major version than the header, or older than 2.4.0\n");
         return 2;
     }
-    uint64_t refused = rukeshomaji_site_class(RUKESHOMAJI_OURS, thicknesses, LAYERS, kinds, LAYERS, values, LAYERS, &c);
+    uint64_t refused = rukeshomaji_site_class(thicknesses, LAYERS, kinds, LAYERS, values, LAYERS, &c);
     if (refused) {
         fprintf(stderr, "refused %" PRIu64 " at %" PRIu64 "\n", refused, c.place);
         return 1;

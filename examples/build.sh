@@ -1,5 +1,5 @@
 #!/bin/sh
-# Makes the library for x86-64 Linux from the proved archive: target/lib/librukeshomaji.a and target/lib/librukeshomaji.so.3, by its major
+# Makes the library for x86-64 Linux from the proved archive: target/lib/librukeshomaji.a and target/lib/librukeshomaji.so.2, by its major
 # version, with librukeshomaji.so as a link to it. It needs the kit's command `rt`, which proves the core first where it has changed, and a C
 # compiler.
 #
@@ -12,7 +12,7 @@ mkdir -p target/lib
 echo 'build.sh: proving and building the core, which takes minutes where it has changed' >&2
 rt staticlib linked >target/lib/proved.log 2>&1 || { cat target/lib/proved.log >&2; exit 1; }
 cp target/staticlib/liblinked.a target/lib/librukeshomaji.a
-cc -shared -Wl,-soname,librukeshomaji.so.3 -o target/lib/librukeshomaji.so.3 \
+cc -shared -Wl,-soname,librukeshomaji.so.2 -o target/lib/librukeshomaji.so.2 \
     -Wl,--whole-archive target/lib/librukeshomaji.a -Wl,--no-whole-archive
-ln -sf librukeshomaji.so.3 target/lib/librukeshomaji.so
+ln -sf librukeshomaji.so.2 target/lib/librukeshomaji.so
 echo 'target/lib/librukeshomaji.a target/lib/librukeshomaji.so'

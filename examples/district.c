@@ -15,11 +15,11 @@ static const uint64_t weights[LEVELS] = {5000, 5000, 5000, 3000, 3000, 3000, 250
 
 /* basin, zone, site, frame, start, count; a job in the Basin has no site */
 static const RukeshomajiDistrictJob jobs[JOBS] = {
-    {0, 0, {80, 45, 100, 55, 100, 100, 100, 100, RUKESHOMAJI_HARD, RUKESHOMAJI_OURS}, {RUKESHOMAJI_CONCRETE, 1000, 480, 100, 150}, 0, 3},
-    {1, 3, {0, 0, 0, 0, 0, 0, 0, 0, 0, 0}, {RUKESHOMAJI_CONCRETE, 1000, 480, 100, 150}, 0, 3},
-    {0, 0, {70, 40, 90, 50, 112, 123, 118, 136, RUKESHOMAJI_NORMAL, RUKESHOMAJI_OURS}, {RUKESHOMAJI_STEEL, RUKESHOMAJI_NO_PERIOD, 480, 125, 100}, 3, 4},
-    {0, 0, {70, 40, 90, 50, 112, 123, 118, 136, RUKESHOMAJI_NORMAL, RUKESHOMAJI_OURS}, {RUKESHOMAJI_STEEL, RUKESHOMAJI_NO_PERIOD, 200, 125, 100}, 3, 4},
-    {0, 0, {60, 35, 80, 45, 100, 100, 100, 100, RUKESHOMAJI_SOFT, RUKESHOMAJI_OURS}, {RUKESHOMAJI_OTHER, RUKESHOMAJI_NO_PERIOD, 300, 100, 150}, 5, 3}};
+    {0, 0, {80, 45, 100, 55, 100, 100, 100, 100, RUKESHOMAJI_HARD}, {RUKESHOMAJI_CONCRETE, 1000, 480, 100, 150}, 0, 3},
+    {1, 3, {0, 0, 0, 0, 0, 0, 0, 0, 0}, {RUKESHOMAJI_CONCRETE, 1000, 480, 100, 150}, 0, 3},
+    {0, 0, {70, 40, 90, 50, 112, 123, 118, 136, RUKESHOMAJI_NORMAL}, {RUKESHOMAJI_STEEL, RUKESHOMAJI_NO_PERIOD, 480, 125, 100}, 3, 4},
+    {0, 0, {70, 40, 90, 50, 112, 123, 118, 136, RUKESHOMAJI_NORMAL}, {RUKESHOMAJI_STEEL, RUKESHOMAJI_NO_PERIOD, 200, 125, 100}, 3, 4},
+    {0, 0, {60, 35, 80, 45, 100, 100, 100, 100, RUKESHOMAJI_SOFT}, {RUKESHOMAJI_OTHER, RUKESHOMAJI_NO_PERIOD, 300, 100, 150}, 5, 3}};
 
 /* Number of the job, number and place of its refusal, V, V_M, V*, V_D and T. */
 static void print_row(int job, const RukeshomajiRow *row)
@@ -39,8 +39,8 @@ static void print_report(const RukeshomajiReport *report)
 
 int main(void)
 {
-    if (rukeshomaji_version() / 1000000 != RUKESHOMAJI_VERSION / 1000000) {
-        fprintf(stderr, "the library is of another major version than the header\n");
+    if (rukeshomaji_version() / 1000000 != RUKESHOMAJI_VERSION / 1000000 || rukeshomaji_version() < 2005000) {
+        fprintf(stderr, "the library is of another major version than the header, or older than 2.5.0\n");
         return 2;
     }
     RukeshomajiRow rows[JOBS];

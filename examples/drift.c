@@ -25,7 +25,7 @@ static const int64_t displacements[STOREYS] = {2251, 4001, 2880, 1270, -700, -16
 static const uint64_t floors[FLOORS][2] = {{2500, 2000}, {2400, 1000}, {1800, 1800}};
 
 /* the worked sheet: its site, its frame with that alpha-y, and weights in kN and heights in dm of its levels */
-static const RukeshomajiSite site = {80, 45, 100, 55, 100, 100, 100, 100, RUKESHOMAJI_HARD, RUKESHOMAJI_OURS};
+static const RukeshomajiSite site = {80, 45, 100, 55, 100, 100, 100, 100, RUKESHOMAJI_HARD};
 static const RukeshomajiFrame frame = {RUKESHOMAJI_CONCRETE, 1000, 480, 100, ALPHA_Y};
 static const uint64_t weights[LEVELS] = {5000, 5000, 5000}, heights[LEVELS] = {100, 200, 300};
 
@@ -87,8 +87,8 @@ static int print_moments(void)
 
 int main(void)
 {
-    if (rukeshomaji_version() / 1000000 != RUKESHOMAJI_VERSION / 1000000) {
-        fprintf(stderr, "the library is of another major version than the header\n");
+    if (rukeshomaji_version() / 1000000 != RUKESHOMAJI_VERSION / 1000000 || rukeshomaji_version() < 2006000) {
+        fprintf(stderr, "the library is of another major version than the header, or older than 2.6.0\n");
         return 2;
     }
     return print_base_shear() || print_drift() || print_torsion() || print_moments();

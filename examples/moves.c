@@ -16,7 +16,7 @@ typedef struct {
 
 enum { CALCULATED = 1000, HEIGHT = 300, CHANGES = 8 };
 
-static const RukeshomajiSite site = {80, 45, 100, 55, 100, 100, 100, 100, RUKESHOMAJI_HARD, RUKESHOMAJI_OURS};
+static const RukeshomajiSite site = {80, 45, 100, 55, 100, 100, 100, 100, RUKESHOMAJI_HARD};
 static const Change changes[CHANGES] = {
     {"R", 100, 100, 100, 150, 15000}, {"R", 175, 175, 100, 150, 15000}, {"R", 400, 400, 100, 150, 15000},       {"R", 480, 480, 100, 150, 15000},
     {"R", 600, 600, 100, 150, 15000}, {"I", 125, 480, 125, 150, 15000}, {"alpha-y", 100, 480, 100, 100, 15000}, {"weight", 16000, 480, 100, 150, 16000}};
@@ -39,8 +39,8 @@ static void print(const Change *c, const RukeshomajiFigures *f)
 
 int main(void)
 {
-    if (rukeshomaji_version() / 1000000 != RUKESHOMAJI_VERSION / 1000000) {
-        fprintf(stderr, "the library is of another major version than the header\n");
+    if (rukeshomaji_version() / 1000000 != RUKESHOMAJI_VERSION / 1000000 || rukeshomaji_version() < 2002000) {
+        fprintf(stderr, "the library is of another major version than the header, or older than 2.2.0\n");
         return 2;
     }
     RukeshomajiFigures f[CHANGES];

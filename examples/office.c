@@ -10,7 +10,7 @@ enum { LEVELS = 3 };
 
 int main(void)
 {
-    RukeshomajiSite site = {80, 45, 100, 55, 100, 100, 100, 100, RUKESHOMAJI_HARD, RUKESHOMAJI_OURS};
+    RukeshomajiSite site = {80, 45, 100, 55, 100, 100, 100, 100, RUKESHOMAJI_HARD};
     RukeshomajiFrame frame = {RUKESHOMAJI_CONCRETE, 1000, 480, 100, 150};
     uint64_t weights[LEVELS] = {5000, 5000, 5000}, heights[LEVELS] = {100, 200, 300};
     uint64_t forces[LEVELS], shears[LEVELS], overturnings[LEVELS];

@@ -20,7 +20,7 @@ typedef struct {
     Tower towers[MOST];
 } Split;
 
-static const RukeshomajiSite site = {80, 45, 100, 55, 100, 100, 100, 100, RUKESHOMAJI_HARD, RUKESHOMAJI_OURS};
+static const RukeshomajiSite site = {80, 45, 100, 55, 100, 100, 100, 100, RUKESHOMAJI_HARD};
 static const RukeshomajiFrame frame = {RUKESHOMAJI_CONCRETE, 1000, 480, 100, 150};
 static const Split splits[SPLITS] = {
     {2, {{5000, 300}, {10000, 300}}}, {2, {{7500, 250}, {7500, 300}}}, {3, {{4996, 300}, {4996, 300}, {5008, 300}}}};
@@ -61,8 +61,8 @@ static int compared(const Split *split)
 
 int main(void)
 {
-    if (rukeshomaji_version() / 1000000 != RUKESHOMAJI_VERSION / 1000000) {
-        fprintf(stderr, "the library is of another major version than the header\n");
+    if (rukeshomaji_version() / 1000000 != RUKESHOMAJI_VERSION / 1000000 || rukeshomaji_version() < 2002000) {
+        fprintf(stderr, "the library is of another major version than the header, or older than 2.2.0\n");
         return 2;
     }
     for (int s = 0; s < SPLITS; s++)

@@ -6,8 +6,7 @@ job, figures, basin_job, basin_figures, shear_call, basin_shear_call, distributi
 take whole numbers in the units of include/rukeshomaji.h. A number that 64 bits do not hold, those of a drift's displacements with a sign, is an
 OverflowError before anything is called, as ctypes would cut it (2**64 to 0, which of a calculated period means none). A refusal is raised as Refused,
 with its number, place and text. A district raises what is refused of the whole call; a refused job of it has a row with number and place, and
-Refused(row.number, row.place) says in words what they mean. A site, and site_class, may name a profile, OURS or DRAFT; without one it is OURS. The
-library is target/lib/librukeshomaji.so, or what RUKESHOMAJI_LIBRARY names.
+Refused(row.number, row.place) says in words what they mean. The library is target/lib/librukeshomaji.so, or what RUKESHOMAJI_LIBRARY names.
 """
 
 import ctypes
@@ -17,11 +16,7 @@ import os
 import pathlib
 from collections import namedtuple
 
-# profiles: by whose tables, class limits and ratio a site or a soil log is worked out
-OURS = 1            # document 000's, for every design
-DRAFT = 2           # document 001's, to reassess a building that was designed to it; V* is 0
-
-Site = namedtuple('Site', 'ssd s1d ssm s1m nad nvd nam nvm class_number profile', defaults=[OURS])
+Site = namedtuple('Site', 'ssd s1d ssm s1m nad nvd nam nvm class_number')
 Frame = namedtuple('Frame', 'kind calculated r i alpha_y')
 Figures = namedtuple('Figures', 'v vm star vd t')
 Job = namedtuple('Job', 'figures forces shears overturnings')
@@ -38,11 +33,10 @@ COHESIVE = 2        # its value is N
 COHESIONLESS = 3    # its value is N
 SOFT_CLAY = 4       # its value is q, the unconfined compression strength in 0.01 kgf/cm²
 
-MAJOR = 3
-LEAST = 3_000_000
+MAJOR = 2
+LEAST = 2_006_000
 LONGEST = 4_610
-MOST_BASE_SHEAR = 1_400_000_000     # that distribution and accidental_moments take, N
-CELLS = 133         # of a report; cell k counts jobs with V_D over W of 10*k to 10*k + 9 thousandths
+CELLS = 113         # of a report; cell k counts jobs with V_D over W of 10*k to 10*k + 9 thousandths
 TEXTS = {
     1: 'no level, or over 50',
     2: 'lists of unequal length, or a result buffer shorter than them',
@@ -70,7 +64,6 @@ TEXTS = {
     24: 'limit not 1 to 10,000; 0.005 is 50',
     25: 'average 0 or above the largest',
     26: 'plan dimension not 1 to 5,000 dm',
-    27: 'profile not 1 (ours) or 2 (the draft)',
 }
 OF_A_SHEAR_CALL = {3: 'total weight out of its range', 4: 'top height out of its range'}    # at place 0
 PLACES = {
@@ -111,7 +104,7 @@ _core.rukeshomaji_district.argtypes = [*_list * 4, _numbers]
 _core.rukeshomaji_drift.argtypes = [*_list, *_signed_list, U64, *_list, _numbers]
 _core.rukeshomaji_torsion.argtypes = [U64, U64, _numbers]
 _core.rukeshomaji_accidental_moments.argtypes = [U64, U64, *_list * 2, U64, *_signed_list * 2, _numbers]
-_core.rukeshomaji_site_class.argtypes = [U64, *_list * 3, _numbers]
+_core.rukeshomaji_site_class.argtypes = [*_list * 3, _numbers]
 _core.rukeshomaji_sheet.argtypes = [ctypes.c_char_p, U64, ctypes.c_char_p, _numbers]
 for _name in ('job', 'figures', 'basin_job', 'basin_figures', 'shear_call', 'basin_shear_call', 'distribution', 'district', 'drift', 'torsion',
               'accidental_moments', 'site_class', 'sheet', 'edition', 'source'):
@@ -127,14 +120,6 @@ def _array(numbers, count=None, kind=U64):
     if count is not None and len(numbers) != count:
         raise TypeError(f'{count} numbers are wanted, {len(numbers)} are given')
     return (kind * len(numbers))(*numbers)
-
-
-def _site(numbers):
-    """The ten numbers of a site; without its last, the profile, it is by OURS."""
-    numbers = list(numbers)
-    if len(numbers) not in (9, 10):
-        raise TypeError(f'10 numbers, or 9 without the profile, are wanted, {len(numbers)} are given')
-    return _array(numbers + [OURS] * (len(numbers) == 9))
 
 
 def _taken(number, reply):
@@ -172,12 +157,12 @@ def _shear_call(entry, ground, frame, weight, height):
 
 def job(site, frame, weights, heights):
     """The five figures, and the force, shear and overturning moment of each level, lowest first."""
-    return _job(_core.rukeshomaji_job, _site(site), frame, weights, heights)
+    return _job(_core.rukeshomaji_job, _array(site, 9), frame, weights, heights)
 
 
 def figures(site, frame, weights, heights):
     """The five figures alone."""
-    return _figures(_core.rukeshomaji_figures, _site(site), frame, weights, heights)
+    return _figures(_core.rukeshomaji_figures, _array(site, 9), frame, weights, heights)
 
 
 def basin_job(zone, frame, weights, heights):
@@ -192,7 +177,7 @@ def basin_figures(zone, frame, weights, heights):
 
 def shear_call(site, frame, weight, height):
     """The five figures of a building without levels: its total weight in kN and the height of its top in dm."""
-    return _shear_call(_core.rukeshomaji_shear_call, _site(site), frame, weight, height)
+    return _shear_call(_core.rukeshomaji_shear_call, _array(site, 9), frame, weight, height)
 
 
 def basin_shear_call(zone, frame, weight, height):
@@ -213,12 +198,12 @@ def on_site(site, frame, start, count):
 
 def in_basin(zone, frame, start, count):
     """A job of a district in a zone of the Taipei Basin."""
-    return DistrictJob(1, zone, Site(*[0] * 10), frame, start, count)
+    return DistrictJob(1, zone, Site(*[0] * 9), frame, start, count)
 
 
 def district(jobs, weights, heights):
     """A row for each job, and the report of all; weights and heights are the store of levels that the jobs share."""
-    numbers = [(basin, zone, *_site(site), *_array(frame, 5), start, count) for basin, zone, site, frame, start, count in jobs]
+    numbers = [(basin, zone, *_array(site, 9), *_array(frame, 5), start, count) for basin, zone, site, frame, start, count in jobs]
     given, weights, heights, width = _array(itertools.chain.from_iterable(numbers)), _array(weights), _array(heights), len(Row._fields)
     rows, reply = (U64 * (width * len(numbers)))(), (U64 * (len(Report._fields) - 1 + CELLS))()
     number = _core.rukeshomaji_district(given, len(numbers), weights, len(weights), heights, len(heights), rows, len(numbers), reply)
@@ -260,10 +245,10 @@ def accidental_moments(base_shear, period, weights, heights, dimension):
     return Moments(list(positive), list(negative))
 
 
-def site_class(thicknesses, kinds, values, profile=OURS):
-    """1 hard, 2 normal, 3 soft, of layers by their thicknesses in cm, kinds and values; the profile last, DRAFT for a site of that profile. In C it is first."""
-    (profile,), lists, reply = _array([profile]), [_array(each) for each in (thicknesses, kinds, values)], (U64 * 2)()
-    return _taken(_core.rukeshomaji_site_class(profile, *(part for each in lists for part in (each, len(each))), reply), reply)[0]
+def site_class(thicknesses, kinds, values):
+    """1 hard, 2 normal, 3 soft, of layers by their thicknesses in cm, kinds and values."""
+    lists, reply = [_array(each) for each in (thicknesses, kinds, values)], (U64 * 2)()
+    return _taken(_core.rukeshomaji_site_class(*(part for each in lists for part in (each, len(each))), reply), reply)[0]
 
 
 def sheet(data):

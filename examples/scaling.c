@@ -33,13 +33,13 @@ static int refusal(uint64_t number, uint64_t place)
 
 int main(void)
 {
-    RukeshomajiSite site = {80, 45, 100, 55, 100, 100, 100, 100, RUKESHOMAJI_HARD, RUKESHOMAJI_OURS};
+    RukeshomajiSite site = {80, 45, 100, 55, 100, 100, 100, 100, RUKESHOMAJI_HARD};
     RukeshomajiFrame frame = {RUKESHOMAJI_CONCRETE, 1000, 480, 100, 150};
     uint64_t weights[LEVELS] = {5000, 5000, 5000}, heights[LEVELS] = {100, 200, 300}, analyses[ANALYSES] = {850000, 1000000, 1100000};
     uint64_t forces[LEVELS], shears[LEVELS], overturnings[LEVELS], weight = 0, place;
     RukeshomajiFigures f;
-    if (rukeshomaji_version() / 1000000 != RUKESHOMAJI_VERSION / 1000000) {
-        fprintf(stderr, "the library is of another major version than the header\n");
+    if (rukeshomaji_version() / 1000000 != RUKESHOMAJI_VERSION / 1000000 || rukeshomaji_version() < 2002000) {
+        fprintf(stderr, "the library is of another major version than the header, or older than 2.2.0\n");
         return 2;
     }
     for (int x = 0; x < LEVELS; x++) weight += weights[x];

@@ -31,11 +31,11 @@ extern "C" {
 /* Three numbers name what you link; the functions at the end of this page give those of the library. Version: 1,000,000 times the major
  * number, 1,000 times the minor one, and the last. A struct or a declaration changes only when the major number changes: a program that was
  * compiled with a header of another major number may call rukeshomaji_version, which never changes, and nothing else. Edition: the year of
- * the code. Source: the state of the rules, which goes up by one whenever any call answers differently; it is 7 since a site and a soil log
- * name a profile (3.0.0). */
-#define RUKESHOMAJI_VERSION 3000000
+ * the code. Source: the state of the rules, which goes up by one whenever any call answers differently; it is 6 since a soil log takes soft
+ * clay by its unconfined compression strength (2.4.0). */
+#define RUKESHOMAJI_VERSION 2006000
 #define RUKESHOMAJI_EDITION 2005
-#define RUKESHOMAJI_SOURCE 7
+#define RUKESHOMAJI_SOURCE 6
 
 /* the most levels of a call, layers of a soil log and bytes of a sheet, and the most bytes that a listing can have */
 #define RUKESHOMAJI_MOST_LEVELS 50
@@ -45,11 +45,11 @@ extern "C" {
 
 /* the largest total weight of a shear call, in kN, and the largest base shear of a distribution, in N */
 #define RUKESHOMAJI_MOST_TOTAL_WEIGHT 1000000
-#define RUKESHOMAJI_MOST_BASE_SHEAR 1400000000
+#define RUKESHOMAJI_MOST_BASE_SHEAR 1200000000
 
 /* the most jobs of a district, and how many cells its report has; since 2.5.0 */
 #define RUKESHOMAJI_DISTRICT_JOBS 256
-#define RUKESHOMAJI_CELLS 133
+#define RUKESHOMAJI_CELLS 113
 
 /* the largest size of a displacement, in 0.01 mm, the largest limit of a drift call, in ten-thousandths, the largest plan dimension, in dm, and the
  * largest torsion factor, in thousandths; since 2.6.0 */
@@ -59,12 +59,11 @@ extern "C" {
 #define RUKESHOMAJI_MOST_TORSION_FACTOR 3000
 
 /* Refusals: what an entry returns where it does not return 0; beside each its place. Of 1 to 15 the lowest number that applies is returned,
- * at its lowest place, but 14 at a layer of thickness 0 where there is one. With a site 27 stands after 4 and before 5, in a soil log after 2
- * and before 13. A job in the Taipei Basin has no site and no profile: 18 stands where 27 and 5 to 7 stand, after 1 to 4 and before 8 to 12. A
- * shear call has no levels: its 3 and 4 are of the total weight and the top height, at place 0. In a distribution 19, then 20, follow 1 to 4.
- * For a sheet 17, then 16, come before all others. A district is refused with 22 alone, as a whole; a row of it with 21 before all others. A
- * drift call has no weights: its 1 is of the heights, it has no 3, and 23, then 24, follow 1, 2, 4. In a torsion call 25 follows 23. In
- * accidental moments 19, 20, 26 follow 1 to 4. No other entry returns 23 to 26. */
+ * at its lowest place, but 14 at a layer of thickness 0 where there is one. A job in the Taipei Basin has no site: 18 stands where 5 to 7
+ * stand, after 1 to 4 and before 8 to 12. A shear call has no levels: its 3 and 4 are of the total weight and the top height, at place 0. In
+ * a distribution 19, then 20, follow 1 to 4. For a sheet 17, then 16, come before all others. A district is refused with 22 alone, as a whole; a
+ * row of it with 21 before all others. A drift call has no weights: its 1 is of the heights, it has no 3, and 23, then 24, follow 1, 2, 4. In a
+ * torsion call 25 follows 23. In accidental moments 19, 20, 26 follow 1 to 4. No other entry returns 23 to 26. */
 #define RUKESHOMAJI_REFUSED_LEVELS 1      /* no level, or over 50, judged on the weights, of a drift call on the heights: 0 */
 #define RUKESHOMAJI_REFUSED_LENGTHS 2     /* lists of unequal length, or a result buffer shorter than them: 0 */
 #define RUKESHOMAJI_REFUSED_WEIGHT 3      /* weight out of range: level, the lowest is 1; of a shear call: 0 */
@@ -91,15 +90,6 @@ extern "C" {
 #define RUKESHOMAJI_REFUSED_DRIFT_LIMIT 24   /* limit of a drift call out of range: 0 */
 #define RUKESHOMAJI_REFUSED_AVERAGE 25    /* average displacement of a torsion call 0, or above the largest: 0 */
 #define RUKESHOMAJI_REFUSED_DIMENSION 26  /* plan dimension out of range: 0 */
-#define RUKESHOMAJI_REFUSED_PROFILE 27    /* profile not 1 or 2: 0 */
-
-/* Profiles, since 3.0.0: by whose tables, class limits and ratio a site or a soil log is worked out. Ours is document 000's, and serves for
- * every design. The draft is document 001, an earlier paper: it serves to reassess a building that was designed to it, and for no design. It has
- * F_a and F_v of its own Tables 1 and 2; a site is hard above 360 m/s in place of 270; the ratio stays as it is up to 0.4, is 0.55 of it plus 0.18
- * up to 0.9, and 0.75 of it above, in place of 0.3, 0.52, 0.144, 0.8 and 0.7. It has no V*: star is 0, and vd is the larger of v and vm. All else
- * is the same. A class belongs to a profile: give a site the class that rukeshomaji_site_class finds with the same one. docs/manual/draft.md */
-#define RUKESHOMAJI_OURS 1
-#define RUKESHOMAJI_DRAFT 2
 
 /* site classes */
 #define RUKESHOMAJI_HARD 1
@@ -120,7 +110,7 @@ extern "C" {
 #define RUKESHOMAJI_SOFT_CLAY 4           /* its value is q, the unconfined compression strength in 0.01 kgf/cm2; since 2.4.0 */
 
 /* A site. V uses nad and nvd, V_M nam and nvm, V* none of them. With one pair for both hazard levels, set nam and nvm to the values of nad and
- * nvd; far from a fault all four are 100. The profile has no default: left 0, it is refused with 27. */
+ * nvd; far from a fault all four are 100. */
 typedef struct {
     uint64_t ssd;             /* S_S of the design level, 0.01 g: 50, 60, 70 or 80 */
     uint64_t s1d;             /* S_1 of the design level, 0.01 g: 30, 35, 40 or 45 */
@@ -130,8 +120,7 @@ typedef struct {
     uint64_t nvd;             /* near-fault factor N_V of the design level, 0.01: 100 to 200 */
     uint64_t nam;             /* near-fault factor N_A of the MCE level, 0.01: 100 to 150 */
     uint64_t nvm;             /* near-fault factor N_V of the MCE level, 0.01: 100 to 200 */
-    uint64_t class_number;    /* site class by the profile: 1 hard, 2 normal, 3 soft */
-    uint64_t profile;         /* 1 ours, 2 the draft; since 3.0.0 */
+    uint64_t class_number;    /* site class: 1 hard, 2 normal, 3 soft */
 } RukeshomajiSite;
 
 typedef struct {
@@ -146,7 +135,7 @@ typedef struct {
     uint64_t place;           /* of the refusal; 0 on success */
     uint64_t v;               /* V, N */
     uint64_t vm;              /* V_M, N */
-    uint64_t star;            /* V*, N; 0 by the draft */
+    uint64_t star;            /* V*, N */
     uint64_t vd;              /* V_D, the design base shear, N: the largest of the three */
     uint64_t t;               /* T, the period in use, ms */
 } RukeshomajiFigures;
@@ -177,7 +166,7 @@ typedef struct {
     uint64_t place;           /* of the refusal; 0 on success */
     uint64_t v;               /* V, N */
     uint64_t vm;              /* V_M, N */
-    uint64_t star;            /* V*, N; 0 by the draft */
+    uint64_t star;            /* V*, N */
     uint64_t vd;              /* V_D, N */
     uint64_t t;               /* T, ms */
 } RukeshomajiRow;
@@ -206,12 +195,11 @@ typedef struct {
  *            heights         of the levels above the base, lowest first, dm: 1 to 2,000, each above the one below; as many
  *            forces, shears, overturnings    buffers of at least as many cells
  * Returned   0, or the refusal
- * Refused    1 to 4, 27, 5 to 12
+ * Refused    1 to 12
  * Written    figures: all fields. On success the first cells of the buffers, one per level, lowest first: forces in N, which add up to V_D;
  *            shears in N, each under its level; overturnings in N*dm, about the bottom of its storey. Other cells hold what they held
  * Reference  document 000 (1), (4) to (9), (12) to (14), (16) to (21), (23) without its factor. F_t of (21) is 0 for T up to 700 ms and at
- *            most V_D/4, rounded up. docs/DIFFERENCES.md says where else the rules depart from it. By the draft document 001 (1), (4) to (8), (12)
- *            to (16), (18), (19), Tables 1 and 2, for V, V_M and V_D; the period, F_t and the storeys are those of document 000
+ *            most V_D/4, rounded up. docs/DIFFERENCES.md says where else the rules depart from it
  * Moves      v, vm, star and vd as for rukeshomaji_shear_call, by the sum of the weights; nothing is said of forces,
  *            overturnings and the shears above level 1
  */
@@ -223,9 +211,9 @@ uint64_t rukeshomaji_job(const RukeshomajiSite *site, const RukeshomajiFrame *fr
  *
  * Given      site, frame, weights, heights    as for rukeshomaji_job
  * Returned   0, or the refusal
- * Refused    1 to 4, 27, 5 to 12, with 2 for lists of unequal length alone
+ * Refused    1 to 12, with 2 for lists of unequal length alone
  * Written    figures: all fields
- * Reference  document 000 (1), (4) to (9), (12) to (14), (16) to (20); by the draft as for rukeshomaji_job
+ * Reference  document 000 (1), (4) to (9), (12) to (14), (16) to (20)
  * Moves      as for rukeshomaji_shear_call, by the sum of the weights
  */
 uint64_t rukeshomaji_figures(const RukeshomajiSite *site, const RukeshomajiFrame *frame, const uint64_t *weights, uint64_t weight_count,
@@ -267,10 +255,9 @@ uint64_t rukeshomaji_basin_figures(uint64_t zone, const RukeshomajiFrame *frame,
  *            weight          total weight, kN: 1 to 1,000,000
  *            height          top height, dm: 1 to 2,000, that of the highest level above the base
  * Returned   0, or the refusal
- * Refused    3 and 4 at place 0, then 27, 5 to 12
+ * Refused    3 and 4 at place 0, then 5 to 12
  * Written    figures: all fields
- * Reference  document 000 (1), (4) to (9), (12) to (14), (16) to (20). By its 3.4 V_D scales a dynamic analysis; docs/manual/shear_and_storeys.md.
- *            By the draft as for rukeshomaji_job
+ * Reference  document 000 (1), (4) to (9), (12) to (14), (16) to (20). By its 3.4 V_D scales a dynamic analysis; docs/manual/shear_and_storeys.md
  * Towers     if n calls, and the call with the sum of their weights, have the same site and frame and get the same t, then their vd add up to
  *            the vd of that call, or to at most (n - 1) N more; docs/manual/towers.md
  * Moves      of two calls with the same site that get the same t: if the second has the same r, no smaller i and weight and no larger alpha_y,
@@ -298,7 +285,7 @@ uint64_t rukeshomaji_basin_shear_call(uint64_t zone, const RukeshomajiFrame *fra
 /* The distribution, since 2.2.0: a base shear that is handed in, over the storeys. With V_D, T, weights and heights of an accepted job it
  * writes what rukeshomaji_job writes to the buffers.
  *
- * Given      base_shear      what is shared among the levels, N: 1 to 1,400,000,000
+ * Given      base_shear      what is shared among the levels, N: 1 to 1,200,000,000
  *            period          period, which decides the roof force, ms: 0 to 9,999
  *            weights, heights, forces, shears, overturnings    as for rukeshomaji_job
  * Returned   0, or the refusal
@@ -321,12 +308,12 @@ uint64_t rukeshomaji_distribution(uint64_t base_shear, uint64_t period, const ui
  *                            stretches may overlap or be the same, and levels of no stretch are not looked at
  *            rows            buffer of at least as many rows as there are jobs
  * Returned   0, or the refusal of the whole call; a refused row does not change it
- * Refused    22, at no place, as none is written. Of a row 21, then on a site 1, 3, 4, 27, 5 to 12, in the Basin 1, 3, 4, 18, 8 to 12; 3 and 4 at
- *            their level of the stretch
+ * Refused    22, at no place, as none is written. Of a row 21, then on a site 1, 3 to 12, in the Basin 1, 3, 4, 18, 8 to 12; 3 and 4 at their level
+ *            of the stretch
  * Written    report: all fields, 0 where there is no job or the call is refused. On success the first rows, one per job, in their order: number
  *            and place, then the figures, 0 where the row is refused. Other rows hold what they held
- * Report     accepted and refused add up to the jobs. by_v, by_vm and by_star add up to accepted, and so do the cells: vd over W is at most 1,326
- *            thousandths, which is in the last cell; by ours at most 1,125
+ * Report     accepted and refused add up to the jobs. by_v, by_vm and by_star add up to accepted, and so do the cells: vd over W is at most 1,125
+ *            thousandths, which is in the last cell
  * Reference  as for rukeshomaji_figures and rukeshomaji_basin_figures; docs/manual/district.md
  */
 uint64_t rukeshomaji_district(const RukeshomajiDistrictJob *jobs, uint64_t job_count, const uint64_t *weights, uint64_t weight_count,
@@ -385,24 +372,23 @@ uint64_t rukeshomaji_accidental_moments(uint64_t base_shear, uint64_t period, co
 
 /* The site class of a soil log: the layers of the upper 30 m.
  *
- * Given      profile         1 ours, 2 the draft: hard above 270 m/s by ours, above 360 m/s by the draft; soft below 180 m/s by both
- *            thicknesses     of the layers, cm: above 0, together 3,000; 1 to 40 layers
+ * Given      thicknesses     of the layers, cm: above 0, together 3,000; 1 to 40 layers
  *            kinds           1 measured, 2 cohesive, 3 cohesionless, 4 soft clay (N below 2, which is not checked); as many
  *            values          measured: velocity, dm/s: 500 to 30,000; cohesive: N: 2 to 25; cohesionless: N: 1 to 50;
- *                            soft clay: q, 0.01 kgf/cm2: 1 to 400; as many
+ *                            soft clay: q, 0.01 kgf/cm2: 1 to 400; as many. A library before 2.4.0 refuses soft clay with 15
  * Returned   0, or the refusal
- * Refused    2, 27, 13 to 15
+ * Refused    2, 13 to 15
  * Written    reply: all fields
- * Reference  document 000 (2), (3.a), (3.b), Table 3; by the draft the limits of document 001, Table 3
+ * Reference  document 000 (2), (3.a), (3.b), Table 3
  */
-uint64_t rukeshomaji_site_class(uint64_t profile, const uint64_t *thicknesses, uint64_t thickness_count, const uint64_t *kinds,
-                                uint64_t kind_count, const uint64_t *values, uint64_t value_count, RukeshomajiClass *reply);
+uint64_t rukeshomaji_site_class(const uint64_t *thicknesses, uint64_t thickness_count, const uint64_t *kinds, uint64_t kind_count,
+                                const uint64_t *values, uint64_t value_count, RukeshomajiClass *reply);
 
 /* What the program `shear` prints for a sheet: the listing of its job, or the one line of its refusal.
  *
  * Given      sheet           bytes: at most 4,096
  * Returned   0, or the refusal
- * Refused    17, 16, 1, 3, 4, 27, 5 to 12 with a line `site`; 17, 16, 1, 3, 4, 18, 8 to 12 with a line `basin`
+ * Refused    17, 16, 1, 3 to 12 with a line `site`; 17, 16, 1, 3, 4, 18, 8 to 12 with a line `basin`
  * Written    listing: its first bytes, as many as reply's length says, with no NUL after them; the others hold what they held.
  *            reply: all fields. A refusal's line (`refused`, number, place) is a listing too, and has its length
  * Reference  docs/manual/sheet.md; else as for rukeshomaji_job and rukeshomaji_basin_job

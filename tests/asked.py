@@ -4,7 +4,7 @@ refusals cannot apply together."""
 from typing import NamedTuple
 
 from tests.compares import stored_cases, stored_districts, stored_drifts
-from tests.model import district, limits, profile as profiles, sheet, soil
+from tests.model import district, limits, sheet, soil
 
 BETWEEN = 'between'     # a place that is not named
 
@@ -77,9 +77,8 @@ def limited(number, refusal, allowed):
 FRAME = [limited('R', '8', limits.R_RANGE), limited('I', '9', limits.I_VALUES), limited('alphay', '10', limits.ALPHA_Y),
          limited('kind', '11', limits.KIND), limited('calculated_period', '12', limits.CALCULATED_PERIOD)]
 MAPPED = (limits.S_S_DESIGN, limits.S_1_DESIGN, limits.S_S_MCE, limits.S_1_MCE)
-SITE_PLACES = {'27': [0]} | {f'{number} at {place}': [place] for number in (5, 6) for place in (1, 2, 3, 4)} | {'7': [0]}
-PROFILE = limited('profile', '27', limits.PROFILE)
-SITE = [PROFILE, *map(limited, limits.Site._fields, (*SITE_PLACES,)[1:], (*MAPPED, *limits.FACTORS.values(), limits.CLASS))]
+SITE_PLACES = {f'{number} at {place}': [place] for number in (5, 6) for place in (1, 2, 3, 4)} | {'7': [0]}
+SITE = list(map(limited, limits.Site._fields, SITE_PLACES, (*MAPPED, *limits.FACTORS.values(), limits.CLASS)))
 FRAME_PLACES = {str(number): [0] for number in range(8, 13)}
 GROUNDS = {'Site': (SITE_PLACES | FRAME_PLACES, SITE + FRAME),
            'Basin': ({'18': [0]} | FRAME_PLACES, [limited('zone', '18', limits.ZONE), *FRAME])}
@@ -101,7 +100,7 @@ TORSION = [Limit('largest', {'23, largest'}, [1, MOST_MOVED], [MOST_MOVED + 1]),
 LOG = [Limit('layers', {'13, no layer', '13, over 40'}, [1, MOST_LAYERS], [0, MOST_LAYERS + 1]), Limit('thickness', {'14, a layer'}, [1], [0]),
        limited('sum', '14, the sum', (soil.THICKNESS_SUM,)), limited('kind', '15, kind', tuple(soil.VALUE)),
        *(limited(f'value of kind {kind}', '15, value', allowed) for kind, allowed in soil.VALUE.items()),
-       *(Limit(f'{name} list', {'2'}, [0], [-1, 1]) for name in ('kinds', 'values')), PROFILE]
+       *(Limit(f'{name} list', {'2'}, [0], [-1, 1]) for name in ('kinds', 'values'))]
 # a sheet of that many bytes is not taken in any case
 BYTES = [Limit('bytes', {'16', '1, over 50'}, [], [sheet.MOST_BYTES]), Limit('bytes', {'17'}, [], [sheet.MOST_BYTES + 1])]
 # by how much a stretch's start, or its count, is beyond what the store has
@@ -124,16 +123,6 @@ def on_grounds(name, cases, places, numbers):
     """An entry on a site and in the Basin; without limits where no number is asked for."""
     for ground, (more_places, more) in GROUNDS.items():
         yield Entry(f'{name}, {ground}', [case for case in cases if case.ground == ground], places | more_places, numbers and numbers + more)
-
-
-def draft_entries(judged, job_calls, logs):
-    """What is refused by the draft's profile too: of jobs judged and of job calls, of site and frame at every place; of logs after 27."""
-    by_draft = [[case for case in cases if case.numbers.get('profile') == {profiles.DRAFT}] for cases in (judged, job_calls, logs)]
-    places = {refusal: at for refusal, at in (SITE_PLACES | FRAME_PLACES).items() if refusal != '27'}
-    yield Entry('job judged by the draft', by_draft[0], COUNTED | LISTED | {'3': [2], '4': [2]} | places, [])
-    yield Entry('job call by the draft', by_draft[1], places, [])
-    yield Entry('soil log by the draft', by_draft[2], {'13, no layer': [0], '13, over 40': [0], '14, a layer': [2], '14, the sum': [0], '15, kind': [4],
-                                                       '15, value': [4]}, [])
 
 
 def district_entries():
@@ -159,21 +148,20 @@ def drift_entries():
 
 def entries():
     """Every entry."""
-    judged, calls, job_calls, logs = ([*cases()] for cases in (stored_cases.judged_jobs, stored_cases.calls, stored_cases.job_calls, stored_cases.logs))
+    judged, calls = [*stored_cases.judged_jobs()], [*stored_cases.calls()]
     numbers = [*LEVELS, LISTS, BUFFERS[0]]
     yield next(on_grounds('job judged', judged, job_places(MOST_LEVELS), numbers))
     *_, basin = on_grounds('job judged', judged, job_places(5), numbers)        # four changes do not make 50 levels in the Basin
     yield basin._replace(along=ALONG | FOUR_CHANGES)
-    yield from on_grounds('job call', job_calls, job_places(3), [])
+    yield from on_grounds('job call', [*stored_cases.job_calls()], job_places(3), [])
     yield from on_grounds('shear call', calls, {'3': [0], '4': [0]}, BUILDING)
     yield Entry('distribution', [case for case in calls if not case.ground], job_places(MOST_LEVELS) | {'19': [0], '20': [0]},
                 [*LEVELS, LISTS, *BUFFERS, *HANDED_IN])
-    yield Entry('soil log', logs,
-                {'2': [0], '27': [0], '13, no layer': [0], '13, over 40': [0], **at_levels(MOST_LAYERS, '14, a layer'), '14, the sum': [0],
+    yield Entry('soil log', [*stored_cases.logs()],
+                {'2': [0], '13, no layer': [0], '13, over 40': [0], **at_levels(MOST_LAYERS, '14, a layer'), '14, the sum': [0],
                  **at_levels(MOST_LAYERS, '15, kind', '15, value')}, LOG)
     sheet_places = {'17': [0], '16': [1, 2, 3, BETWEEN], **COUNTED, **at_levels(MOST_LEVELS, '3', '4')}
     for entry in on_grounds('sheet', [*stored_cases.sheets()], sheet_places, LEVELS + BYTES):
         yield entry._replace(cannot=CANNOT | NOT_ON_A_SHEET)
-    yield from draft_entries(judged, job_calls, logs)
     yield from district_entries()
     yield from drift_entries()

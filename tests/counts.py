@@ -16,7 +16,6 @@ import sys
 
 from tests.compares import check_model
 from tests.draws.roof import ENDS
-from tests.model.profile import DRAFT
 from tests.writes.stored_drifts import DRIFT, MOMENTS, TORSION
 
 ROOT = pathlib.Path(__file__).resolve().parents[1]
@@ -24,9 +23,7 @@ CRATES = ROOT / 'crates'
 NUMBER = r'(\d[\d,]*|one|two|three|four|five|six|seven|eight|nine|ten|eleven|twelve)'
 WORDS = dict(zip('one two three four five six seven eight nine ten eleven twelve'.split(), range(1, 13)))
 REFUSED = re.compile('^refused', re.M)
-SHEETS = 'basin_', 'pairs_', 'roof_', ('two_', 'beside_'), 'draft_'        # how the names of some sheets begin
 PAIRS = (4, 5), (6, 7)         # places of the near-fault factors among the numbers of a site
-PROFILE = 9                    # and of the profile
 
 
 def lines(crate, name):
@@ -53,17 +50,15 @@ def refused(crate):
 
 
 def grounds(crate, rows):
-    """How many cases of a program are in the Basin, how many by the draft, and how many on other sites whose two pairs of near-fault factors differ, which
-    stand before those."""
+    """How many cases of a program are in the Basin, and how many on sites whose two pairs of near-fault factors differ."""
     ground, site = field(crate, 'GROUND'), field(crate, 'SITE')
     on_sites = [row for row in rows if row[ground] == 0]
-    others = [row for row in on_sites if row[site + PROFILE] != DRAFT]
-    pairs = [[[row[site + place] for place in pair] for pair in PAIRS] for row in others]
-    return len(rows) - len(on_sites), sum(design != mce for design, mce in pairs), len(on_sites) - len(others)
+    pairs = [[[row[site + place] for place in pair] for pair in PAIRS] for row in on_sites]
+    return len(rows) - len(on_sites), sum(design != mce for design, mce in pairs)
 
 
 def jobs():
-    """Cases of `run_jobs`, in the Basin, with two pairs, by the draft, refused; the numbers that a case begins with."""
+    """Cases of `run_jobs`, in the Basin, with two pairs, refused; the numbers that a case begins with."""
     rows, _ = numbered('run_jobs')
     weights, heights = (field('run_jobs', name) for name in ('WEIGHT_COUNT', 'HEIGHT_COUNT'))
     (head,) = {len(row) - row[weights] - row[heights] for row in rows}
@@ -71,26 +66,25 @@ def jobs():
 
 
 def sheets():
-    """Sheets of `run_sheets`, of the Basin, of the pairs, of the roof force, of two refusals and of limits, of a profile, refused."""
+    """Sheets of `run_sheets`, of the Basin, of the pairs, of the roof force, of two refusals and of limits, refused."""
     names = lines('run_sheets', 'data/names')
     stored = [path.name for path in (CRATES / 'run_sheets' / 'data').iterdir() if path.name != 'names']
     assert sorted(names) == sorted(stored), 'run_sheets/data/names: does not list the sheets'
-    return len(names), *(sum(name.startswith(first) for name in names) for first in SHEETS), refused('run_sheets')
+    return len(names), *(sum(name.startswith(first) for name in names) for first in ('basin_', 'pairs_', 'roof_', ('two_', 'beside_'))), refused('run_sheets')
 
 
 def changed_jobs():
-    """Cases of `run_refusals`, in the Basin, with two pairs, by the draft."""
+    """Cases of `run_refusals`, in the Basin, with two pairs."""
     changes, (good,) = numbered('run_refusals', before=1)
     cases = [dict(enumerate(good)) | dict(zip(row[::2], row[1::2])) for row in changes]
     return len(cases), *grounds('run_refusals', cases)
 
 
 def calls():
-    """Cases of `run_calls`: all, shear calls, of these by the draft, distributions, refused."""
+    """Cases of `run_calls`: all, shear calls, distributions, refused."""
     rows, _ = numbered('run_calls')
     shears = sum(row[0] <= field('run_calls', 'IN_BASIN') for row in rows)
-    by_draft = sum(row[0] < field('run_calls', 'IN_BASIN') and row[1 + field('run_calls', 'SITE') + PROFILE] == DRAFT for row in rows)
-    return len(rows), shears, by_draft, len(rows) - shears, refused('run_calls')
+    return len(rows), shears, len(rows) - shears, refused('run_calls')
 
 
 def districts():
@@ -107,20 +101,19 @@ def drifts():
 
 
 def logs():
-    """Cases of `run_logs`, those by the draft, and the last N and the last q of the velocities behind them."""
+    """Cases of `run_logs`, and the last N and the last q of the velocities behind them."""
     rows, _ = numbered('run_logs')
-    by_draft = sum((field('run_logs', 'PROFILE'), DRAFT) in zip(row[3::2], row[4::2]) for row in rows)
     last = {word: max(map(int, re.findall(rf', {word} (\d+):', (CRATES / 'run_logs' / 'stdout').read_text()))) for word in 'Nq'}
-    return len(rows), by_draft, last['N'], last['q']
+    return len(rows), last['N'], last['q']
 
 
 def vectors():
-    """Rows of `vectors`, in the Basin, with two pairs, by the draft, at the ends of the rule of the roof force, in millionths."""
+    """Rows of `vectors`, in the Basin, with two pairs, at the ends of the rule of the roof force, in millionths."""
     rows = [line.strip() for line in lines('vectors', 'specs/Rows.antt') if re.match(r' +(vector|basinVector) ', line)]
     periods = [int(re.search(r'\(rootsOf [\d ]+\) \((?:\d+ ∷ ){7}(\d+) ', row)[1]) for row in rows]
     runs = sum(tuple(periods[first:first + len(ENDS)]) == ENDS for first in range(len(rows)))
-    return (len(rows), sum(row.startswith('basinVector') for row in rows), sum('(siteOfPairs ' in row for row in rows),
-            sum('(draftOf' in row for row in rows), runs * len(ENDS), sum(row.split()[1] == '1000000' for row in rows))
+    return (len(rows), sum(row.startswith('basinVector') for row in rows), sum('(siteOfPairs ' in row for row in rows), runs * len(ENDS),
+            sum(row.split()[1] == '1000000' for row in rows))
 
 
 def ideas(title):
@@ -153,35 +146,31 @@ def release():
 
 def statements():
     """(paper, what it says, the numbers). N stands for a number, in digits or as a word, and [N] for the letter."""
-    job, in_basin, with_pairs, by_draft, job_refused, head = jobs()
+    job, in_basin, with_pairs, job_refused, head = jobs()
     sheet, changed, call, log, vector = sheets(), changed_jobs(), calls(), logs(), vectors()
     passed, tried, checks = gate()
-    yield 'docs/MAP.md', r'`run_jobs` \(N job calls, N in the Taipei Basin, N with two pairs of near-fault factors, N by the draft', (
-        job, in_basin, with_pairs, by_draft)
-    yield ('docs/MAP.md', r'`run_sheets` \(N sheets, N of the Basin, N of the pairs, N of the roof force, N of two refusals and of limits, N of a profile, '
-           r'N of all refused\)', sheet)
-    yield 'docs/MAP.md', r'`run_refusals` \(N changed jobs, N in the Basin, N with two pairs, N by the draft\)', changed
-    yield 'docs/MAP.md', r'`run_calls` \(N calls: N shear calls, N of them by the draft, N distributions with every cell of their buffers; N refused\)', call
+    yield 'docs/MAP.md', r'`run_jobs` \(N job calls, N in the Taipei Basin, N with two pairs', (job, in_basin, with_pairs)
+    yield 'docs/MAP.md', r'`run_sheets` \(N sheets, N of the Basin, N of the pairs, N of the roof force, N of two refusals and of limits, N of all refused\)', sheet
+    yield 'docs/MAP.md', r'`run_refusals` \(N changed jobs, N in the Basin, N with two pairs\)', changed
+    yield 'docs/MAP.md', r'`run_calls` \(N calls: N shear calls, N distributions with every cell of their buffers; N refused\)', call
     yield 'docs/PROMISES.md', r'`run_districts` \(N districts, N of them refused as a whole', districts()[::2]
     yield 'docs/MAP.md', r'`run_districts` \(N districts of N jobs in all, with every cell of their rows; N refused as a whole\)', districts()
     yield ('docs/MAP.md', r'`run_drifts` \(N calls: N of drift, N of torsion, N of accidental moments, with every cell of their buffers; N refused\)',
            drifts())
     yield ('docs/PROMISES.md', r'`run_drifts` \(N calls, N of drift, N of torsion and N of accidental moments, with all cells of their buffers, N refused\)',
            drifts())
-    yield 'docs/MAP.md', r'`run_logs` \(N soil logs, N by the draft, every blow count from 0 to N and every q from 0 to N\)', log
-    yield 'docs/MAP.md', r'`vectors` holds the definitions to N jobs, N in the Basin, N with two pairs, N by the draft, N of all at the ends', vector[:5]
-    yield ('docs/PROMISES.md', r'N jobs of the independent model, N of them in the Taipei Basin, N with two pairs of [^,]+, N by the draft, N of all',
-           vector[:5])
-    yield ('docs/PROMISES.md', r'`run_jobs` \(N calls with all cells of their buffers, N of them refused; N in the Basin, N with two pairs, N by the draft\)',
-           (job, job_refused, in_basin, with_pairs, by_draft))
-    yield ('docs/PROMISES.md', r'`run_sheets` \(N sheets, N of them refused; N of the Basin, N of the pairs, N of the roof force, N of two refusals and of limits, '
-           r'N of a profile\)', (sheet[0], sheet[-1], *sheet[1:-1]))
-    yield 'docs/PROMISES.md', r'`run_refusals` \(N changed jobs, N in the Basin, N with two pairs, N by the draft\)', changed
-    yield ('docs/PROMISES.md', r'`run_calls` \(N calls, N of them shear calls, N by the draft, and N distributions with all cells of their buffers, N refused\)',
-           call)
-    yield 'docs/PROMISES.md', r'`run_logs` \(N logs, N by the draft, and the velocity of every [N] from 0 to N and of every q from 0 to N\)', log
-    yield ('docs/LIMITS.md', r'agree with N jobs of an independent model, N of them in the Basin, N with two pairs of [^|]+?, N by the draft and N of all',
-           vector[:5])
+    yield 'docs/MAP.md', r'`run_logs` \(N soil logs, every blow count from 0 to N and every q from 0 to N\)', log
+    yield 'docs/MAP.md', r'`vectors` holds the definitions to N jobs, N in the Basin, N with two pairs, N of all at the ends', vector[:4]
+    yield 'docs/PROMISES.md', r'N jobs of the independent model, N of them in the Taipei Basin and N with two pairs of [^,]+, N of all', vector[:4]
+    yield ('docs/PROMISES.md', r'`run_jobs` \(N calls with all cells of their buffers, N of them refused; N in the Basin, N with two pairs\)',
+           (job, job_refused, in_basin, with_pairs))
+    yield ('docs/PROMISES.md', r'`run_sheets` \(N sheets, N of them refused; N of the Basin, N of the pairs, N of the roof force, N of two refusals and of limits\)',
+           (sheet[0], sheet[-1], *sheet[1:-1]))
+    yield 'docs/PROMISES.md', r'`run_refusals` \(N changed jobs, N in the Basin, N with two pairs\)', changed
+    yield 'docs/PROMISES.md', r'`run_calls` \(N calls, N of them shear calls and N distributions with all cells of their buffers, N refused\)', call
+    yield 'docs/PROMISES.md', r'`run_logs` \(N logs, and the velocity of every [N] from 0 to N and of every q from 0 to N\)', log
+    yield ('docs/LIMITS.md', r'agree with N jobs of an independent model, N of them in the Basin, N with two pairs of [^|]+? and N of all',
+           vector[:4])
     yield 'docs/MEASURED.md', r'`\.ci/run` in a fresh clone, [^.]*? N passed', (passed,)
     yield ('docs/MEASURED.md', r'It runs N stored jobs, N changed jobs, N sheets, N calls of the shear call and the distribution, N districts, '
            r'N calls of drift, torsion and accidental moments and N soil logs, and computes N',
@@ -190,7 +179,7 @@ def statements():
     yield 'docs/MEASURED.md', r'`tests/tried\.sh` tries N more edits', (tried,)
     yield 'docs/DECISIONS.md', r'the N jobs of the model are compared by a computed statement', (vector[0],)
     yield 'docs/DECISIONS.md', r'held to the core by the comparison, and to N jobs', (vector[0],)
-    yield 'docs/DECISIONS.md', r'every tenth row of `vectors` of each kind of ground, N of them, is in millionths', (vector[5],)
+    yield 'docs/DECISIONS.md', r'every tenth row of `vectors` of each kind of ground, N of them, is in millionths', (vector[4],)
     yield 'docs/DECISIONS.md', r'a case of `run_jobs` is its first N numbers, .* as many as the counts among the N say', (head, head)
     yield from wishes()
     yield from released()

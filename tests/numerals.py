@@ -4,7 +4,7 @@ usage: python3 -m tests.numerals [write]
 
 - tests/numerals.txt has the numerals of each page, heading by heading, in their order, in digits and in words: none may change, come or go unseen.
   'write' writes it afresh: after a number was changed on purpose, read what changed in it
-- the sentences below stand on their page, with numbers of the model, or of 000, by the section that a constant names; 001's are the model's
+- the sentences below stand on their page, with numbers of the model, or of 000, by the section that a constant names
 - a formula has the model's numbers wherever it stands
 
 It prints what is wrong and one line of counts, and exits with 1 where anything is.
@@ -17,16 +17,13 @@ import sys
 from fractions import Fraction
 from math import ceil
 
-from tests.compares.header_words import DRIFT_LIMIT, HANDED_IN, RELEASES, hundredth, most_thousandths, of_district, order, places, thousandths
-from tests.compares.said import STANDS
-from tests.model import (accidental, basin as basins, calls, district, drift, limits, profile as profiles, response, sheet, sheets, site as sites, soil, storeys,
-                         torsion)
+from tests.compares.header_words import DRIFT_LIMIT, HANDED_IN, RELEASES, hundredth, most_thousandths, of_district, order, places
+from tests.model import (accidental, basin as basins, calls, district, drift, limits, response, sheet, sheets, site as sites, soil, storeys, torsion)
 from tests.stated import numerals, plain, runs
 from tests.writes import manual, roof
-from tests.writes.by_hand.shears import SHEAR, STAR
+from tests.writes.by_hand.shears import SHEAR
 from tests.writes.by_hand.text import comma, decimal, hundredths
 from tests.writes.by_hand.worked import read
-from tests.writes.extremes import extremes
 from tests.writes.scaling import BUILDINGS
 
 ROOT = pathlib.Path(__file__).resolve().parents[1]
@@ -36,7 +33,6 @@ WIDTH = 140
 DESIGN, MCE, YEARS = 10, 2, 50
 HIGH, STOREYS, IRREGULAR_HIGH, IRREGULAR_STOREYS = 50, 15, 20, 5
 UNREDUCED = {10: 'ten'}
-PROVED = Fraction('1.326') * 1000 * limits.TOTAL_WEIGHT[-1]      # N: 02, "The draft's V over W comes to 1.326 at most"
 # formulas wherever they stand: what may stand in their places
 FORMS = (
     (r'([\d.]+) ?· ?T ?· ?V_D', {('0.07',)}), (r'\b(?:V_D|V_B) ?/ ?(\d+)', {('4',)}),
@@ -44,7 +40,7 @@ FORMS = (
     (r'I·p·W ?/ ?\(([\d.,]+)·alpha-y\)', {('4.2',), ('4200',), ('42,000',), ('3.5',), ('3500',), ('35,000',)}),
     (r'\(R − (\d\d+)\)/(\d+)', {('25', '75'), ('50', '50')}), (r'\+ \(R − (\d)\)/(\d\.\d)', {('1', '1.5'), ('1', '2.0')}),
     (r'\((\d)·R \+ (\d+)\)/(\d+)', {('2', '100', '300')}),
-    (r'([\d.]+)·q \+ ([\d.]+)', {('0.52', '0.144'), ('0.55', '0.18')}), (r'([\d.]+)·Sa \+ ([\d.]+)·F', {('0.52', '0.144')}),
+    (r'([\d.]+)·q \+ ([\d.]+)', {('0.52', '0.144')}), (r'([\d.]+)·Sa \+ ([\d.]+)·F', {('0.52', '0.144')}),
     (r'(?<![.\d])([\d.]+)·T0', {('0.2',), ('0.4',), ('0.6',), ('2.5',)}), (r'(\d+)·t/(\d+)', {('14', '10')}),
     (r'A·\(([\d.]+) \+ (\d)·T/T0\)', {('0.4', '3')}),
     (r'\(δ_max / \(([\d.]+) · δ_avg\)\)(.)', {('1.2', '²')}), (r'\(largest/\(([\d.]+)·average\)\)(.)', {('1.2', '²')}),
@@ -131,16 +127,10 @@ def of_sheet():
     yield f'A calculated period above {decimal(Fraction(response.period(1000, 60_000), 1000))} times the approximate one'
     yield f'with a calculated period of {near.frame.calculated_period} ms'
     yield f'of the top {soil.THICKNESS_SUM // 100} m (Table 3)'
-    largest, lowest = extremes()
-    assert lowest[profiles.OURS] == least and comma(largest[profiles.OURS]) == manual.heaviest()['most_V_D']
-    yield (f'V_D is from {least} N to {comma(largest[profiles.OURS])} N, by [the draft] from {lowest[profiles.DRAFT]} N to '
-           f'{comma(largest[profiles.DRAFT])} N, and T from')
-    ours, draft = map(profiles.of, limits.PROFILE)
-    yield f'By the draft the limit of {ours.hard} m/s is {draft.hard} m/s, and F_a and F_v are different'
+    yield f'V_D is from {least} N to'
     yield (f'{least} N is V* of {limits.TOTAL_WEIGHT[0]} kN with I = {I}, alpha-y = {alphay} and p = {decimal(p)} g, the least p of a site: '
            f'1 · {decimal(p)} · 1,000 / ({decimal(sites.V_STAR)} · {decimal(Fraction(alphay))}) = {decimal(exact, 1)}, rounded up')
-    assert max(largest.values()) <= PROVED <= limits.BASE_SHEAR[-1]
-    yield f'V_D is at least {limits.BASE_SHEAR[0]} N and at most {comma(int(PROVED))} N.'
+    yield f"V_D is at least 1 N and at most {manual.heaviest()['most_V_D']} N"
 
 
 def of_rules():
@@ -162,19 +152,16 @@ def at_the_end():
 def of_refusals():
     """Sentences of the page of refusals."""
     site, basin, log, handed = (order(call) for call in ('job', 'basin_job', 'site_class', 'distribution'))
-    (zone,), (profile, *replaced) = [each for each in basin if each not in site], [each for each in site if each not in basin]
+    (zone,), replaced = [each for each in basin if each not in site], [each for each in site if each not in basin]
     before, after = basin[:basin.index(zone)], basin[basin.index(zone) + 1:]
     too_long, not_laid_out = order('sheet')
-    first, judged, *layers = log
-    assert judged == profile
     three, four = order('shear_call')[:2]
     at = places('shear_call', three)
     longest = sheet.write(limits.Site(80, 45, 100, 55, 150, 200, 150, 200, 3), limits.Frame(4, 60_000, 600, 150, 200),
                           [limits.WEIGHT[-1]] * limits.LEVELS[-1], [limits.HEIGHT[-1]] * limits.LEVELS[-1])
     assert 4 * len(longest) < sheet.MOST_BYTES
     yield f'{too_long}, then {not_laid_out}, then the lowest number from {site[0]} to {log[-1]}, at its lowest place.'
-    yield f'{profile}, the [profile], stands after {before[-1]} and before {replaced[0]}, in [a soil log] after {first} and before {layers[0]}.'
-    yield f'{zone} stands in place of {profile} and {runs(replaced)}, after {runs(before)} and before {runs(after)}.'
+    yield f'{zone} stands in place of {runs(replaced)}, after {runs(before)} and before {runs(after)}.'
     yield f'{handed[-2]}, then {handed[-1]}, come after {runs(before)}.'
     yield f'enter {sites.NO_NEAR_FAULT} where there is no near fault'
     for words, number in (('check the unit, 0.01: 4.8', 480), ('check the unit, 0.01: 1.5', 150), ('for q, the unit: 0.25 kgf/cm²', 25)):
@@ -187,8 +174,8 @@ def of_refusals():
     yield f'In [a district] {row} comes before all other numbers of its row, and {whole} is of the whole call: there is no row then.'
     (displaced, limit), (of_floor, average), dimension = order('drift')[-2:], order('torsion'), order('accidental_moments')[-1]
     assert displaced == of_floor and [displaced, limit, average, dimension] == list(range(whole + 1, whole + 5))
-    yield (f'{first}, {layers[0]} to {log[-1]}, {handed[-2]} to {row}, {displaced} to {dimension}, and {three} and {four} at place {at}, are answers to a program: '
-           f'{layers[0]} to {log[-1]} of [the soil log], {handed[-2]} and {handed[-1]} of a distribution or of accidental moments, {three} and {four} at place {at} '
+    yield (f'{log[0]}, {log[1]} to {log[-1]}, {handed[-2]} to {row}, {displaced} to {dimension}, and {three} and {four} at place {at}, are answers to a program: '
+           f'{log[1]} to {log[-1]} of [the soil log], {handed[-2]} and {handed[-1]} of a distribution or of accidental moments, {three} and {four} at place {at} '
            f'of a shear call, {row} of a district, {displaced} of drift or of torsion, {limit} of drift, {average} of torsion, {dimension} of accidental moments. '
            f'No sheet gets them. {whole} is of a district or of a file of sheets, never of one sheet.')
     assert handed[-1] + 1 == row
@@ -197,12 +184,8 @@ def of_refusals():
     yield f'Check the unit: mm times {1 / Fraction(str(hundredth()))}, so 22.51 mm is {Fraction("22.51") * 100} |'
     yield 'Check the unit, dm: 24 m is 240 |'
     yield f'If the average is 0 and the largest is not, [take {torsion.MOST}.000]. If both are 0 there is no factor |'
-    yield (f'In a log {first} comes first, then {profile}, then {layers[0]}, then {layers[1]} at the first layer of thickness 0, then {layers[1]} at place 0, '
-           f'then {layers[2]}.')
-    yield f'a `site` line has fewer than {sheet.SITE.groups} or more than {sheet.TWO_PAIRS_BY_PROFILE.groups} numbers'
-    yield f'the last number of a `site` line of {sheet.SITE_BY_PROFILE.groups} or {sheet.TWO_PAIRS_BY_PROFILE.groups} numbers'
-    yield f'one of the {sheet.TWO_PAIRS.groups} numbers is missing'
-    yield f'write {limits.PROFILE[0]} for ours or {limits.PROFILE[-1]} for [the draft]'
+    yield (f'In a log {log[0]} comes first, then {log[1]}, then {log[2]} at the first layer of thickness 0, then {log[2]} at place 0, then {log[3]}.')
+    yield f'a `site` line has neither {sheet.SITE.groups} nor {sheet.TWO_PAIRS.groups} numbers'
     yield f'Cohesive soil with N below {soil.VALUE[soil.COHESIVE][0]} is entered as [soft clay], kind {soil.SOFT_CLAY}'
     yield (f'For cohesive N above {soil.VALUE[soil.COHESIVE][-1]}, and for cohesionless N of {soil.VALUE[soil.COHESIONLESS][0] - 1} or above '
            f'{soil.VALUE[soil.COHESIONLESS][-1]}')
@@ -228,18 +211,14 @@ def of_district_page():
     yield (f'its {district.CELLS} cells, 0 to {district.CELL - 1}, {district.CELL} to {2 * district.CELL - 1} and so on up to '
            f'{comma(most - district.CELL)} to {comma(most - 1)}.')
     yield f'1 kN is {comma(1000)} N.'
-    yield f'The largest possible V_D over W is {comma(most_thousandths(profiles.OURS))} thousandths.'
-    below = next(W for W in range(1, 100) if all(thousandths(each, profiles.DRAFT) < most_thousandths() for each in range(W, 1000)))
-    assert all(thousandths(each, profiles.DRAFT) == most_thousandths() for each in range(1, below))
-    yield (f'By [the draft] it is {comma(thousandths(limits.WEIGHT[-1], profiles.DRAFT))} thousandths, and {comma(most_thousandths())} where W is below '
-           f'{below} kN, as V_D is rounded up to a whole newton. Both are in the last cell, {comma(most - district.CELL)} to {comma(most - 1)}.')
+    yield f'The largest possible V_D over W is {comma(most_thousandths())} thousandths.'
     yield 'make a sheet without a byte. It has a row, refused with 16 at 1.'
     yield f'A sheet has at most {comma(sheet.MOST_BYTES)} bytes, else its row is refused with 17.'
     yield f'lowest level first, {limits.LEVELS[0]} to {limits.LEVELS[-1]} levels. 3 and 4 have the number of the level in the stretch, from 1.'
     yield f'Else one of no level is refused with 1, and one of over {limits.LEVELS[-1]} levels too.'
     at_end, beyond = at_the_end()
     yield f'In a store of seven levels `start` 7 with `count` 0 gets {at_end}, and `start` 8 gets {beyond}, whatever `count` is.'
-    most_sum = district.MOST_JOBS * extremes()[0][profiles.DRAFT]
+    most_sum = district.MOST_JOBS * most_thousandths() * limits.TOTAL_WEIGHT[-1]
     yield f'is at most {comma(most_sum)} N, so 64 bits hold the sum of some {2**64 // most_sum // 10**6} million calls.'
     yield f'Row 1 of part0001.sheets is then sheet {district.MOST_JOBS + 1} of the whole file.'
 
@@ -270,7 +249,7 @@ def of_others():
     """(page, sentence) of pages that are filled."""
     for page, divisor in (('worked.md', sites.V_STAR), ('near_fault.md', sites.V_STAR), ('basin.md', basins.V_STAR)):
         yield page, f'the 1.4 of (7) and (17) becomes {comma(SHEAR)}, and the {decimal(divisor)} of (19) becomes {comma(int(divisor * 10**4))};'
-    yield 'README.md', f"what each number from 1 to {order('site_class')[1]} means"
+    yield 'README.md', f"what each number from 1 to {order('accidental_moments')[-1]} means"
     yield 'rounding.md', f'never below the smaller of the exact A_x and {float(torsion.MOST)}, and less than one thousandth above it.'
     yield 'README.md', f'how up to {district.MOST_JOBS} sheets are run at once'
     yield 'worked.md', f'There is no [roof force] up to {storeys.NO_ROOF_FORCE} ms. Above that it is {decimal(roof.RISING)} · T · V_D'
@@ -281,47 +260,16 @@ def of_others():
     yield 'rounding.md', f'From {roof.NONE_UP_TO + 1} to {comma(roof.QUARTER_FROM - 1)} ms a smaller T'
     yield 'rounding.md', f'a period between {roof.NONE_UP_TO} and {roof.NONE_UP_TO + 1} ms becomes {roof.NONE_UP_TO} ms'
     yield 'shear_and_storeys.md', f'less than {HANDED_IN} N above it. This is proved'
-    ours, draft = map(profiles.of, limits.PROFILE)
-    yield 'soil.md', f'hard if {ours.hard // 10}·U < 3·10⁹; else soft if {ours.soft // 10}·L > 3·10⁹'
-    yield 'soil.md', f'by the draft a log is hard if {draft.hard // 10}·U < 3·10⁹, which is faster than {draft.hard} m/s.'
-    yield 'soil.md', f'above {ours.hard} m/s hard, below {ours.soft} m/s soft, else normal. By [the draft] the limit of hard ground is {draft.hard} m/s'
+    yield 'soil.md', 'hard if 27·U < 3·10⁹; else soft if 18·L > 3·10⁹'
     yield 'soft_clay.md', 'q is q_u in kPa divided by 0.980665: 60 kPa give 61.18, and q is 61. 1 kgf/cm² is 98.0665 kPa, or 10 tf/m²'
     assert decimal(Fraction('60') / Fraction('0.980665'), 2).startswith('61.18') and Fraction('98.0665') / 100 == Fraction('0.980665')
-
-
-def of_draft_page():
-    """Sentences of the page on the draft's figures."""
-    ours, draft = map(profiles.of, limits.PROFILE)
-    low, high = (float(each) for each in (draft.lines.low, draft.lines.high))
-    one, two = limits.PROFILE
-    job, log = order('job'), order('site_class')
-    profile, sheets_first = log[1], order('sheet')
-    yield f'Write {two} as the last number of the `site` line'
-    yield f'{one} is **ours**, the 2005 code as [the rules] have it; {two} is **the draft**'
-    yield f'limits of {low} and {high} for Sa/F_u, and no third shear V*?'
-    yield f"The draft's lines meet at {low} and {high}. Its m is never lower than ours: the same up to {float(ours.lines.low)}"
-    yield f'RUKESHOMAJI_OURS is {one} and RUKESHOMAJI_DRAFT is {two}. It has no default there: left 0, it is refused with {profile}.'
-    yield f'Ground above {ours.hard} m/s and up to {draft.hard} m/s is hard by ours and normal by the draft.'
-    yield f'it compares {draft.hard // 10}·U in place of {ours.hard // 10}·U.'
-    yield f'write a line of {sheet.TWO_PAIRS_BY_PROFILE.groups} numbers with {sites.NO_NEAR_FAULT} and {sites.NO_NEAR_FAULT} as the design pair.'
-    yield f'is above {float(ours.lines.low)} and below {low}: the draft leaves it as it is'
-    yield f'There is no [roof force] up to {storeys.NO_ROOF_FORCE} ms.'
-    yield f'why {comma(SHEAR)} and {comma(STAR)} stand for the 1.4 of V and V_M and the {decimal(sites.V_STAR)} of V*'
-    yield f'F_v, on normal ground with S_1 above {decimal(Fraction(sites.S_1_COLUMNS[2], 10_000))} g;'
-    yield f'Ground with class {soil.HARD} by both is taken to be above {draft.hard} m/s.'
-    yield (f'Of {" and ".join(map(str, STANDS))} `./shear` and `./district` say on standard error where class and profile stand on a line of '
-           f'{sheet.SITE_BY_PROFILE.groups} or {sheet.TWO_PAIRS_BY_PROFILE.groups} numbers.')
-    before, after = job[:job.index(profile)], job[job.index(profile) + 1:]
-    yield (f'{profile}, profile not {one} or {two}, has place {places("job", profile)}. On a sheet it comes after '
-           f"{', '.join(map(str, (*sheets_first, before[0], before[2])))} and {before[3]}, and before {runs(after)}. "
-           f'In a soil log it comes after {log[0]} and before {log[2]}.')
 
 
 def by_sentence():
     """(holds, words) of each sentence that must stand on its page."""
     wanted = [*of_others(), *((page, words) for page, said in (
         ('sheet.md', of_sheet()), ('rules.md', of_rules()), ('refusals.md', of_refusals()), ('scope.md', of_scope()), ('district.md', of_district_page()),
-        ('drift.md', of_drift_page()), ('draft.md', of_draft_page()))
+        ('drift.md', of_drift_page()))
         for words in said)]
     for page, words in wanted:
         yield words in plain((MANUAL / page).read_text()), f'docs/manual/{page}: does not say: {words}'

@@ -21,10 +21,10 @@ from tests.writes.by_hand.text import comma, decimal, ranged
 from tests.writes.by_hand.worked import read
 
 ROOT = pathlib.Path(__file__).resolve().parents[1]
-NUMBER_WORDS = {2: 'two', 3: 'three', 4: 'four', 5: 'five', 7: 'seven', 8: 'eight', 9: 'nine', 10: 'ten', 100: 'hundred'}
+NUMBER_WORDS = {2: 'two', 3: 'three', 4: 'four', 5: 'five', 7: 'seven', 9: 'nine', 100: 'hundred'}
 MARGIN, BASE, STOREY, HANDED_IN = 6, 1, 3, 2       # Wishes 7 and 6 of 02: six ten-millionths, plus 1 N, plus two more; below 2 N of a shear handed in
 # what is said in digits and is no number of the rules
-SAID = ('its exit status is 1', 'its exit status is 1 if there is a refusal', '(0 and 0 if it is accepted)', 'for x86-64 Linux', 'the largest of the three',
+SAID = ('its exit status is 1', 'its exit status is 1 if there is one', '(0 and 0 if it is accepted)', 'for x86-64 Linux', 'the largest of the three',
         'A job is two calls in one', 'The module for Python has all three', 'took 8 to 14 minutes on two cores', '`N passed, 0 failed`',
         'in about half a minute')
 
@@ -51,15 +51,11 @@ def fields():
     yield 'mapped S_S and S_1 of the design level, S_S and S_1 of the MCE (maximum considered earthquake) level, in 0.01 g;'
     yield ('near-fault factors N_A and N_V of the design level, N_A and N_V of the MCE level, in 0.01; '
            f'site class: {classes}. {nine.capitalize()} numbers; with {seven}, as here, one pair')
-    assert limits.PROFILE == (header['OURS'], header['DRAFT']) and sheet.SITE_BY_PROFILE.groups == sheet.SITE.groups + 1 == sheet.TWO_PAIRS_BY_PROFILE.groups - 2
-    ten, eight = (NUMBER_WORDS[layout.groups] for layout in (sheet.TWO_PAIRS_BY_PROFILE, sheet.SITE_BY_PROFILE))
-    yield (f"With the profile after the class a line has {ten} or {eight} numbers: {header['OURS']} ours, the same as without it, {header['DRAFT']} [the draft], "
-           'which is never for design |')
     yield f'the micro-zone, {ranged(limits.ZONE)} ([the Basin'
     yield (f"kind: {kinds}; calculated period in ms, {header['NO_PERIOD']} for none; "
            'R (ductility), I (importance) and alpha-y (first yield factor), each in 0.01 |')
     yield 'weight in kN, height above the base in dm; lowest level first'
-    yield f'V, V_M, V* and V_D, the largest of the three, in N; the period in use, T, in ms. V* of {example("draft").V_star} says: by the draft, not for design |'
+    yield 'V, V_M, V* and V_D, the largest of the three, in N; the period in use, T, in ms'
     yield 'force in N; shear of the storey below in N; overturning moment about the bottom of that storey in N·dm'
 
 
@@ -77,9 +73,8 @@ def fragment():
     office, near = example('office'), example('near_fault')
     hard = {numbers('rukeshomaji.h')['HARD']: 'RUKESHOMAJI_HARD'}
     for name, worked in (('site', office), ('near_fault', near)):
-        *first, cls, profile = worked.ground
-        assert profile == numbers('rukeshomaji.h')['OURS']
-        yield f"RukeshomajiSite {name} = {{{', '.join(map(str, first))}, {hard[cls]}, RUKESHOMAJI_OURS}};"
+        *first, cls = worked.ground
+        yield f"RukeshomajiSite {name} = {{{', '.join(map(str, first))}, {hard[cls]}}};"
     kind, *rest = office.frame
     assert frame == f"RukeshomajiFrame frame = {{{ {2: 'RUKESHOMAJI_CONCRETE'}[kind]}, {', '.join(map(str, rest))}}};"
     assert lists == f"uint64_t weights[LEVELS] = {{{', '.join(map(str, office.weights))}}}, heights[LEVELS] = {{{', '.join(map(str, office.heights))}}};"
@@ -102,20 +97,23 @@ def version_before(version):
 def versions():
     """The release, and what older ones answered."""
     brought = releases((ROOT / 'CHANGELOG.md').read_text())
-    newest, finer, roofs, drifts = (brought[title] for title in (next(iter(brought)), 'a finer spectrum', 'the roof force rule', 'drift and torsion'))
+    newest, finer, roofs, clay, pairs, districts = (brought[title] for title in (
+        next(iter(brought)), 'a finer spectrum', 'the roof force rule', 'soft clay by its strength', 'near-fault factors for each hazard level',
+        'a whole district in one call'))
     major, minor, last = map(int, newest.split('.'))
     assert major * 10**6 + minor * 1000 + last == numbers('rukeshomaji.h')['VERSION']
     W, I, alphay = limits.LEVELS[-1] * limits.WEIGHT[-1], limits.I_VALUES[-1], limits.ALPHA_Y[0]
     most = ceil(MARGIN * Fraction(I * W * 1000 * 10, 14 * alphay) / 10**6 + BASE)      # six millionths of the heaviest building, plus 1 N
-    ten, nine = NUMBER_WORDS[len(limits.Site._fields)], NUMBER_WORDS[len(limits.Site._fields) - len(limits.Site._field_defaults)]
-    assert newest == brought["the draft's figures"] and (minor, last) == (0, 0)
-    yield f'The version is {newest}. A program of version {major - 1} that gives a site, a job of a district or a soil log'
-    yield f'a site has {ten} fields in place of {nine}, the report of a district has more cells'
-    yield f'With the profile {limits.PROFILE[0]} every figure is that of {drifts.removesuffix(".0")}.'
-    yield f'a program of version {major - 2} follows [its own list] first.'
+    yield f'The version is {newest}. A program of version {pairs.removesuffix(".0")} to {version_before(newest)} needs no change.'
+    yield (f'All figures are those of {version_before(newest)}; `rukeshomaji_drift`, `rukeshomaji_torsion` and `rukeshomaji_accidental_moments` are new. '
+           f'`rukeshomaji_district` is there since {districts}, and soft clay in a soil log is taken since {clay}.')
+    assert newest == brought['drift and torsion']
     yield f'Shears of {version_before(finer)} are the same or some newtons higher, in the heaviest buildings by less than {comma(most)} N'
     yield (f'Where T is up to {storeys.NO_ROOF_FORCE} ms, or {comma(roof.QUARTER_FROM)} ms or more, forces, shears and moments can differ from those of '
            f'{version_before(roofs)} by more')
+    nine, seven = (NUMBER_WORDS[layout.groups] for layout in (sheet.TWO_PAIRS, sheet.SITE))
+    yield f'A program of version {major - 1} that gives a site'
+    yield f'the struct of a site has {nine} fields in place of {seven}'
     yield f'from one period to the next before version {finer} '
 
 
@@ -152,7 +150,6 @@ def sentences():
     part = Fraction(storeys.F_t(roof.QUARTER_FROM, 10**6), 10**6)
     kit = re.search(r'`(rattle-\S+ logic \w+)`', (ROOT / 'docs' / 'LIMITS.md').read_text())[1]
     yield f"Taiwan's {numbers('rukeshomaji.h')['EDITION']} code"
-    yield f"([by hand, beside the {numbers('rukeshomaji.h')['EDITION']} code])"
     yield (f'less than six ten-millionths of I·W/(1.4·alpha-y) plus {BASE} N, a storey shear by less than the same six ten-millionths plus {STOREY} N.** '
            'Here W, the total weight, is in N, and I and alpha-y are plain numbers.')
     yield f'where T is at most {decimal(Fraction(storeys.NO_ROOF_FORCE, 1000))} s, and it is at most a { {Fraction(1, 4): "quarter"}[part]} of the base shear'

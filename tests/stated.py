@@ -17,8 +17,8 @@ def plain(text):
 
 
 def numerals(text):
-    """(place, numeral) of each numeral; 000, the code's text, and 001, its draft, are none."""
-    return [(found.start(), found[0]) for found in NUMERAL.finditer(text) if found[0] not in ('000', '001')]
+    """(place, numeral) of each numeral; 000, the code's text, is none."""
+    return [(found.start(), found[0]) for found in NUMERAL.finditer(text) if found[0] != '000']
 
 
 def held(name, text, sentences):

@@ -7,7 +7,7 @@ moments (run_drifts), on a site and in the Basin where there is a ground:
 - every refusal is given at every place; of levels and layers at the first, at one between and at the last, of lines at 1, 2, 3 and a later one
 - both sides of every limit are there, with nothing else wrong
 - every two refusals that can apply together are there, with nothing else wrong, and the earlier one is given; one at two places too
-Of job calls (run_jobs) every refusal is given at every place; of jobs judged, job calls and logs by the draft's profile those that are left.
+Of job calls (run_jobs), whose input is full, every refusal is given at every place.
 Of districts (run_districts) every refusal of a row is given at every place, 21 with each other one, and both sides of the limits of 21 and 22 are there.
 
 It prints what is missing and one line of counts, and exits with 1 where anything is.

@@ -1,7 +1,7 @@
 """Numerals of the model, each changed by one: are they seen by what the gate holds the definitions and the code to?
 
-The numerals of the chain are tried on the jobs of crates/vectors, those of the soil log on the logs of crates/run_logs, those of the profiles on both, those
-of the ranges and refusals on the changed jobs of crates/run_refusals, the jobs of crates/vectors, the shear calls and distributions of
+The numerals of the chain are tried on the jobs of crates/vectors, those of the soil log on the logs of crates/run_logs, those of
+the ranges and refusals on the changed jobs of crates/run_refusals, the jobs of crates/vectors, the shear calls and distributions of
 crates/run_calls and the cases of crates/run_drifts, those of districts on crates/run_districts and on the file of sheets of crates/district,
 those of drift, torsion and accidental moments on crates/run_drifts: the files that stand there, which the unchanged model must meet first.
 What they do not see, and the numerals of towers, are tried on the figures of tests/compares/check_model.py. A numeral of an assertion is left
@@ -22,10 +22,9 @@ import sys
 
 from tests.compares import check_model
 from tests.compares.checks import basin as basin_figures, errors, figures, sheet_files, towers as tower_figures
-from tests.model import (accidental, basin, calls, district, drift, exact, limits, profile, response, shears, sheets, site, soil, storeys, torsion,
-                         towers)
+from tests.model import accidental, basin, calls, district, drift, exact, limits, response, shears, sheets, site, soil, storeys, torsion, towers
 from tests.model.job import job
-from tests.writes import call_cases, district_sheets, districts, drifts, log_cases, refusal_cases, stored_drifts, stored_logs, stored_refusals, vectors
+from tests.writes import call_cases, district_sheets, districts, drifts, log_cases, refusal_cases, stored_drifts, vectors
 
 LEFT = {
     **dict.fromkeys(('DIGITS', 'low_fraction', 'high_fraction', 'squares', 'bounds', 'base_margin', 'check', 'check_distribution'),
@@ -34,11 +33,12 @@ LEFT = {
 }
 # (module, line, numeral): why the changed text means the same
 SAME = {
+    ('tests.model.site', 'S_S_COLUMNS', 5000): 'the coefficients of the first two columns are equal in every class',
+    ('tests.model.site', 'S_S_COLUMNS', 9000): 'those of the last two are equal in every class',
     ('tests.model.response', 'k', 1): 'no root^2 of an R lies less than one above a square',
     ('tests.model.limits', 'for', 4): 'there are four lists',
 }
 MOST_SECONDS = 20       # a changed model may not end
-VECTOR = 6              # arguments of a job of crates/vectors; a log has four, a velocity two
 CRATES = pathlib.Path(__file__).resolve().parents[2] / 'crates'
 
 
@@ -105,17 +105,12 @@ def judged(*case):
         return case[0].said()
     if isinstance(case[0], (call_cases.Shear, call_cases.Distribution)):
         return called(*case)
-    return stored_refusals.outcome(*case) if len(case) == 1 else vector(*case)
+    return refusal_cases.outcome(*case) if len(case) == 1 else vector(*case)
 
 
 def log_or_velocity(*case):
-    """What the program `run_logs` says of three lists by a profile, or of a kind and its value."""
-    return str(stored_logs.velocity(*case)) if len(case) == 2 else stored_logs.outcome(*case)
-
-
-def by_profile(*case):
-    """What a log says, or a job's stages."""
-    return log_or_velocity(*case) if len(case) < VECTOR else vector(*case)
+    """What the program `run_logs` says of three lists, or of a kind and its value."""
+    return log_cases.outcome(*case) if len(case) == 3 else str(log_cases.velocity(*case))
 
 
 def in_district(case):
@@ -147,9 +142,8 @@ def suites():
     """(modules, the function tried, its cases, what it is known to answer)."""
     rows = list(vector_rows())
     yield (site, basin, response, shears, storeys, exact), vector, rows, [vector(*row) for row in rows]
-    logs = [*(stored_logs.call(*case) for case in log_cases.all_cases()), *log_cases.values()]
+    logs = [*(log_cases.lists(*case) for case in log_cases.all_cases()), *log_cases.values()]
     yield (soil,), log_or_velocity, logs, answers(CRATES / 'run_logs' / 'stdout')
-    yield (profile,), by_profile, [*logs, *rows], [*answers(CRATES / 'run_logs' / 'stdout'), *(vector(*row) for row in rows)]
     of_drift = drifts.all_cases()
     yield (drift, torsion, accidental), judged, [(case,) for case in of_drift], drifts.stored(of_drift)
     jobs = [(changes,) for changes in refusal_cases.all_cases()]

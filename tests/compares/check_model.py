@@ -6,10 +6,10 @@ usage: python3 -m tests.compares.check_model
 import sys
 
 from tests.compares.checks import (basin, calls, demand_3, districts, drifts, errors, figures, finer, larger_r, logs, moves, moves_drawn, pairs, paper,
-                                   profiles, refusals, roof, sheet_files, sheets, towers)
+                                   refusals, roof, sheet_files, sheets, towers)
 
-MODULES = (figures, paper, finer, basin, pairs, profiles, roof, calls, towers, moves, moves_drawn, larger_r, errors, refusals, logs, sheets, districts,
-           sheet_files, drifts, demand_3)
+MODULES = (figures, paper, finer, basin, pairs, roof, calls, towers, moves, moves_drawn, larger_r, errors, refusals, logs, sheets, districts, sheet_files,
+           drifts, demand_3)
 
 
 def answer(function):

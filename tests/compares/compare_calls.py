@@ -134,7 +134,7 @@ def of_stratum(name):
 
 
 def shear_tasks(seed, count, bad):
-    """What is compared of shear calls, on each kind of ground a quarter."""
+    """What is compared of shear calls, on each kind of ground a third."""
     for kind in KINDS:
         names = [name for name, _ in drawn.shear_strata(kind)]
         yield from ((run_shear_stratum, f'shear stratum {seed} {name}', name, of_stratum(name), kind) for name in names)

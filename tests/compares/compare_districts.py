@@ -15,7 +15,6 @@ A_DISTRICT, OF_MANY = 150, 20       # of a stratum, and of one of many jobs
 OLD = 7_000_000                     # what the rows held: all cells differ
 WIDTH = len(district.Row._fields)
 PLAIN = 'district: drawn from all of it'
-ENDS = (16, 23, 1_125, 1_325, 1_326)        # the smallest and the largest V_D over W: by the draft and by ours; by the draft of a light job too
 SINGLE, ANOTHER = 'district: the rows as single calls', "district: another job in one job's place"
 
 
@@ -81,7 +80,7 @@ def row_words(row, W):
     governed = sum(shear == row.V_D for shear in (row.V, row.V_M, row.V_star))
     thousandths = district.thousandths(row.V_D, W)
     words = [f"{district.governing(row).replace('_star', '*')} governs", *['a tie'] * (governed > 1)]
-    words += [f'V_D over W is {thousandths:,}'] * (thousandths in ENDS)
+    words += [f'V_D over W is {thousandths}'] * (thousandths in (23, 1_125))
     return words + {0: ['at the lowest thousandth of a cell'], 9: ['at the highest thousandth of a cell']}.get(thousandths % district.CELL, [])
 
 
@@ -116,11 +115,10 @@ def run_district_stratum(library, tally, seed, name, count):
 
 
 def run_districts(library, tally, seed, count):
-    """Districts drawn from all of it, every second one with any profiles."""
+    """Districts drawn from all of it."""
     rng = random.Random(seed)
-    for number in range(count):
-        call = drawn.any_district(rng)
-        compare_district(tally, library, rng, PLAIN, drawn.with_profiles(rng, call) if number % 2 else call)
+    for _ in range(count):
+        compare_district(tally, library, rng, PLAIN, drawn.any_district(rng))
 
 
 def run_systematic_districts(library, tally, seed, count):

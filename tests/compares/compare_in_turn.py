@@ -5,14 +5,14 @@ import random
 from tests.compares import core
 from tests.compares.compare_calls import KINDS
 from tests.compares.parts import chunks, held
-from tests.draws import basin, calls as drawn, draft, faults, pair_faults, pairs
+from tests.draws import basin, calls as drawn, faults, pair_faults, pairs
 from tests.draws.plain_jobs import draw, lengths
 from tests.draws.roof import period_strata
 from tests.draws.sample import all_strata, in_turn
 
 IN_TURN = 10            # for every so many DISTRIBUTIONS a job on top whose two calls are made in turn
 BAD_IN_TURN = 4         # of those jobs one in so many has a bad ground or frame
-TURNS = {'site': 'two calls in turn', 'basin': 'two calls in turn, Basin', 'pairs': 'two calls in turn, two pairs', 'draft': 'two calls in turn, draft'}
+TURNS = {'site': 'two calls in turn', 'basin': 'two calls in turn, Basin', 'pairs': 'two calls in turn, two pairs'}
 
 
 def made_in_turn(library, ground, frame, weights, heights, room):
@@ -32,7 +32,7 @@ def compare_in_turn(tally, library, stratum, call):
 
 def turn_strata(kind):
     """The plain strata of jobs on a kind of ground, and T at the ends of the roof force."""
-    own = {'site': all_strata, 'basin': basin.plain_strata, 'pairs': pairs.plain_strata, 'draft': draft.plain_strata}[kind]()
+    own = {'site': all_strata, 'basin': basin.plain_strata, 'pairs': pairs.plain_strata}[kind]()
     return [*own, *period_strata(drawn.GROUNDS[kind])]
 
 
@@ -66,7 +66,7 @@ def run_bad_in_turn(library, tally, seed, count, kind):
 
 
 def turn_tasks(seed, count):
-    """The two calls in turn, on each kind of ground a quarter."""
+    """The two calls in turn, on each kind of ground a third."""
     for kind in KINDS:
         bad = count // BAD_IN_TURN // len(KINDS)
         yield from chunks(run_in_turn, seed, count // len(KINDS) - bad, kind)

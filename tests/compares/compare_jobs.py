@@ -1,4 +1,4 @@
-"""The jobs of the comparison, sound and bad, on sites, in the Basin, with two pairs of near-fault factors and by the draft's profile."""
+"""The jobs of the comparison, sound and bad, on sites, in the Basin and with two pairs of near-fault factors."""
 
 import random
 
@@ -6,18 +6,16 @@ from tests.compares import core
 from tests.compares.excess import SHARP
 from tests.compares.parts import A_STRATUM, MEASURED_EACH, chunks, figures_of, filled, held
 from tests.compares.tally import PREFIX, kind_of, label, refusal_words
-from tests.draws import faults, pair_faults, pairs, profile_faults
+from tests.draws import faults, pair_faults, pairs
 from tests.draws.basin import basin_strata
-from tests.draws.draft import draft_strata
 from tests.draws.exact_roots import root_strata
-from tests.draws.plain_jobs import draw, draw_basin, draw_draft, draw_pairs, draw_site, lengths
+from tests.draws.plain_jobs import draw, draw_basin, draw_pairs, draw_site, lengths
 from tests.draws.rare import rare_strata
 from tests.draws.roof import roof_strata
 from tests.draws.sample import all_strata, draw_in
 from tests.model import job as jobs
 
 WITHOUT = 'the same without buffers'
-OWN_STRATA = {draw_basin: basin_strata, draw_pairs: pairs.pair_strata, draw_draft: draft_strata}
 
 
 def answer_of(result, room):
@@ -51,12 +49,11 @@ def with_buffers(rng, inputs):
 
 
 def strata(draw_ground=draw_site):
-    """Every stratum of sites, of the Basin, of two pairs or of the draft, with the jobs drawn for it; those of the roof force and the roots are on each of
-    them."""
+    """Every stratum of sites, of the Basin or of two pairs, with the jobs drawn for it; those of the roof force and the roots are on each of them."""
     shared = [*roof_strata(draw_ground, A_STRATUM), *((each, A_STRATUM) for each in root_strata(draw_ground))]
     if draw_ground is draw_site:
         return [*((each, A_STRATUM) for each in all_strata()), *rare_strata(), *shared]
-    return [*OWN_STRATA[draw_ground](A_STRATUM), *shared]
+    return [*(basin_strata if draw_ground is draw_basin else pairs.pair_strata)(A_STRATUM), *shared]
 
 
 def run_stratum(library, tally, seed, name, count, draw_ground=draw_site):
@@ -92,11 +89,6 @@ def run_pairs(library, tally, seed, count):
     run_plain(library, tally, seed, count, draw_pairs)
 
 
-def run_draft(library, tally, seed, count):
-    """Jobs by the draft drawn from all that is allowed."""
-    run_plain(library, tally, seed, count, draw_draft)
-
-
 def run_faults(library, tally, kind, calls):
     """Bad calls, with and without buffers; counted by the kind of ground that was drawn and the refusal that the model gives."""
     for call in calls:
@@ -125,12 +117,6 @@ def run_pairs_bad(library, tally, seed, count):
     run_faults(library, tally, 'pairs', (pair_faults.random_call(rng) for _ in range(count)))
 
 
-def run_draft_bad(library, tally, seed, count):
-    """Random bad calls by the draft, and by profiles that there are none of."""
-    rng = random.Random(seed)
-    run_faults(library, tally, 'draft', (profile_faults.random_call(rng) for _ in range(count)))
-
-
 def run_systematic(library, tally, seed, count):
     """Both sides of every limit at every place."""
     run_faults(library, tally, 'site', faults.systematic())
@@ -145,11 +131,6 @@ def run_systematic_basin(library, tally, seed, count):
 def run_systematic_pairs(library, tally, seed, count):
     """The same with two pairs, two numbers of the site at once, and each bad factor with another number out of range."""
     run_faults(library, tally, 'pairs', pair_faults.systematic())
-
-
-def run_systematic_draft(library, tally, seed, count):
-    """The same by the draft, and bad profiles with every other number beside its limits."""
-    run_faults(library, tally, 'draft', profile_faults.systematic())
 
 
 def job_tasks(seed, draw_ground, plain, count):
@@ -175,9 +156,3 @@ def pair_tasks(seed, count, bad):
     """What is compared with two pairs beside sheets."""
     yield from job_tasks(seed, draw_pairs, run_pairs, count)
     yield from ((run_systematic_pairs, seed, 0), *chunks(run_pairs_bad, seed, bad))
-
-
-def draft_tasks(seed, count, bad):
-    """What is compared by the draft beside sheets."""
-    yield from job_tasks(seed, draw_draft, run_draft, count)
-    yield from ((run_systematic_draft, seed, 0), *chunks(run_draft_bad, seed, bad))

@@ -119,7 +119,7 @@ def of_stratum(name):
 
 
 def move_tasks(seed, count):
-    """Moves, on each kind of ground a quarter."""
+    """Moves, on each kind of ground a third."""
     for kind in KINDS:
         names = [name for name, _ in drawn.strata(kind)]
         yield from ((run_move_stratum, f'moves {seed} {name}', name, of_stratum(name), kind) for name in names)

@@ -76,7 +76,7 @@ def of_stratum(name):
 
 
 def tower_tasks(seed, count):
-    """Pairs, on each kind of ground a quarter, and other numbers of towers on top."""
+    """Pairs, on each kind of ground a third, and other numbers of towers on top."""
     for kind in KINDS:
         names, many = ([name for name, _ in strata(kind)] for strata in (drawn.pair_strata, drawn.many_strata))
         of_each = count // len(KINDS) // MANY_OF // len(many)

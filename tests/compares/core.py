@@ -11,7 +11,7 @@ import subprocess
 import sys
 
 from tests.compares.structs import I64, U64, DistrictJob, Figures, Frame, Listing, Report, Row, Site, SiteClass, Torsion
-from tests.model import limits, profile as profiles
+from tests.model import limits
 
 ROOT = pathlib.Path(__file__).resolve().parents[2]
 ARCHIVE = ROOT / 'target' / 'staticlib' / 'liblinked.a'
@@ -48,7 +48,7 @@ def load():
         entry = getattr(library, f'rukeshomaji_{ground}shear_call')
         entry.argtypes = [kind, ctypes.POINTER(Frame), U64, U64, ctypes.POINTER(Figures)]
     library.rukeshomaji_distribution.argtypes = [U64, U64, *slices * 5, ctypes.POINTER(U64)]
-    library.rukeshomaji_site_class.argtypes = [U64, *slices * 3, ctypes.POINTER(SiteClass)]
+    library.rukeshomaji_site_class.argtypes = [*slices * 3, ctypes.POINTER(SiteClass)]
     library.rukeshomaji_sheet.argtypes = [ctypes.c_char_p, U64, ctypes.c_char_p, ctypes.POINTER(Listing)]
     library.rukeshomaji_district.argtypes = [ctypes.POINTER(DistrictJob), U64, *slices * 2, ctypes.POINTER(Row), U64, ctypes.POINTER(Report)]
     library.rukeshomaji_drift.argtypes = [*slices, *signed, U64, *slices, ctypes.POINTER(U64)]
@@ -141,10 +141,10 @@ def distribution(library, base_shear, period, weights, heights, buffers):
     return answer(number, array), [cells_of(each) for each, _, _ in out], same
 
 
-def site_class(library, thicknesses, kinds, values, profile=profiles.OURS):
+def site_class(library, thicknesses, kinds, values):
     """(number, place, class)"""
     array, reply = painted(SiteClass)
-    return answer(library.rukeshomaji_site_class(profile, *lent(thicknesses), *lent(kinds), *lent(values), reply), array)
+    return answer(library.rukeshomaji_site_class(*lent(thicknesses), *lent(kinds), *lent(values), reply), array)
 
 
 def sheet(library, data):

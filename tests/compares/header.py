@@ -31,7 +31,6 @@ CONSTANTS = {
     'MOST_BASE_SHEAR': 'limits/handed SHEAR_MOST', 'DISTRICT_JOBS': 'limits/district JOBS_MOST', 'CELLS': 'district_call/report CELLS',
     'MOST_DISPLACEMENT': 'limits/displacement SIZE_MOST', 'MOST_DRIFT_LIMIT': 'limits/drift_limit MOST', 'MOST_DIMENSION': 'limits/plan DIMENSION_MOST',
     'MOST_TORSION_FACTOR': 'drift/torsion FACTOR_MOST',
-    'OURS': 'limits/profile OURS', 'DRAFT': 'limits/profile DRAFT',
     'HARD': 'limits/class HARD', 'NORMAL': 'limits/class NORMAL', 'SOFT': 'limits/class SOFT',
     'STEEL': 'limits/kind STEEL', 'CONCRETE': 'limits/kind CONCRETE', 'BRACED': 'limits/kind BRACED', 'OTHER': 'limits/kind OTHER',
     'NO_PERIOD': 'limits/frame NO_PERIOD',
@@ -76,7 +75,7 @@ STRUCTS = {
     'jobs': 'RukeshomajiDistrictJob', 'rows': 'RukeshomajiRow', 'report': 'RukeshomajiReport',
 }
 # where the core says how many cells an array has
-SIZES = {'SITE': 'linked/arrays', 'JOB': 'district_call/entered', 'ROW': 'district_call/row', 'REPORT': 'linked/arrays', 'CELLS': 'district_call/report',
+SIZES = {'JOB': 'district_call/entered', 'ROW': 'district_call/row', 'REPORT': 'linked/arrays', 'CELLS': 'district_call/report',
          'TOTALS': 'linked/arrays'}
 # names of the core that are others in the header
 RENAMED = {'class': 'class_number', 'alpha': 'alpha_y'}

@@ -1,5 +1,4 @@
-"""What the comments of include/rukeshomaji.h say in digits: refusals and their places, profiles, classes and kinds, bounds, versions, and equations of 000
-and of 001.
+"""What the comments of include/rukeshomaji.h say in digits: refusals and their places, classes and kinds, bounds, versions, and equations of 000.
 
 Refusals and places are what the model gives where everything is wrong. Equations are those of the tables of docs/manual. Each part of the header has
 its own sentences; a numeral in none of them is wrong.
@@ -9,14 +8,14 @@ import pathlib
 import re
 from fractions import Fraction
 
-from tests.model import accidental, district, drift, limits, profile as profiles, sheet, site as sites, soil, storeys, torsion
+from tests.model import accidental, district, drift, limits, sheet, site as sites, soil, storeys, torsion
 from tests.stated import held, plain, releases, runs
 
 ROOT = pathlib.Path(__file__).resolve().parents[2]
 NAME = 'include/rukeshomaji.h'
 RELEASES = releases((ROOT / 'CHANGELOG.md').read_text())
-PARTED, SOFT_CLAY, DISTRICT, DRIFT, DRAFT = (RELEASES[title] for title in (
-    'the shear parted from its distribution', 'soft clay by its strength', 'a whole district in one call', 'drift and torsion', "the draft's figures"))
+PARTED, SOFT_CLAY, DISTRICT, DRIFT = (RELEASES[title] for title in (
+    'the shear parted from its distribution', 'soft clay by its strength', 'a whole district in one call', 'drift and torsion'))
 HANDED_IN = 2           # N: "less than two newtons above", of a shear that is handed in
 PART = 4                # "never more than a quarter of V_D"
 SCALES = '3.4'          # the section of 000 by which V_D scales a dynamic analysis
@@ -42,7 +41,7 @@ def wrong_everywhere():
     too_long, not_laid_out = sheet.read(b'x' * (sheet.MOST_BYTES + 1))[0], sheet.read(b'x\n')[0]
     return {'job': list(limits.refusals(site, frame, *levels)), 'basin_job': list(limits.refusals(zone, frame, *levels)),
             'shear_call': list(limits.shear_call_refusals(site, frame, 0, 0)), 'basin_shear_call': list(limits.shear_call_refusals(zone, frame, 0, 0)),
-            'distribution': list(limits.distribution_refusals(0, limits.PERIOD[-1] + 1, *levels)), 'site_class': list(soil.refusals(*log, 0)),
+            'distribution': list(limits.distribution_refusals(0, limits.PERIOD[-1] + 1, *levels)), 'site_class': list(soil.refusals(*log)),
             'sheet': [too_long, not_laid_out], **wrong_drifts()}
 
 
@@ -66,17 +65,12 @@ def of_district():
     return whole, row.number, row.place
 
 
-def most_thousandths(profile=profiles.DRAFT):
-    """The most thousandths that V_D over W comes to by a profile, by the draft in the last cell: of the lightest building, as V_D is rounded up, and of the
-    heaviest, on soft ground, where no coefficient is smaller."""
-    return max(thousandths(W, profile) for W in (limits.WEIGHT[0], limits.WEIGHT[-1]))
-
-
-def thousandths(W, profile):
-    """The most thousandths that V_D over W comes to for a weight by a profile."""
-    site, frame = limits.Site(80, 45, 100, 55, 150, 200, 150, 200, 3, profile), limits.Frame(4, 0, 100, 150, 100)
+def most_thousandths():
+    """The most thousandths that V_D over W comes to, which are in the last cell: the largest V_D of the heaviest building."""
+    site, frame = limits.Site(80, 45, 100, 55, 150, 200, 150, 200, 1), limits.Frame(4, 0, 100, 150, 100)
+    W = limits.WEIGHT[-1]
     row = district.answer(site, frame, [W], [100]).row
-    assert profile == profiles.OURS or district.cell_of(row.V_D, W) == district.CELLS - 1
+    assert district.cell_of(row.V_D, W) == district.CELLS - 1
     return district.thousandths(row.V_D, W)
 
 
@@ -108,20 +102,8 @@ def column(page, heading, head):
 
 
 def equations(cells):
-    """The numbers of the equations that cells name, in their order, '(12) to (14)' with what is between; '2.1, after (4)' names a text, not an equation."""
-    spans = [re.findall(r'(?<!after )\((\d+)\)(?: to \((\d+)\))?', cell) for cell in cells]
-    return sorted({number for found in spans for first, last in found for number in range(int(first), int(last or first) + 1)})
-
-
-def of_draft():
-    """Of 001: the equations and tables of the base shear, and the table of the classes, by the two tables of the manual's page."""
-    text, steps = (ROOT / 'docs' / 'manual' / 'draft.md').read_text(), {}
-    for heading in ('What a profile changes', 'What stays ours'):
-        rows = re.search(rf'^## {heading}\n[^|]*((?:\|[^\n]*\n)+)', text, re.M)[1].splitlines()
-        steps |= {cells[0]: cells[-1] for cells in ([cell.strip() for cell in row[1:-1].split('|')] for row in rows[2:])}
-    of_logs = {step: steps.pop(step) for step in ('class', 'velocity of a layer', 'average velocity of the top 30 m')}
-    first, last = sorted({table for cell in steps.values() for table in re.findall(r'Table (\d)', cell)})
-    return f'document 001 {runs(equations(steps.values()), "({})")}, Tables {first} and {last}', f"document 001, {of_logs['class']}"
+    """The numbers of the equations that cells name, in their order; '2.1, after (4)' names a text, not an equation."""
+    return sorted({int(number) for cell in cells for number in re.findall(r'(?<!after )\((\d+)\)', cell)})
 
 
 def references():
@@ -137,13 +119,12 @@ def references():
     assert on_site['t'] == on_site['T'] == after.replace(' after', ', after').removesuffix(' for the period')
     site, basin = (equations(base[name]) for name in ('site', 'basin'))
     named = dict.fromkeys(each for step in ('time', 'velocity v', 'class') for each in steps[step].split(', '))
-    by_draft, classes_by_draft = of_draft()
-    return {'draft': by_draft, 'job': f'document 000 {runs(site + roof, "({})")}, ({turning[0]}) without its factor.',
+    return {'job': f'document 000 {runs(site + roof, "({})")}, ({turning[0]}) without its factor.',
             'figures': f'document 000 {runs(site, "({})")}',
             'basin_job': f'document 000, {after}, {runs(basin + roof, "({})")}, {table_4}, ({turning[0]}) without its factor.',
             'basin_figures': f'document 000, {after}, {runs(basin, "({})")}, {table_4}',
             'distribution': f'document 000 ({roof[0]}) with base_shear for V_D and period for T, ({turning[0]}) without its factor.',
-            'site_class': f'document 000 {", ".join(named)}; by the draft the limits of {classes_by_draft}', 'roof': f'F_t of ({roof[0]})',
+            'site_class': f'document 000 {", ".join(named)}', 'roof': f'F_t of ({roof[0]})',
             'drift': f"document 000, {on_site['verdict']}.", 'torsion': f"document 000 {on_site['A_x'].split(', ')[-1]};",
             'accidental_moments': f"document 000, {on_site['accidental moment']};"}
 
@@ -154,15 +135,13 @@ def general(constant):
     assert sum(part * scale for part, scale in zip(version, (10**6, 1000, 1))) == constant('linked/lib VERSION')
     yield f"Taiwan's {constant('linked/lib EDITION')} code"
     yield f'{10**6:,} times the major number, {1000:,} times the minor one'
-    yield f"it is {constant('linked/lib SOURCE')} since a site and a soil log name a profile ({DRAFT})."
+    yield f"it is {constant('linked/lib SOURCE')} since a soil log takes soft clay by its unconfined compression strength ({SOFT_CLAY})."
     site, basin, log = (order(call) for call in ('job', 'basin_job', 'site_class'))
-    (zone,), (profile, *replaced) = [each for each in basin if each not in site], [each for each in site if each not in basin]
+    (zone,), replaced = [each for each in basin if each not in site], [each for each in site if each not in basin]
     before, after = basin[:basin.index(zone)], basin[basin.index(zone) + 1:]
-    assert site == [*before, profile, *replaced, *after] and log[1] == profile
-    yield f'Of {site[0]} to {log[-1]} the lowest number that applies is returned, at its lowest place, but {log[3]} at a layer of thickness 0'
-    yield f'With a site {profile} stands after {before[-1]} and before {replaced[0]}, in a soil log after {log[0]} and before {log[2]}.'
-    yield f'{zone} stands where {profile} and {runs(replaced)} stand, after {runs(before)} and before {runs(after)}.'
-    yield from of_profiles(constant, profile)
+    assert site == before + replaced + after
+    yield f'Of {site[0]} to {log[-1]} the lowest number that applies is returned, at its lowest place, but {log[2]} at a layer of thickness 0'
+    yield f'{zone} stands where {runs(replaced)} stand, after {runs(before)} and before {runs(after)}.'
     three, four = order('shear_call')[:2]
     yield f"its {three} and {four} are of the total weight and the top height, at place {places('shear_call', three)}."
     handed = order('distribution', without=before)
@@ -174,7 +153,7 @@ def general(constant):
     yield from of_drifts()
     yield from places_said()
     classes = ', '.join(f'{constant(f"limits/class {name.upper()}")} {name}' for name in ('hard', 'normal', 'soft'))
-    yield f'site class by the profile: {classes}'
+    yield f'site class: {classes}'
     yield f'/* {classes}; 0 where data is refused */'
     kinds = (('STEEL', 'steel'), ('CONCRETE', 'RC or SRC'), ('BRACED', 'eccentrically braced'), ('OTHER', 'other'))
     yield 'of frame: ' + ', '.join(f'{constant(f"limits/kind {name}")} {words}' for name, words in kinds)
@@ -187,22 +166,6 @@ def general(constant):
     yield f'far from a fault all {factors} are {sites.NO_NEAR_FAULT}.'
     yield 'the largest of the three'
     yield from SAID
-
-
-def of_profiles(constant, refused):
-    """Sentences on the profiles before the entries; `refused` is the number of their refusal."""
-    (ours, draft), (one, two) = map(profiles.of, limits.PROFILE), (constant(f'limits/profile {name}') for name in ('OURS', 'DRAFT'))
-    assert (one, two) == limits.PROFILE and limits.judge(limits.Site(*[0] * 10), limits.Frame(0, 0, 0, 0, 0), [1], [1]) == (refused, 0)
-    said = [f'{float(each):g}' for lines in (draft.lines, ours.lines) for each in lines]
-    assert ours.soft == draft.soft and ours.star and not draft.star
-    yield f'Profiles, since {DRAFT}:'
-    yield f'{references()["draft"].split(", ")[-1]}; a site is hard above {draft.hard} m/s in place of {ours.hard};'
-    yield (f'the ratio stays as it is up to {said[0]}, is {said[1]} of it plus {said[2]} up to {said[3]}, and {said[4]} of it above, '
-           f'in place of {said[5]}, {said[6]}, {said[7]}, {said[8]} and {said[9]}.')
-    yield 'It has no V*: star is 0, and vd is the larger of v and vm.'
-    yield f'left 0, it is refused with {refused}.'
-    yield f'/* {one} ours, {two} the draft; since {DRAFT} */'
-    yield 'V*, N; 0 by the draft */'
 
 
 def factors():
@@ -262,8 +225,6 @@ def places_said():
     yield '24 /* limit of a drift call out of range' + at('drift', 24)
     yield '25 /* average displacement of a torsion call 0, or above the largest' + at('torsion', 25)
     yield '26 /* plan dimension out of range' + at('accidental_moments', 26)
-    assert places('job', 27) == places('site_class', 27)
-    yield f'27 /* profile not {limits.PROFILE[0]} or {limits.PROFILE[-1]}' + at('job', 27)
     whole, row, place = of_district()
     yield f'{row} /* of a row of a district: its stretch is outside the store: {place} */'
     yield f'{whole} /* of a whole district: over {district.MOST_JOBS} jobs, lists of unequal length, or fewer rows than jobs: 0 */'
@@ -271,13 +232,12 @@ def places_said():
 
 def entries(constant):
     """Sentences of each entry."""
-    of, alone, (ours, draft) = references(), 'with 2 for lists of unequal length alone', map(profiles.of, limits.PROFILE)
+    of, alone = references(), 'with 2 for lists of unequal length alone'
     assert storeys.F_t(limits.PERIOD[-1], PART * 1000) == 1000
     roof = f"{of['roof']} is 0 for T up to {storeys.NO_ROOF_FORCE} ms and at most V_D/{PART}, rounded up."
     site, basin = runs(order('job')), runs(order('basin_job'))
-    yield 'job', [RETURNED, f'Refused {site} Written', f"Reference {of['job']} {roof}", 'the shears above level 1',
-                  f"By the draft {of['draft']}, for V, V_M and V_D;"]
-    yield 'figures', ['The five figures', RETURNED, f'Refused {site}, {alone}', f"Reference {of['figures']}; by the draft as for rukeshomaji_job Moves"]
+    yield 'job', [RETURNED, f'Refused {site} Written', f"Reference {of['job']} {roof}", 'the shears above level 1']
+    yield 'figures', ['The five figures', RETURNED, f'Refused {site}, {alone}', f"Reference {of['figures']} Moves"]
     yield 'basin_job', [RETURNED, f'Refused {basin} Written', f"Reference {of['basin_job']} {of['roof']} as for"]
     yield 'basin_figures', ['The five figures', RETURNED, f'Refused {basin}, {alone}', f"Reference {of['basin_figures']} Moves"]
     (three, four), rest, in_basin = order('shear_call')[:2], runs(order('shear_call')[2:]), runs(order('basin_shear_call')[2:])
@@ -298,12 +258,11 @@ def entries(constant):
         f'since {DISTRICT}: many jobs over one store', RETURNED, 'all fields, 0 where there is no job', 'then the figures, 0 where the row is refused.',
         f"Refused {whole}, at no place, as none is written. Of a row {row}, then on a site {runs(order('job', without=[2]))}, "
         f"in the Basin {runs(order('basin_job', without=[2]))}; {three} and {four} at their level of the stretch Written",
-        f'vd over W is at most {most_thousandths():,} thousandths, which is in the last cell; by ours at most {most_thousandths(profiles.OURS):,}']
+        f'vd over W is at most {most_thousandths():,} thousandths, which is in the last cell']
     yield from drift_entries(of)
     yield 'site_class', [
         f'the upper {soil.THICKNESS_SUM // 100} m', 'cm: above 0', f'{kinds} (N below {soil.VALUE[soil.COHESIVE][0]}', 'q, 0.01 kgf/cm2', RETURNED,
-        f'{limits.PROFILE[0]} ours, {limits.PROFILE[-1]} the draft: hard above {ours.hard} m/s by ours, above {draft.hard} m/s by the draft; soft below '
-        f'{ours.soft} m/s by both', f"Refused {runs(order('site_class'))} Written",
+        f"A library before {SOFT_CLAY} refuses soft clay with {order('site_class')[-1]}", f"Refused {runs(order('site_class'))} Written",
         f"Reference {of['site_class']}"]
     first = runs(order('sheet'))
     yield 'sheet', [RETURNED, f"Refused {first}, {runs(order('job', without=[2]))} with a line `site`; {first}, "

@@ -6,7 +6,7 @@
 
 #define LEVELS 3
 
-static const RukeshomajiSite site = {80, 45, 100, 55, 100, 100, 100, 100, 1, RUKESHOMAJI_OURS};
+static const RukeshomajiSite site = {80, 45, 100, 55, 100, 100, 100, 100, 1};
 static const RukeshomajiFrame frame = {2, 1000, 480, 100, 150};
 static const uint64_t weights[LEVELS] = {5000, 5000, 5000}, heights[LEVELS] = {100, 200, 300};
 static const uint64_t thicknesses[LEVELS] = {1000, 1000, 1000}, kinds[LEVELS] = {1, 2, 3}, values[LEVELS] = {3000, 20, 40};
@@ -112,7 +112,7 @@ int main(void) {
     moments();
     for (unsigned set = 0; set < 8; set++) {
         RukeshomajiClass c = {PAINT, PAINT};
-        uint64_t number = rukeshomaji_site_class(RUKESHOMAJI_OURS, LIST(thicknesses, 0), LIST(kinds, 1), LIST(values, 2), &c);
+        uint64_t number = rukeshomaji_site_class(LIST(thicknesses, 0), LIST(kinds, 1), LIST(values, 2), &c);
         printf("site_class %u: %" PRIu64 " %" PRIu64 " %" PRIu64 "\n", set, number, c.place, c.class_number);
     }
     for (unsigned set = 0; set < 2; set++) {

@@ -14,7 +14,7 @@ import sys
 import tempfile
 
 from tests.compares import core
-from tests.model import accidental, calls, district, drift, job as jobs, limits, profile as profiles, sheet, soil
+from tests.model import accidental, calls, district, drift, job as jobs, limits, sheet, soil
 
 SITE, FRAME = limits.one_pair(80, 45, 100, 55, 100, 100, 1), limits.Frame(2, 1000, 480, 100, 150)
 LEVELS, BASE_SHEAR, PERIOD = 3, 1_071_429, 1_000
@@ -129,7 +129,7 @@ def by_ctypes(library, entry, lists):
     arguments = [part for pair in pairs for part in pair]
     if entry == 'site_class':
         array, reply = core.painted(core.SiteClass)
-        return list(core.answer(library.rukeshomaji_site_class(profiles.OURS, *arguments, reply), array))
+        return list(core.answer(library.rukeshomaji_site_class(*arguments, reply), array))
     if entry == 'distribution':
         array, place, _ = core.lent_out([core.PAINT])
         number = library.rukeshomaji_distribution(BASE_SHEAR, PERIOD, *arguments, place)

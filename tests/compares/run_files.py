@@ -9,8 +9,8 @@ import itertools
 import os
 import sys
 
-from tests.compares.run_program import BY_DRAFT, ROOT, TWO_PAIRS, bad_lines, bytes_of, compared, refused, run, run_typed, run_with
-from tests.compares.said import SHEETS_BY_DRAFT, of_sheets
+from tests.compares.run_program import ROOT, TWO_PAIRS, bad_lines, bytes_of, compared, refused, run, run_typed, run_with
+from tests.compares.said import of_sheets
 from tests.model import district, sheets
 from tests.writes.hundred_sheets import LISTING, SHEETS
 
@@ -25,11 +25,8 @@ def answer(data, seen=None):
     if sheets.refused_whole(data):
         return sheets.listing(data), f'district: refusal {district.WHOLE}: {TOO_MANY}\n'.encode(), 1
     parts = sheets.parts(data)
-    rows = [sheets.answer(part).row for part in parts]
-    lines = [f'{line}\n' for line in of_sheets(parts, rows, seen)]
-    by_draft = sum(not row.number and not row.V_star for row in rows)
-    last = [f'district: {SHEETS_BY_DRAFT}: {by_draft}\n'] if by_draft else []
-    return sheets.listing(data), ''.join(lines + last).encode(), 1 if lines else 0
+    lines = [f'{line}\n' for line in of_sheets(parts, [sheets.answer(part).row for part in parts], seen)]
+    return sheets.listing(data), ''.join(lines).encode(), 1 if lines else 0
 
 
 def damaged():
@@ -58,12 +55,7 @@ def files():
     yield 'a sheet without an empty line after it', WORKED, {}
     yield 'no byte', b'', {}
     yield from damaged()
-    grounds = {'Basin, ': b'basin\t3\n', 'two pairs, ': TWO_PAIRS, 'draft, ': BY_DRAFT[0], 'draft, two pairs, ': BY_DRAFT[1]}
-    by_draft = [line + WORKED.split(b'\n', 1)[1] for line in BY_DRAFT]
-    yield 'a sheet by the draft', sheets.write(by_draft[:1]), {}
-    refused_ones = [data.replace(b'\t480\t', b'\t48\t') for data in by_draft]
-    yield 'sheets by both profiles, and refused ones', sheets.write([by_draft[0], WORKED, by_draft[1], *refused_ones]), {}
-    for before, good in (('', WORKED), *((name, line + WORKED.split(b'\n', 1)[1]) for name, line in grounds.items())):
+    for before, good in (('', WORKED), ('Basin, ', b'basin\t3\n' + WORKED.split(b'\n', 1)[1]), ('two pairs, ', TWO_PAIRS + WORKED.split(b'\n', 1)[1])):
         yield f'{before}every refusal', sheets.write([data for _, data in refused(good)]), {}
     yield 'a sheet that is too long', sheets.write([WORKED, WORKED + b'level\t1\t1\n' * 500, WORKED]), {}
     yield 'a sheet that is too long, with CR and NUL in it', sheets.write([WORKED, b'\0\r\n\r\0\n' * 1_000 + b'\r', WORKED]), {}

@@ -16,14 +16,13 @@ import termios
 import threading
 import time
 
-from tests.compares.said import BY_DRAFT as NOT_FOR_DESIGN, meaning, stands
+from tests.compares.said import meaning
 from tests.model import sheet
 
 ROOT = pathlib.Path(__file__).resolve().parents[2]
 SECONDS = 60
 END = b'\x04'          # what Ctrl-D sends
 TWO_PAIRS = b'site\t80\t45\t100\t55\t120\t150\t110\t130\t1\n'
-BY_DRAFT = b'site\t80\t45\t100\t55\t100\t100\t2\t2\n', TWO_PAIRS[:-1] + b'\t2\n'         # eight numbers, and ten
 
 
 def run(pieces, name='shear'):
@@ -85,12 +84,12 @@ def bytes_of(data):
     return (data[place:place + 1] for place in range(len(data)))
 
 
-def answer(listing, seen='', data=b''):
-    """What is printed, said and returned where a listing is printed; seen is what can be seen of a line that is refused, or it is seen of the sheet."""
+def answer(listing, seen=''):
+    """What is printed, said and returned where a listing is printed; seen is what can be seen of a line that is refused."""
     if not listing.startswith(b'refused'):
-        return listing, f'shear: {NOT_FOR_DESIGN}\n'.encode() if listing.split()[3] == b'0' else b'', 0
+        return listing, b'', 0
     number, place = map(int, listing.split()[1:])
-    return listing, f'shear: {meaning(number, place, seen or stands(data, number))}\n'.encode(), 1
+    return listing, f'shear: {meaning(number, place, seen)}\n'.encode(), 1
 
 
 def bad_lines(worked):
@@ -101,15 +100,13 @@ def bad_lines(worked):
     yield 'blanks for tabs', worked.replace(b'\t', b' '), 'a blank stands in it: fields are separated by one tab'
     yield 'no LF at the end', worked[:-1], 'no LF ends it'
     yield 'no LF after a NUL', worked + b'\0', 'no LF ends it'
-    yield 'six numbers on line 1', worked.replace(b'\t100\t1\n', b'\t1\n', 1), 'a site line has 7 to 10 numbers, this one has 6 fields'
-    yield 'eleven numbers and a CR on line 1', worked.replace(b'\t100\t1\n', b'\t100\t100\t100\t1\t2\t1\r\n', 1), \
-        'a CR stands at its end, a site line has 7 to 10 numbers, this one has 11 fields'
-    yield 'eight numbers and a CR on line 1', worked.replace(b'\t1\n', b'\t1\t2\r\n', 1), 'a CR stands at its end'
+    yield 'eight numbers on line 1', worked.replace(b'\t100\t1\n', b'\t100\t100\t1\n', 1), 'a site line has 7 or 9 numbers, this one has 8 fields'
+    yield 'ten numbers and a CR on line 1', worked.replace(b'\t100\t1\n', b'\t100\t100\t100\t100\t1\r\n', 1), \
+        'a CR stands at its end, a site line has 7 or 9 numbers, this one has 10 fields'
     yield 'a byte order mark, blanks and CR', b'\xef\xbb\xbf' + worked.replace(b'\t', b' ').replace(b'\n', b'\r\n'), \
         'a byte order mark stands before it, a CR stands at its end, a blank stands in it: fields are separated by one tab'
     yield 'a blank at the end of the last line, and no LF', worked[:-1] + b' ', \
         'a blank stands in it: fields are separated by one tab, no LF ends it'
-    yield 'two numbers on a basin line', b''.join([b'basin\t1\t2\n', *lines[1:]]), 'a basin line has one number and no profile, this one has 2 fields'
     yield 'a site line alone', lines[0], 'the sheet ends before it'
     yield 'another word', worked.replace(b'frame', b'Frame'), ''
     yield 'an empty line', b''.join([*lines[:3], b'\n', *lines[3:]]), 'it is empty'
@@ -143,14 +140,9 @@ def cases():
     near = TWO_PAIRS + worked.split(b'\n', 1)[1]
     yield 'a sheet with two pairs', run, [near], answer(sheet.shear(near))
     yield 'a sheet with two pairs byte by byte', run, bytes_of(near), answer(sheet.shear(near))
-    by_draft = [line + worked.split(b'\n', 1)[1] for line in BY_DRAFT]
-    for data in by_draft:
-        assert answer(sheet.shear(data))[1]         # not for design
-        yield 'a sheet by the draft', run, [data], answer(sheet.shear(data))
-        yield 'a sheet by the draft byte by byte', run, bytes_of(data), answer(sheet.shear(data))
-    for before, good in (('', worked), ('Basin, ', basin), ('two pairs, ', near), ('draft, ', by_draft[0]), ('draft, two pairs, ', by_draft[1])):
+    for before, good in (('', worked), ('Basin, ', basin), ('two pairs, ', near)):
         for name, data in refused(good):
-            yield f'refused: {before}{name}', run, [data], answer(sheet.shear(data), data=data)
+            yield f'refused: {before}{name}', run, [data], answer(sheet.shear(data))
     endless = itertools.chain([worked], itertools.repeat(b'level\t1\t1\n'))
     yield 'a sheet, then level lines without end', run, endless, answer(b'refused\t17\t0\n')
     yield 'zero bytes without end', run, itertools.repeat(b'\0' * 512), answer(b'refused\t17\t0\n')

@@ -15,8 +15,6 @@ TEXTS, PLACES = from_module('TEXTS'), from_module('PLACES')
 
 
 NO_BYTE, NO_EMPTY_LINE = 'the sheet has no byte: is there an empty line too many?', 'does an empty line stand between the sheets?'
-BY_DRAFT, SHEETS_BY_DRAFT = 'by the draft: not for design', 'sheets by the draft, which are not for design'
-STANDS = {7: 'last but one', 27: 'last'}        # where on a line 1 that names a profile
 
 
 def meaning(number, place, seen='', begins=0):
@@ -26,13 +24,6 @@ def meaning(number, place, seen='', begins=0):
     if begins and number == 16:
         where += f', line {begins + place - 1} of the file'
     return f"refusal {number}{f' at {where}' if place else ''}: {TEXTS[number]}{f': {seen}' if seen else ''}"
-
-
-def stands(data, number):
-    """Where a class or a profile that is refused stands, if line 1 of the sheet names a profile."""
-    if number not in STANDS or data.split(b'\n')[0].count(b'\t') not in (8, 10):
-        return ''
-    return f'on a line of 8 or 10 numbers it is the {STANDS[number]}: is a number missing, or one too many?'
 
 
 def of_sheets(parts, rows, seen=None):
@@ -46,8 +37,8 @@ def of_sheets(parts, rows, seen=None):
 
 
 def what_of(data, number, seen):
-    """What is said of a sheet beyond its refusal: why it may be too long, that it has no byte, where class or profile stand, or what is seen of its line."""
+    """What is said of a sheet beyond its refusal: why it may be too long, that it has no byte, or what is seen of its line."""
     if number == 17:
         ended = sum(line.endswith(b'\r') for line in data.split(b'\n'))
         return f'a CR stands at the end of {ended} of its lines' if ended else NO_EMPTY_LINE
-    return seen or stands(data, number) if data else NO_BYTE
+    return seen if data else NO_BYTE

@@ -9,10 +9,10 @@ import re
 from typing import NamedTuple
 
 from tests.model import limits, sheet, soil
-from tests.writes import stored_logs, stored_refusals
+from tests.writes import log_cases, refusal_cases
 
 CRATES = pathlib.Path(__file__).resolve().parents[2] / 'crates'
-SITE, FRAME, BUFFERS = len(limits.Site._fields), len(limits.Frame._fields), 3       # numbers of each
+NINE, FRAME, BUFFERS = len(limits.Site._fields), len(limits.Frame._fields), 3
 SITE_GROUND, DISTRIBUTION = 0, 2        # what the first number of a row says; 1 is the Basin
 REFUSED = re.compile(r'refused(?: |\t)(\d+)(?: at |\t)(\d+)$')
 
@@ -99,12 +99,12 @@ def judged_jobs():
     count, (good, *changed) = rows('run_refusals')
     assert len(changed) == count
     for row, said in zip(changed, said_by('run_refusals'), strict=True):
-        yield job_case(*stored_refusals.inputs({**dict(enumerate(good)), **dict(pairs_of(row))}), said)
+        yield job_case(*refusal_cases.inputs({**dict(enumerate(good)), **dict(pairs_of(row))}), said)
 
 
 def ground_in(kind, row):
-    """The ground that a row's first ten numbers are."""
-    return limits.Site(*row[:SITE]) if kind == SITE_GROUND else limits.Basin(row[0])
+    """The ground that a row's first nine numbers are."""
+    return limits.Site(*row[:NINE]) if kind == SITE_GROUND else limits.Basin(row[0])
 
 
 def job_calls():
@@ -113,15 +113,15 @@ def job_calls():
     answers = said_by('run_jobs')[::BUFFERS + 2]
     assert len(jobs) == count
     for (kind, *row), said in zip(jobs, answers, strict=True):
-        frame, (weights, heights, *buffers) = row[SITE:SITE + FRAME], row[SITE + FRAME:SITE + FRAME + 2 + BUFFERS]
-        lists = row[SITE + FRAME + 2 + 2 * BUFFERS:]
+        frame, (weights, heights, *buffers) = row[NINE:NINE + FRAME], row[NINE + FRAME:NINE + FRAME + 2 + BUFFERS]
+        lists = row[NINE + FRAME + 2 + 2 * BUFFERS:]
         assert len(lists) == weights + heights
         yield job_case(ground_in(kind, row), frame, lists[:weights], lists[weights:], buffers, said)
 
 
 def shear_case(kind, row, said):
     """A shear call."""
-    ground, frame, (weight, height) = ground_in(kind, row), limits.Frame(*row[SITE:SITE + FRAME]), row[SITE + FRAME:]
+    ground, frame, (weight, height) = ground_in(kind, row), limits.Frame(*row[NINE:NINE + FRAME]), row[NINE + FRAME:]
     numbers = plain_numbers(ground, frame) | {'weight': {weight}, 'height': {height}}
     return made(type(ground).__name__, numbers, named(limits.shear_call_refusals(ground, frame, weight, height)), said)
 
@@ -149,9 +149,9 @@ def calls():
     assert next(lines, None) is None
 
 
-def log_refusals(thicknesses, kinds, values, profile):
+def log_refusals(thicknesses, kinds, values):
     """Refusals of a log, 13, 14 and 15 with their reason."""
-    for number, place in soil.refusals(thicknesses, kinds, values, profile):
+    for number, place in soil.refusals(thicknesses, kinds, values):
         if number == 13:
             yield '13, over 40' if thicknesses else '13, no layer', place
         elif number == 14:
@@ -166,21 +166,18 @@ def logs():
     """The soil logs of `run_logs`."""
     count, all_rows = rows('run_logs')
     for row, said in zip(all_rows, said_by('run_logs')[:count], strict=True):
-        changes = [change for change in pairs_of(row[3:]) if change[0] != stored_logs.NONE]
-        thicknesses, kinds, values, profile = stored_logs.call(row[:3], changes)
-        numbers = {'layers': {len(thicknesses)}, 'thickness': {*thicknesses}, 'sum': {sum(thicknesses)}, 'kind': {*kinds}, 'profile': {profile}}
+        changes = [change for change in pairs_of(row[3:]) if change[0] != log_cases.NONE]
+        thicknesses, kinds, values = log_cases.lists(row[:3], changes)
+        numbers = {'layers': {len(thicknesses)}, 'thickness': {*thicknesses}, 'sum': {sum(thicknesses)}, 'kind': {*kinds}}
         numbers |= {f'{name} list': {len(listed) - len(thicknesses)} for name, listed in (('kinds', kinds), ('values', values))}
         numbers |= {f'value of kind {each}': {value for kind, value in zip(kinds, values) if kind == each} for each in soil.VALUE}
-        yield made('', numbers, log_refusals(thicknesses, kinds, values, profile), said)
+        yield made('', numbers, log_refusals(thicknesses, kinds, values), said)
 
 
 def line_1(line, ground):
-    """Numbers and refusals of line 1. Where it has one pair for both levels, the pair stands there once and is judged at places 1 and 2. Where it names no
-    profile, it is by ours, and no profile is counted."""
+    """Numbers and refusals of line 1. Where it has one pair for both levels, the pair stands there once and is judged at places 1 and 2."""
     numbers, refusals = plain_numbers(ground), named(limits.ground_refusals(ground))
-    if sheet.SITE.fullmatch(line) or sheet.TWO_PAIRS.fullmatch(line):
-        del numbers['profile']
-    if sheet.SITE.fullmatch(line) or sheet.SITE_BY_PROFILE.fullmatch(line):
+    if sheet.SITE.fullmatch(line):
         numbers = {name: values for name, values in numbers.items() if name not in ('NAM', 'NVM')}
         refusals = [refusal for refusal in refusals if refusal[0] not in ('6 at 3', '6 at 4')]
     return numbers, refusals

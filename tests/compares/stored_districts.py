@@ -6,17 +6,17 @@ Of a stretch outside the store the count is judged, and so are the levels that t
 import itertools
 
 from tests.compares import stored_cases
-from tests.compares.stored_cases import FRAME, SITE, level_refusals, made, named, plain_numbers
+from tests.compares.stored_cases import FRAME, NINE, level_refusals, made, named, plain_numbers
 from tests.model import district, limits
 
-CRATE, HEAD, JOB = 'run_districts', 6, 2 + SITE + FRAME + 2
+CRATE, HEAD, JOB = 'run_districts', 6, 2 + NINE + FRAME + 2
 WIDTH = len(district.Row._fields)
 
 
 def job_of(numbers):
-    """A job by its 19 numbers."""
+    """A job by its 18 numbers."""
     basin, zone, *rest = numbers
-    return district.DistrictJob(basin, zone, limits.Site(*rest[:SITE]), limits.Frame(*rest[SITE:SITE + FRAME]), *rest[SITE + FRAME:])
+    return district.DistrictJob(basin, zone, limits.Site(*rest[:NINE]), limits.Frame(*rest[NINE:NINE + FRAME]), *rest[NINE + FRAME:])
 
 
 def districts():

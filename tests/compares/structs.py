@@ -15,7 +15,7 @@ def fields(names):
 class Site(ctypes.Structure):
     """RukeshomajiSite"""
 
-    _fields_ = fields('ssd s1d ssm s1m na nv nam nvm cls profile')
+    _fields_ = fields('ssd s1d ssm s1m na nv nam nvm cls')
 
 
 class Frame(ctypes.Structure):

@@ -3,20 +3,20 @@
 from collections import Counter
 
 from tests.compares.excess import Largest, OfDistributions, OfShears
-from tests.model import limits, profile as profiles
+from tests.model import limits
 
-PREFIX = {'site': '', 'basin': 'Basin: ', 'pairs': 'two pairs: ', 'draft': 'draft: '}       # of a stratum's name, by the kind of ground
+PREFIX = {'site': '', 'basin': 'Basin: ', 'pairs': 'two pairs: '}       # of a stratum's name, by the kind of ground
 NEAR_FAULT = 6
 
 
 class Tally:
-    """What was compared, by stratum, what differed, and the largest excess: of jobs on sites, in the Basin, with two pairs and by the draft, of shear
+    """What was compared, by stratum, what differed, and the largest excess: of jobs on sites, in the Basin and with two pairs, of shear
     calls, of distributions."""
 
     def __init__(self):
         self.counts, self.compared, self.differences = Counter(), 0, []
         self.largest = {'site': Largest('on sites'), 'basin': Largest('in the Basin'), 'pairs': Largest('with two pairs'),
-                        'draft': Largest('by the draft'), 'shears': OfShears(), 'distributions': OfDistributions()}
+                        'shears': OfShears(), 'distributions': OfDistributions()}
 
     def compare(self, stratum, call, got, expected):
         """Count one comparison."""
@@ -35,15 +35,14 @@ class Tally:
 
 
 def kind_of(ground):
-    """A site with one pair for both levels, the Basin, a site with two pairs, or one by the draft."""
+    """A site with one pair for both levels, the Basin, or a site with two pairs."""
     if isinstance(ground, limits.Basin):
         return 'basin'
-    site = limits.ground_of(ground)
-    return 'draft' if site.profile == profiles.DRAFT else 'pairs' if limits.of_two_pairs(site) else 'site'
+    return 'pairs' if limits.of_two_pairs(limits.ground_of(ground)) else 'site'
 
 
 def label(call, words):
-    """How a stratum of sites is called for a call in the Basin, with two pairs or by the draft."""
+    """How a stratum of sites is called for a call in the Basin or with two pairs."""
     return PREFIX[kind_of(call[0])] + words
 
 

@@ -9,7 +9,7 @@ from tests.model import accidental, calls, limits, storeys
 
 NUMBERS = 1, 2, 3, 4, 19, 20, 26
 OF_FORCES = ('no roof force, whatever the period', 'the period of a job in place of the one handed in', 'a base shear of 0 taken', 'no period of 0',
-             'a base shear up to 1,200,000,000, as before Wish 11', 'a base shear up to 1,399,999,999', 'a period up to 10,000')
+             'a base shear up to 1,199,999,999', 'a period up to 10,000')
 
 
 def each(rule):

@@ -109,7 +109,7 @@ def cut_at_the_end(job, weights, heights, right):
 
 
 def site_too(job, weights, heights, right):
-    """The ten numbers of a site judged in the Basin too."""
+    """The nine numbers of a site judged in the Basin too."""
     refusal = next(iter(limits.site_refusals(job.site)), None) if job.basin else None
     answer = right(job, weights, heights)
     return Answer(Row(*refusal)) if refusal and answer.W else answer
@@ -150,7 +150,7 @@ ERRORS = {
     '21 after 1': answered(count_first), '21 after ground and frame': answered(numbers_first), 'what the store has in place of 21': answered(cut_at_the_end),
     '3 and 4 at place 0': placed(lambda job, place: 0), '3 and 4 at the level of the store': placed(lambda job, place: job.start + place),
     'a first height judged against the level below the stretch': answered(above_the_one_below),
-    'W of the whole store': answered(whole_weight), 'the ten numbers judged in the Basin': answered(site_too), 'the zone judged on a site': answered(zone_too),
+    'W of the whole store': answered(whole_weight), 'the nine numbers judged in the Basin': answered(site_too), 'the zone judged on a site': answered(zone_too),
     'the Basin by a flag of 1 alone': [(district.DistrictJob, 'ground', lambda job: limits.Basin(job.zone) if job.basin == 1 else job.site)],
     'the Basin by the lowest bit': [(district.DistrictJob, 'ground', lambda job: limits.Basin(job.zone) if job.basin % 2 else job.site)],
     'the Basin by the low 32 bits': [(district.DistrictJob, 'ground', lambda job: limits.Basin(job.zone) if job.basin % 2**32 else job.site)],

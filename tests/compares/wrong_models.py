@@ -1,14 +1,12 @@
-"""Errors that look right, each put into the model: how many of the comparisons with the compiled core show it, and of the two calls, of districts, of
-drift, torsion and accidental moments and of the draft's profile how many of the stored cases of crates/run_calls, crates/run_districts, crates/run_drifts,
-crates/run_jobs, crates/run_refusals, crates/run_exhausted, crates/run_logs and crates/run_sheets.
+"""Errors that look right, each put into the model: how many of the comparisons with the compiled core show it, and of the two calls, of districts and of
+drift, torsion and accidental moments how many of the stored cases of crates/run_calls, crates/run_districts and crates/run_drifts.
 
 usage: python3 -m tests.compares.wrong_models [JOBS [SEED]]        after tests/compares/compare.py has built the archive
        python3 -m tests.compares.wrong_models stored               by the stored cases alone, which need no archive
 
 The errors stand beside the jobs and calls that are to show them: wrong_sites.py, wrong_basin.py, wrong_pairs.py, wrong_roof.py, wrong_unit.py,
 wrong_calls.py, wrong_logs.py, wrong_roots.py, wrong_towers.py, wrong_moves.py, wrong_districts.py, wrong_drifts.py, wrong_torsions.py,
-wrong_accidentals.py, wrong_profiles.py, wrong_profile_lines.py. Those of a file of sheets, wrong_sheets.py, are tried by run_district.py, which runs the
-program.
+wrong_accidentals.py. Those of a file of sheets, wrong_sheets.py, are tried by run_district.py, which runs the program.
 """
 
 import random
@@ -16,18 +14,16 @@ import sys
 from contextlib import contextmanager
 from unittest import mock
 
-from tests.compares import (core, wrong_accidentals, wrong_basin, wrong_calls, wrong_districts, wrong_drifts, wrong_logs, wrong_moves, wrong_pairs,
-                            wrong_profile_lines, wrong_profiles, wrong_roof, wrong_roots, wrong_sites, wrong_torsions, wrong_towers, wrong_unit)
+from tests.compares import (core, wrong_accidentals, wrong_basin, wrong_calls, wrong_districts, wrong_drifts, wrong_logs, wrong_moves, wrong_pairs, wrong_roof,
+                            wrong_roots, wrong_sites, wrong_torsions, wrong_towers, wrong_unit)
 from tests.compares.compare_calls import expected_distribution, expected_shear, got_distribution
 from tests.compares.compare_districts import expected_district, got_district
 from tests.compares.compare_drifts import expected_accidental, expected_drift, expected_torsion, got_accidental, got_drift
 from tests.compares.compare_jobs import expected_job, got_job
 from tests.compares.compare_logs import expected_log
 from tests.compares.compare_moves import got_moves
-from tests.compares.compare_sheets import expected_sheet
 from tests.compares.compare_towers import got_towers
-from tests.model import sheet
-from tests.writes import call_cases, stored_districts, stored_drifts, stored_logs
+from tests.writes import call_cases, stored_districts, stored_drifts
 
 JOBS, SEED = 10_000, 1
 DISTRIBUTION_ERRORS = {
@@ -78,24 +74,12 @@ def by_stored():
                                 (stored_drifts.Torsion, 'stored cases of torsion', wrong_torsions.ERRORS),
                                 (stored_drifts.Moments, 'stored cases of accidental moments', wrong_accidentals.ERRORS)):
         count += unseen_stored(wrong_drifts.stored(kind), kind, where, errors)
-    return count + profiles_by_stored()
-
-
-def profiles_by_stored():
-    """How many errors of the draft's profile the stored cases do not see: jobs, jobs judged and coefficients; shear calls; logs; sheets; districts."""
-    count = 0
-    for stored, said, where, errors in (
-            (list(wrong_profiles.stored()), lambda said, *case: said(*case), 'stored jobs and coefficients', wrong_profiles.ERRORS),
-            (wrong_profiles.stored_of_logs(), stored_logs.outcome, 'stored soil logs', wrong_profiles.LOG_ERRORS),
-            (wrong_profile_lines.stored_sheets(), sheet.shear, 'stored sheets', wrong_profile_lines.SHEET_ERRORS)):
-        count += unseen(*zip(*stored), said, where, errors)
-    count += unseen_stored(wrong_calls.stored(call_cases.Shear), call_cases.Shear, 'stored shear calls', wrong_profiles.CALL_ERRORS)
-    return count + unseen_stored(wrong_districts.stored(), stored_districts.Case, 'stored districts', wrong_profile_lines.DISTRICT_ERRORS)
+    return count
 
 
 def by_drawn(jobs, seed):
     """How many errors the drawn jobs and calls do not see: on sites, of the Basin, of two pairs, of the roof force, of the finer unit, of the two
-    calls, of soft clay, of the roots, of towers, of moves, of districts, of drift, torsion and accidental moments, of the draft's profile."""
+    calls, of soft clay, of the roots, of towers, of moves, of districts, of drift, torsion and accidental moments."""
     count = 0
     rng, library = random.Random(seed), core.load()
     for calls, got, expected, where, errors in (
@@ -113,12 +97,7 @@ def by_drawn(jobs, seed):
             (wrong_districts.drawn, got_district, expected_district, 'districts', wrong_districts.ERRORS),
             (wrong_drifts.drawn, got_drift, expected_drift, 'of drift', wrong_drifts.ERRORS),
             (wrong_torsions.drawn, core.torsion, expected_torsion, 'of torsion', wrong_torsions.ERRORS),
-            (wrong_accidentals.drawn, got_accidental, expected_accidental, 'of accidental moments', wrong_accidentals.ERRORS),
-            (wrong_profiles.drawn, got_job, expected_job, 'by either profile', wrong_profiles.ERRORS),
-            (wrong_profiles.shear_calls, core.shear_call, expected_shear, 'shear calls by either profile', wrong_profiles.CALL_ERRORS),
-            (wrong_profiles.logs, core.site_class, expected_log, 'soil logs by either profile', wrong_profiles.LOG_ERRORS),
-            (wrong_profile_lines.drawn_sheets, core.sheet, expected_sheet, 'sheets by either profile', wrong_profile_lines.SHEET_ERRORS),
-            (wrong_profile_lines.drawn_districts, got_district, expected_district, 'districts by either profile', wrong_profile_lines.DISTRICT_ERRORS)):
+            (wrong_accidentals.drawn, got_accidental, expected_accidental, 'of accidental moments', wrong_accidentals.ERRORS)):
         drawn = list(calls(rng, jobs))
         count += unseen(drawn, [got(library, *call) for call in drawn], expected, where, errors)
     return count

@@ -51,19 +51,19 @@ def V_by(share):
 
     def V_star(frame, p, W, s=response.UNIT, divided_by=site.V_STAR):
         """V*."""
-        return ceil(share(frame, p, shears.divisor(s, divided_by)) * W) if divided_by else 0
+        return ceil(share(frame, p, shears.divisor(s, divided_by)) * W)
 
     return [(shears, 'V', V), (shears, 'V_star', V_star)]
 
 
-def by_the_ratio(Sa, F, lines):
+def by_the_ratio(Sa, F):
     """The ratio modified as V's is, not taken times F."""
-    return response.modified_ratio(response.ratio(Sa, F), lines=lines)
+    return response.modified_ratio(response.ratio(Sa, F))
 
 
-def by_no_factor(Sa, F, lines, right=response.p_of_star):
+def by_no_factor(Sa, F, right=response.p_of_star):
     """p as with a factor of 1."""
-    return right(Sa, response.UNIT, lines)
+    return right(Sa, response.UNIT)
 
 
 ERRORS = {

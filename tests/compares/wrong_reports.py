@@ -29,7 +29,7 @@ ERRORS = {
     'the lower edge of a cell in the cell below': [(district, 'cell_of', lambda V_D, W: (district.thousandths(V_D, W) - 1) // district.CELL)],
     'V_D over W rounded up': [(district, 'thousandths', lambda V_D, W: -(-V_D // W))],
     'V_D over W to the nearest thousandth': [(district, 'thousandths', lambda V_D, W: (2 * V_D + W) // (2 * W))],
-    'a cell fewer, the last taking what is beyond': [(district, 'cell_of', lambda V_D, W: min(district.thousandths(V_D, W) // district.CELL, district.CELLS - 2))],
+    'the last cell the 112th': [(district, 'cell_of', lambda V_D, W: min(district.thousandths(V_D, W) // district.CELL, district.CELLS - 2))],
     'refused jobs in cell 0': reported(with_cell(0, refused_in)),
     'refused jobs counted for V': reported(lambda answers, report: report._replace(by_V=report.by_V + refused_in(answers))),
     'refused jobs counted as accepted too': reported(lambda answers, report: report._replace(accepted=len(answers))),

@@ -63,8 +63,6 @@ ERRORS = {
     'figures left out of a refused row': printed(rb'^(row\t\d+\t[1-9]\d*\t\d+)(\t0){5}$', rb'\1'),
     'cells that no job is in left out': printed(rb'^cell\t\d+\t\d+\t0\n', b''),
     'cells named by their number': printed(rb'^cell\t(\d+)\t', lambda found: b'cell\t%d\t' % (int(found[1]) // district.CELL)),
-    'cells up to 1,129 thousandths alone': printed(rb'^cell\t1(1[3-9]|[2-9]\d)\d\t.*\n', b''),
-    'V* left out of a row by the draft': printed(rb'^(row\t\d+\t0\t0\t\d+\t\d+)\t0\t', rb'\1\t'),
     'up to 255 sheets': at_most(sheets.MOST_SHEETS - 1), 'up to 257 sheets': at_most(sheets.MOST_SHEETS + 1),
     'a byte less': at_most(sheets.MOST_SHEETS, sheets.MOST_BYTES - 1), 'a byte more': at_most(sheets.MOST_SHEETS, sheets.MOST_BYTES + 1),
     'the first 256 sheets taken': parted(lambda data, found: found[:sheets.MOST_SHEETS]),

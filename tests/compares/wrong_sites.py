@@ -4,7 +4,7 @@ from fractions import Fraction
 from math import ceil
 
 from tests.draws.plain_jobs import draw, lengths
-from tests.model import profile as profiles, response, site as sites, storeys
+from tests.model import response, site as sites, storeys
 
 
 def rounded_corner(A, B):
@@ -24,10 +24,18 @@ def rounded_spectrum(A, B, T):
     return Fraction(4, 10) * Fraction(A, 10**8)
 
 
-def with_lines(**changes):
-    """Our profile with other lines of the ratio."""
-    ours = profiles.of(profiles.OURS)
-    return [(profiles, 'PROFILES', {**profiles.PROFILES, profiles.OURS: ours._replace(lines=ours.lines._replace(**changes))})]
+def draft_ratio(q, s=response.UNIT):
+    """Thresholds 0.4 and 0.9."""
+    if q <= Fraction(4 * s, 10):
+        return q
+    return ceil(Fraction(52 * q, 100) + Fraction(144 * s, 1000)) if q <= Fraction(9 * s, 10) else ceil(Fraction(7 * q, 10))
+
+
+def draft_p(Sa, F):
+    """The same of p."""
+    if 10 * Sa <= 4 * F:
+        return Sa
+    return ceil(Fraction(52 * Sa, 100) + Fraction(144 * F, 1000)) if 10 * Sa <= 9 * F else ceil(Fraction(7 * Sa, 10))
 
 
 def alone(V_D, top, weights, heights):
@@ -42,7 +50,7 @@ ERRORS = {
     'the lower factor used in V*': [(response, 'upper_factor', response.lower_factor)],
     'near-fault factors left in V*': [(sites, 'star', sites.design)],
     'T0 rounded to a millisecond': [(response, 'corner', rounded_corner), (response, 'spectrum_in_g', rounded_spectrum)],
-    'thresholds 0.4 and 0.9': with_lines(low=Fraction(4, 10), high=Fraction(9, 10)),
+    'thresholds 0.4 and 0.9': [(response, 'modified_ratio', draft_ratio), (response, 'p_of_star', draft_p)],
     'each storey force rounded alone': [(storeys, 'shears', alone)],
 }
 

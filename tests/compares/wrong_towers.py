@@ -26,7 +26,7 @@ def with_rounding(rounded):
 
     def V_star(frame, p, W, s=response.UNIT, divided_by=site.V_STAR):
         """V*."""
-        return rounded(Fraction(frame.I * p) / (shears.divisor(s, divided_by) * frame.alphay), W) if divided_by else 0
+        return rounded(Fraction(frame.I * p) / (shears.divisor(s, divided_by) * frame.alphay), W)
 
     return [(shears, 'V', V), (shears, 'V_star', V_star)]
 

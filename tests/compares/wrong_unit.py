@@ -18,9 +18,9 @@ def ratio_in_millionths(Sa, F, s, right=response.ratio):
     return s // MILLIONTHS * right(Sa, F, MILLIONTHS)
 
 
-def thresholds_of_millionths(q, s, lines, right=response.modified_ratio):
+def thresholds_of_millionths(q, s, right=response.modified_ratio):
     """300,000, 800,000 and 144,000 kept."""
-    return right(q, MILLIONTHS, lines)
+    return right(q, MILLIONTHS)
 
 
 def divisor_of_millionths(s, divided_by=Fraction(14, 10), right=shears.divisor):

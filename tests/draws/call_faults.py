@@ -2,13 +2,13 @@
 
 import itertools
 
-from tests.draws import faults, pair_faults, profile_faults
+from tests.draws import faults, pair_faults
 from tests.draws.calls import GROUNDS, DistributionInputs, ShearInputs, draw_distribution, draw_shear_call
 from tests.model import limits
 
 MOST = faults.MOST
 LOW_BITS = (2**16, 2**32, 2**63)
-SITES = {'site': faults.SITE, 'basin': faults.BASIN, 'pairs': pair_faults.SITE, 'draft': profile_faults.SITE}
+SITES = {'site': faults.SITE, 'basin': faults.BASIN, 'pairs': pair_faults.SITE}
 GOOD = DistributionInputs(1_071_429, 1_000, *faults.TALL, faults.ROOM)
 FIRST_MIDDLE_LAST = (0, 24, 49)
 

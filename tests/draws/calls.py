@@ -1,7 +1,7 @@
 """Strata of shear calls and of distributions (Wish 6), every number within its range: name -> what draws a call from a random generator.
 
-A shear call has a site with one pair of near-fault factors, one with two, one by the draft, or the Basin. A distribution has its base shear and its
-period at their ends and at those of the roof force, every one with every other, over levels of any kind.
+A shear call has a site with one pair of near-fault factors, one with two, or the Basin. A distribution has its base shear and its period at
+their ends and at those of the roof force, every one with every other, over levels of any kind.
 """
 
 import functools
@@ -9,16 +9,15 @@ import itertools
 from typing import NamedTuple
 
 from tests.draws import basin, rare
-from tests.draws.plain_jobs import draw, draw_basin, draw_draft, draw_frame, draw_heights, draw_pairs, draw_site, lengths
+from tests.draws.plain_jobs import draw, draw_basin, draw_frame, draw_heights, draw_pairs, draw_site, lengths
 from tests.model import limits
 
 TOTAL_WEIGHTS = (1, 2, 999_999, 1_000_000)
 TOP_HEIGHTS = (1, 2, 1_999, 2_000)
-BASE_SHEARS = (1, 2, 1_200_000_000, 1_200_000_001, 1_399_999_999, 1_400_000_000)       # the two in the middle were the end of the range up to Wish 11
+BASE_SHEARS = (1, 2, 1_199_999_999, 1_200_000_000)
 PERIODS = (0, 1, 699, 700, 701, 3_571, 3_572, 9_998, 9_999)
-GROUNDS = {'site': draw_site, 'basin': draw_basin, 'pairs': draw_pairs, 'draft': draw_draft}
-# how a stratum's name begins
-SHEAR_NAMES = {'site': 'shear call', 'basin': 'shear call, Basin', 'pairs': 'shear call, two pairs', 'draft': 'shear call, draft'}
+GROUNDS = {'site': draw_site, 'basin': draw_basin, 'pairs': draw_pairs}
+SHEAR_NAMES = {'site': 'shear call', 'basin': 'shear call, Basin', 'pairs': 'shear call, two pairs'}     # how a stratum's name begins
 MOST_LEVELS, HEAVIEST, HIGHEST = limits.LEVELS[-1], limits.WEIGHT[-1], limits.HEIGHT[-1]
 
 
@@ -154,9 +153,9 @@ def draw_period(rng):
     return rng.choice((uniform(rng, limits.PERIOD), uniform(rng, limits.PERIOD), uniform(rng, range(701, 3_572)), rng.choice(PERIODS)))
 
 
-def draw_distribution(rng, base_shear=None, period=None, draw_levels=None, shears=limits.BASE_SHEAR):
+def draw_distribution(rng, base_shear=None, period=None, draw_levels=None):
     """A distribution from all that is allowed, or with what is given; buffers as long as the lists, or longer."""
-    base_shear = any_of(rng, shears) if base_shear is None else base_shear
+    base_shear = any_of(rng, limits.BASE_SHEAR) if base_shear is None else base_shear
     period = draw_period(rng) if period is None else period
     weights, heights = (draw_levels or rng.choice(tuple(LEVELS.values())))(rng)
     return DistributionInputs(base_shear, period, weights, heights, lengths(rng, weights))

@@ -1,6 +1,6 @@
 """Sheets damaged byte by byte."""
 
-from tests.draws.plain_jobs import draw, draw_basin, draw_draft, draw_pairs, draw_site
+from tests.draws.plain_jobs import draw, draw_basin, draw_pairs, draw_site
 from tests.model import sheet
 
 OWN = b'\t\n0123456789sitefrmlvban'
@@ -29,10 +29,10 @@ def long(rng, data):
     return (data + b'level\t20000\t2000\n' * 300)[:length]
 
 
-def one_number_more(rng, data, numbers=(1, 2, 3, 100)):
-    """Line 1 with one number put behind its others: behind those of a site by ours, a profile."""
+def one_number_more(rng, data):
+    """Line 1 with one number put behind its others."""
     line, rest = data.split(b'\n', 1)
-    return b'%s\t%d\n%s' % (line, rng.choice(numbers), rest)
+    return b'%s\t%d\n%s' % (line, rng.choice((1, 2, 3, 100)), rest)
 
 
 def one_number_less(rng, data):
@@ -44,11 +44,10 @@ def one_number_less(rng, data):
 
 
 def drawn(rng):
-    """A sheet of a drawn job, one in six of the Basin, one with two pairs and two by the draft, sound or with one to three damages; half of those with
-    one pair for both levels in full, and a quarter of those by ours with the profile; one in ten with a number more or less on line 1; one in fifty as
-    long as a sheet may be, or a little longer."""
-    ground = rng.choice((draw_site, draw_site, draw_basin, draw_pairs, draw_draft, draw_draft))
-    data = sheet.write(*draw(rng, ground), in_full=rng.random() < 0.5, with_profile=rng.random() < 0.25)
+    """A sheet of a drawn job, one in four of the Basin and one with two pairs, sound or with one to three damages; half of those with one
+    pair for both levels in full; one in ten with a number more or less on line 1; one in fifty as long as a sheet may be, or a little
+    longer."""
+    data = sheet.write(*draw(rng, rng.choice((draw_site, draw_site, draw_basin, draw_pairs))), in_full=rng.random() < 0.5)
     if rng.random() < 0.1:
         data = rng.choice((one_number_more, one_number_less))(rng, data)
     if rng.random() < 0.02:

@@ -115,14 +115,14 @@ def with_every_alpha_y(inputs):
     base = calls.base_figures(inputs.ground, inputs.frame, W, inputs.heights[-1])
     for alphay in limits.ALPHA_Y:
         frame = inputs.frame._replace(alphay=alphay)
-        star = shears.V_star(frame, base.p, W, divided_by=calls.star_divisor(inputs.ground))
+        star = shears.V_star(frame, base.p, W, divided_by=calls.made_by(inputs.ground).V_STAR)
         yield inputs._replace(frame=frame), max(shears.V(frame, base.m, W), shears.V(frame, base.m_M, W), star), W
 
 
-def at_edge(rng, newtons_below=0, draw_one=light):
+def at_edge(rng, newtons_below=0):
     """A light job whose V_D over W is the lowest thousandth of a cell to the newton, or so many newtons below it."""
     while True:
-        found = [inputs for inputs, V_D, W in with_every_alpha_y(draw_one(rng)) if (V_D + newtons_below) % (CELL * W) == 0]
+        found = [inputs for inputs, V_D, W in with_every_alpha_y(light(rng)) if (V_D + newtons_below) % (CELL * W) == 0]
         if found:
             return rng.choice(found)
 

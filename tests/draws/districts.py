@@ -5,10 +5,10 @@ Every refusal of a row is among rows that are taken, and 22 comes by each of its
 
 import functools
 
-from tests.draws import district_jobs as one, draft_jobs as draft, faults
-from tests.draws.stretches import (FLAGS, LOW_BITS, MOST, STRETCHES, District, above_a_higher_one, across, any_number, around_50, by_both, entered,
-                                   in_another_order, like_another, overlapping, same_job, same_stretch, several, sharing, side_by_side, with_bad_level,
-                                   with_job, with_profiles, with_stretch)
+from tests.draws import district_jobs as one, faults
+from tests.draws.stretches import (FLAGS, LOW_BITS, MOST, STRETCHES, District, above_a_higher_one, across, any_number, around_50, entered, in_another_order,
+                                   like_another, overlapping, same_job, same_stretch, several, sharing, side_by_side, with_bad_level, with_job,
+                                   with_stretch)
 from tests.model import district as districts, limits
 from tests.model.district import DistrictJob
 
@@ -41,7 +41,7 @@ def in_turn(rng):
 
 def every_refusal(rng):
     """A job for each refusal, in any order, with sound ones between them."""
-    parts = [part for draw_one in (*one.REFUSED.values(), draft.bad_profile) for part in (draw_one(rng), rng.choice((one, draft)).small(rng))]
+    parts = [part for draw_one in one.REFUSED.values() for part in (draw_one(rng), one.small(rng))]
     district = side_by_side(rng, rng.sample(parts, len(parts)))
     return with_job(rng, district, like_another(rng, len(district.weights), 1))
 
@@ -110,8 +110,8 @@ def wild_job(rng, district):
     for place in rng.sample(range(len(numbers)), rng.choice((1, 2, 4, len(numbers)))):
         numbers[place] = rng.choice((any_number(rng), numbers[place] + rng.choice(LOW_BITS))) % (MOST + 1)
     basin, zone, *rest = numbers
-    of_site = len(limits.Site._fields)
-    return DistrictJob(basin, zone, limits.Site(*rest[:of_site]), limits.Frame(*rest[of_site:-2]), *rest[-2:])
+    nine = len(limits.Site._fields)
+    return DistrictJob(basin, zone, limits.Site(*rest[:nine]), limits.Frame(*rest[nine:-2]), *rest[-2:])
 
 
 def wild(rng):
@@ -126,15 +126,15 @@ def wild(rng):
     return district
 
 
-def every_cell(rng, jobs=one):
-    """A job in every cell that a job can be in, in any order; by ours or by the draft."""
-    cells = sorted(jobs.by_cell())
-    return side_by_side(rng, [jobs.in_cell(rng, cell) for cell in rng.sample(cells, len(cells))])
+def every_cell(rng):
+    """A job in every cell that a job can be in, in any order."""
+    cells = sorted(one.by_cell())
+    return side_by_side(rng, [one.in_cell(rng, cell) for cell in rng.sample(cells, len(cells))])
 
 
-def heavy(rng, jobs=one):
+def heavy(rng):
     """Jobs over one stretch of a million kN: the sum of V_D is beyond 2^32."""
-    parts = [jobs.heavy(rng) for _ in range(rng.randint(4, 6))]
+    parts = [one.heavy(rng) for _ in range(rng.randint(4, 6))]
     jobs = [entered(rng, part.ground, part.frame, 0, len(parts[0].weights)) for part in parts]
     return District(jobs, parts[0].weights, parts[0].heights, len(jobs))
 
@@ -166,28 +166,13 @@ SHEARS = {
     'the largest V_D over W': functools.partial(among, draw_one=one.largest), 'the smallest V_D over W': functools.partial(among, draw_one=one.smallest),
     'a sum of V_D beyond 2^32': heavy,
 }
-DRAFT = {
-    'refusal 27 among others': functools.partial(among, draw_one=draft.bad_profile),
-    'refusal 27 and another': functools.partial(only, draw_one=draft.bad_profile_and_another),
-    '27 over any stretch': lambda rng: with_profiles(rng, with_stretch(rng, rng.choice(tuple(STRETCHES.values())))),
-    'a job by the draft among others': functools.partial(among, draw_one=draft.small), 'all by the draft': functools.partial(only, draw_one=draft.small),
-    'jobs by both profiles': by_both, 'any profiles': lambda rng: with_profiles(rng, any_district(rng)),
-    'draft: V = V_M govern': functools.partial(among, draw_one=draft.tied),
-    'draft: V_D over W at the edge of a cell': functools.partial(among, draw_one=draft.at_edge),
-    'draft: V_D over W a newton below the edge of a cell': functools.partial(among, draw_one=functools.partial(draft.at_edge, newtons_below=1)),
-    'draft: V_D over W at the edge of a cell, whatever the weight': functools.partial(only, draw_one=draft.at_exact_edge),
-    'draft: the largest V_D over W': functools.partial(among, draw_one=draft.largest),
-    'draft: the smallest V_D over W': functools.partial(among, draw_one=draft.smallest),
-    'draft: a sum of V_D beyond 2^32': functools.partial(heavy, jobs=draft),
-}
 WHOLE = {'no job': no_job, '22: unequal lists': unequal, '22: too few rows': too_few_rows}
 LARGE = {
     **{f'{count} jobs': functools.partial(many, count=count) for count in (MOST_JOBS - 1, MOST_JOBS, MOST_JOBS + 1, 2 * MOST_JOBS)},
     '22: several causes': whole_causes, 'every refusal': every_refusal, 'a job in every cell': every_cell,
-    'draft: a job in every cell': functools.partial(every_cell, jobs=draft),
 }
 
 
 def strata():
     """Every stratum, by its name."""
-    return {PREFIX + name: draw_one for name, draw_one in (ROWS | SHEARS | DRAFT | WHOLE | LARGE).items()}
+    return {PREFIX + name: draw_one for name, draw_one in (ROWS | SHEARS | WHOLE | LARGE).items()}

@@ -6,7 +6,7 @@ These are the R whose root is a whole number of tenths: 1.00, 1.33, .., 5.32 of 
 
 from math import ceil, floor
 
-from tests.draws.plain_jobs import draw_basin, draw_draft
+from tests.draws.plain_jobs import draw_basin
 from tests.draws.roof import NAMED
 from tests.draws.strata import Stratum, with_period
 from tests.model import basin, limits, response
@@ -14,8 +14,6 @@ from tests.model.calls import made_by
 
 SITE_SQUARES = {'design': response.design_capacity, 'mce': response.mce_capacity, 'star': response.design_capacity}
 BASIN_SQUARES = {'design': basin.capacity, 'mce': response.mce_capacity, 'star': basin.capacity}
-DRAFT_SQUARES = {'design': response.design_capacity, 'mce': response.mce_capacity}
-SQUARES = {draw_basin: BASIN_SQUARES, draw_draft: DRAFT_SQUARES}        # SITE_SQUARES where none are named
 
 
 def exact(capacity):
@@ -44,8 +42,8 @@ def at_root(hazard, name, Rs):
 
 
 def root_strata(draw_ground):
-    """The root exact, and R beside it, for each of the shears."""
-    for hazard, capacity in SQUARES.get(draw_ground, SITE_SQUARES).items():
+    """The root exact, and R beside it, for each of the three shears."""
+    for hazard, capacity in (BASIN_SQUARES if draw_ground is draw_basin else SITE_SQUARES).items():
         Rs = exact(capacity)
         yield NAMED[draw_ground](at_root(hazard, 'nothing left beside the root', Rs))
         yield NAMED[draw_ground](at_root(hazard, 'R beside such a one', beside(Rs)))

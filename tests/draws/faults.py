@@ -9,7 +9,7 @@ MOST = 2**64 - 1
 TALL = [5_000] * 50, [40 * (level + 1) for level in range(50)]
 SITE, BASIN = limits.one_pair(80, 45, 100, 55, 100, 100, 1), limits.Basin(1)
 FRAME, ROOM = (2, 1000, 480, 100, 150), (50, 50, 50)
-LIMITS = {'site': (limits.S_S_DESIGN, limits.S_1_DESIGN, limits.S_S_MCE, limits.S_1_MCE, *limits.FACTORS.values(), limits.CLASS, limits.PROFILE),
+LIMITS = {'site': (limits.S_S_DESIGN, limits.S_1_DESIGN, limits.S_S_MCE, limits.S_1_MCE, *limits.FACTORS.values(), limits.CLASS),
           'basin': (limits.ZONE,),
           'frame': (limits.KIND, limits.CALCULATED_PERIOD, limits.R_RANGE, limits.I_VALUES, limits.ALPHA_Y)}
 

@@ -1,6 +1,6 @@
 """Jobs with two R, the larger one after (Wish 14): by where T lies in the spectra of V and V*, and by what V* does between the two.
 
-Were there an R with which V_D rises, V* would rise there, and govern after it: most strata look for that. By the draft there is no V*.
+Were there an R with which V_D rises, V* would rise there, and govern after it: most strata look for that.
 """
 
 import functools
@@ -71,9 +71,9 @@ def in_branch(rng, ground, low, high):
     return rng.randint(max(1, ceil(low * T0)), min(LONGEST, floor(high * T0)))
 
 
-def at_part(rng, ground, label, hazard='star'):
-    """T at a part of T0 of V*, or of another, or a ms to a side of it."""
-    mark = CORNERS[label] * corner(hazard, ground)
+def at_part(rng, ground, label):
+    """T at a part of T0 of V*, or a ms to a side of it."""
+    mark = CORNERS[label] * corner('star', ground)
     return rng.choice((ceil(mark) - 1, floor(mark), floor(mark) + 1))
 
 
@@ -101,12 +101,12 @@ def draw_two(rng, draw_ground, where=any_R, step=any_step, period_of=None, size=
             return inputs, *step(rng, befores, afters)
 
 
-def draw_governed(rng, draw_ground, place=1):
-    """V_M, or the shear of another place, above the two others before."""
+def draw_mce_governs(rng, draw_ground):
+    """V_M above V and V* before."""
     while True:
         inputs, before, after = draw_two(rng, draw_ground)
-        of_each = parts(inputs.ground, period(inputs.frame, inputs.heights[-1]), before)
-        if of_each[place] > max(part for other, part in enumerate(of_each) if other != place):
+        m, m_M, of_star = parts(inputs.ground, period(inputs.frame, inputs.heights[-1]), before)
+        if m_M > max(m, of_star):
             return inputs, before, after
 
 
@@ -154,24 +154,8 @@ def near_fault_strata(kind):
             draw_two, draw_ground=GROUNDS[kind], where=rises['where'], period_of=functools.partial(between_corners, label=label)))
 
 
-def draft_strata():
-    """By the draft: every step of R, T at the corners of V and of V_M, each of them governing, sizes."""
-    on_it = functools.partial(draw_two, draw_ground=GROUNDS['draft'])
-    yield from ((said, functools.partial(on_it, step=step)) for said, step in STEPS.items())
-    for hazard, shear in (('design', 'V'), ('mce', 'V_M')):
-        for label in CORNERS:
-            yield (f'T at {label} T0 of {shear} or beside it',
-                   functools.partial(on_it, period_of=functools.partial(at_part, label=label, hazard=hazard)))
-    yield from ((f'{shear} governs before', functools.partial(draw_governed, draw_ground=GROUNDS['draft'], place=place))
-                for place, shear in enumerate(('V', 'V_M')))
-    yield from ((said, functools.partial(on_it, size=size)) for said, size in SIZES.items())
-
-
 def strata(kind):
     """On a kind of ground: every step of R, T in every branch of V* and at its corners, every line of p, what governs, ties, sizes; near a fault."""
-    if kind == 'draft':
-        yield from draft_strata()
-        return
     on_it = functools.partial(draw_two, draw_ground=GROUNDS[kind])
     yield from ((said, functools.partial(on_it, step=step)) for said, step in STEPS.items())
     for said, (low, high) in BRANCHES.items():
@@ -180,7 +164,7 @@ def strata(kind):
         yield f'T at {label} T0 of V* or beside it', functools.partial(on_it, period_of=functools.partial(at_part, label=label))
     yield from ((said, functools.partial(on_it, where=where)) for said, where in WHERE.items())
     yield 'F of V* about where V and V* cross', functools.partial(draw_two, draw_ground=plain_grounds(kind), where=by(beside, first_crossed))
-    yield 'V_M governs before', functools.partial(draw_governed, draw_ground=GROUNDS[kind])
+    yield 'V_M governs before', functools.partial(draw_mce_governs, draw_ground=GROUNDS[kind])
     yield TIED, functools.partial(draw_tied, draw_ground=GROUNDS[kind])
     yield from ((said, functools.partial(on_it, size=size)) for said, size in SIZES.items())
     if kind != 'basin':

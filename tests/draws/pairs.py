@@ -63,7 +63,7 @@ def corners_by_others(hazard, site):
     """T0 of a hazard by each pair that is not its own; V* has none of its own."""
     S_S, S_1 = (site.SSM, site.S1M) if hazard == 'mce' else (site.SSD, site.S1D)
     pairs = {'design': (site.NA, site.NV), 'mce': (site.NAM, site.NVM)}
-    return [response.corner(*sites.A_and_B(S_S, S_1, *pair, site.cls, site.profile)) for level, pair in pairs.items() if level != hazard]
+    return [response.corner(*sites.A_and_B(S_S, S_1, *pair, site.cls)) for level, pair in pairs.items() if level != hazard]
 
 
 def at_own_corner(hazard, label, side):

@@ -2,7 +2,7 @@
 
 from typing import NamedTuple
 
-from tests.model import limits, profile as profiles
+from tests.model import limits
 
 
 class Inputs(NamedTuple):
@@ -37,11 +37,6 @@ def draw_pairs(rng):
         NAM, NVM = draw_pair(rng)
         site = site._replace(NAM=NAM, NVM=NVM)
     return site
-
-
-def draw_draft(rng):
-    """A site by the draft's profile, with one pair for both levels or with two."""
-    return rng.choice((draw_site, draw_pairs))(rng)._replace(profile=profiles.DRAFT)
 
 
 def draw_basin(rng):

@@ -1,12 +1,12 @@
 """The three shears before their last rounding, at an R and a T, and the R at which something begins (Wish 14).
 
 V* grows with R while p is on its second line, and stays from the first R on with 10*Sa <= 3*F. V and V* cross where F of V* is 3, in the Basin 2.5,
-unless near-fault factors part them. By the draft there is no V*.
+unless near-fault factors part them.
 """
 
 from tests.draws.rare import crossing
 from tests.model import limits, response, shears
-from tests.model.calls import HAZARDS, made_by, profile_of, star_divisor
+from tests.model.calls import HAZARDS, made_by
 
 FIRST, LAST = limits.R_RANGE[0], limits.R_RANGE[-1]
 
@@ -24,15 +24,15 @@ def respond(hazard, ground, T, R):
 
 def times_V(ground):
     """By how much V* divides p more than V divides m: 3, in the Basin 2.5."""
-    return shears.divisor(divided_by=star_divisor(ground)) / shears.divisor()
+    return shears.divisor(divided_by=made_by(ground).V_STAR) / shears.divisor()
 
 
 def part(hazard, ground, T, R):
     """V, V_M or V* as a part of I*W/(1.4*alpha-y), before the last rounding, in the unit."""
-    figures, lines = respond(hazard, ground, T, R), profile_of(ground).lines
+    figures = respond(hazard, ground, T, R)
     if hazard == 'star':
-        return response.p_of_star(figures.spectrum, figures.upper_factor, lines) / times_V(ground) if star_divisor(ground) else 0
-    return response.modified_ratio(response.ratio(figures.spectrum, figures.lower_factor), lines=lines)
+        return response.p_of_star(figures.spectrum, figures.upper_factor) / times_V(ground)
+    return response.modified_ratio(response.ratio(figures.spectrum, figures.lower_factor))
 
 
 def parts(ground, T, R):

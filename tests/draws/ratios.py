@@ -15,8 +15,6 @@ from tests.model.calls import made_by
 
 LOW, HIGH = 3 * response.UNIT // 10, 8 * response.UNIT // 10
 RATIOS = (('design', LOW), ('design', HIGH), ('mce', LOW), ('mce', HIGH), ('star', LOW))
-DRAFT_LOW, DRAFT_HIGH = 4 * response.UNIT // 10, 9 * response.UNIT // 10       # the draft's thresholds; it has no V*
-DRAFT_RATIOS = (('design', DRAFT_LOW), ('design', DRAFT_HIGH), ('mce', DRAFT_LOW), ('mce', DRAFT_HIGH))
 NEAR = response.UNIT // 5_000       # 200 millionths
 CLOSE = 8                           # units: further from the exact ratio no printed one is
 
@@ -149,13 +147,8 @@ def at_ratio(hazard, threshold, side):
     return stratum._replace(name=f'{hazard}: ratio on {threshold}')
 
 
-def unit_marks(ratios):
-    """A ratio of V or V_M at each threshold, and one unit to each side."""
-    yield from (at_mark(hazard, threshold + offset) for hazard, threshold in ratios if hazard != 'star' for offset in (-1, 0, 1))
-
-
 def mark_strata():
     """A ratio at each threshold, and one unit to each side or, of V*, the nearest; of V* at 0.8 too, which it never passes: Sa is at most
     0.8 g and F at least 1, so p's third line is not reached."""
-    yield from unit_marks(RATIOS)
+    yield from (at_mark(hazard, threshold + offset) for hazard, threshold in RATIOS if hazard != 'star' for offset in (-1, 0, 1))
     yield from map(star_at_mark, (*nearest('star', PLAIN_SITES, LOW), HIGH))

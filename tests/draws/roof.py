@@ -3,14 +3,14 @@
 There is none up to 700 ms, and from 3,572 ms on it is a quarter of V_D; 6,328 ms is the longest T.
 """
 
-from tests.draws import basin, draft, pairs, rare
-from tests.draws.plain_jobs import draw_basin, draw_draft, draw_pairs, draw_site
+from tests.draws import basin, pairs, rare
+from tests.draws.plain_jobs import draw_basin, draw_pairs, draw_site
 from tests.draws.sample import in_turn
 from tests.draws.strata import Stratum, with_period
 
 ENDS = (*range(699, 703), *range(3_570, 3_574), 6_328)
 BELOW = range(3_500, 3_572)     # at the quarter itself F_t is rounded up by 3/4 N at most, here by almost 1 N
-NAMED = {draw_site: lambda stratum: stratum, draw_basin: basin.named, draw_pairs: pairs.named, draw_draft: draft.named}
+NAMED = {draw_site: lambda stratum: stratum, draw_basin: basin.named, draw_pairs: pairs.named}
 
 
 def at_period(T):

@@ -1,6 +1,6 @@
 """Reproducible random jobs from a seed, stratum by stratum; run to see how many of each are hit.
 
-usage: python3 -m tests.draws.sample [SEED [COUNT]]        those by the draft: python3 -m tests.draws.draft [SEED [COUNT]]
+usage: python3 -m tests.draws.sample [SEED [COUNT]]
 """
 
 import random
@@ -27,15 +27,11 @@ def corner_and_ratio_strata():
     yield from (governed_by(name) for name in ('V', 'V_M', 'V_star'))
 
 
-def place_strata():
-    """S against the columns of Table 2."""
+def site_strata():
+    """S against the columns of Table 2; every class."""
     mapped = (('SSD', 'NA', sites.S_S_COLUMNS), ('S1D', 'NV', sites.S_1_COLUMNS),
               ('SSM', 'NAM', sites.S_S_COLUMNS), ('S1M', 'NVM', sites.S_1_COLUMNS))
     yield from (in_table(*each, place) for each in mapped for place in ('on', 'between', 'beyond'))
-
-
-def class_strata():
-    """Every class."""
     yield from (with_number('ground', 'cls', cls) for cls in limits.CLASS)
 
 
@@ -64,7 +60,7 @@ def level_strata():
 
 def all_strata():
     """Every stratum, in a fixed order."""
-    return [*corner_and_ratio_strata(), *place_strata(), *class_strata(), *frame_strata(), *level_strata()]
+    return [*corner_and_ratio_strata(), *site_strata(), *frame_strata(), *level_strata()]
 
 
 def draw_in(rng, stratum, draw_ground=draw_site):
@@ -92,11 +88,11 @@ def accepted_jobs(seed, count):
     return in_turn(seed, count, all_strata(), draw_site)
 
 
-def main(seed=SEED, count=COUNT, strata_of=all_strata, jobs=accepted_jobs):
+def main(seed=SEED, count=COUNT):
     """Print, for each stratum, the jobs drawn for it and all jobs of the sample that lie in it."""
-    strata = strata_of()
+    strata = all_strata()
     drawn, hit = Counter(), Counter()
-    for name, *inputs in jobs(seed, count):
+    for name, *inputs in accepted_jobs(seed, count):
         result = job(*inputs)
         drawn[name] += 1
         hit.update(stratum.name for stratum in strata if stratum.holds(result))

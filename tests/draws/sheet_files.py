@@ -2,7 +2,7 @@
 
 import functools
 
-from tests.draws import damage, draft_jobs as draft
+from tests.draws import damage
 from tests.draws.district_jobs import any_size, small, tied
 from tests.model import sheet, sheets
 
@@ -12,13 +12,6 @@ MOST_SHEETS, MOST_BYTES = sheets.MOST_SHEETS, sheets.MOST_BYTES
 def sound(rng):
     """A sound sheet of a few levels."""
     return sheet.write(*small(rng), in_full=rng.random() < 0.5)
-
-
-def by_profile(rng):
-    """A sheet whose line 1 names the profile, by eight numbers or by ten: sound, refused with 27 or with what comes before it, or with 16 where a number
-    has ten digits."""
-    inputs = rng.choice((small, draft.small, draft.bad_profile, draft.bad_profile_and_another, draft.bad_profile_and_another, draft.largest))(rng)
-    return sheet.write(*inputs, in_full=rng.random() < 0.5, with_profile=True)
 
 
 def some(rng, draw_one=sound, most=5):
@@ -113,7 +106,6 @@ def any_bytes(rng):
 STRATA = {
     'sound sheets': lambda rng: sheets.write(some(rng)), 'sheets of any size': lambda rng: sheets.write(some(rng, of_any_size)),
     'damaged sheets among sound ones': lambda rng: sheets.write(some(rng) + some(rng, damaged)),
-    'sheets by a profile': lambda rng: sheets.write(some(rng, by_profile)),
     'shears that tie': lambda rng: sheets.write(some(rng, lambda rng: sheet.write(*tied(rng, 'V = V_M = V_star')))),
     **{f'empty lines at the {at}' if at != 'between' else 'empty lines between two sheets': functools.partial(empty_lines, at=at)
        for at in ('front', 'end', 'between')},

@@ -39,14 +39,14 @@ def soft_clay_at_limit(rng):
     return at_limit(rng, soft_clay)
 
 
-def at_limit(rng, drawn=plain, limits=(1_800, 2_700)):
+def at_limit(rng, drawn=plain):
     """One measured layer's velocity set so that the average comes as near to 180 or 270 m/s as a whole dm/s allows."""
     while True:
         ds, kinds, values = drawn(rng)
         layer = rng.randrange(len(ds))
         if soil.SOFT_CLAY in kinds and soil.SOFT_CLAY not in kinds[:layer] + kinds[layer + 1:]:
             continue        # the layer that is set is not the only one of soft clay
-        limit = rng.choice(limits)
+        limit = rng.choice((1_800, 2_700))
         rest = sum(10**8 * d / soil.velocity(kind, value)
                    for i, (d, kind, value) in enumerate(zip(ds, kinds, values)) if i != layer)
         left = 10**8 * soil.THICKNESS_SUM / limit - rest
@@ -56,10 +56,10 @@ def at_limit(rng, drawn=plain, limits=(1_800, 2_700)):
             return ds, kinds, values
 
 
-def exactly(rng, limits=(1_800, 2_700)):
+def exactly(rng):
     """Every layer at one of the limits, or one unit to a side."""
     ds = thicknesses(rng, rng.choice((1, 2, 40, rng.randint(1, 40))))
-    speed = rng.choice(limits) + rng.choice((-1, 0, 1))
+    speed = rng.choice((1_799, 1_800, 1_801, 2_699, 2_700, 2_701))
     return ds, [soil.MEASURED] * len(ds), [speed] * len(ds)
 
 

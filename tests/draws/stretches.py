@@ -3,8 +3,7 @@
 from typing import NamedTuple
 
 from tests.draws.district_jobs import bad_height, bad_weight, small
-from tests.draws.plain_jobs import draw_heights, draw_pairs, draw_site
-from tests.draws.profile_faults import random_profile
+from tests.draws.plain_jobs import draw_heights
 from tests.model import limits
 from tests.model.district import DistrictJob
 
@@ -29,9 +28,8 @@ def any_number(rng):
 
 
 def unseen_site(rng):
-    """The numbers of a site that are not looked at: none, those of a site by the draft, or any, the last of them as the first."""
-    drawn = [any_number(rng) for _ in range(NUMBERS - 1)]
-    return limits.Site(*rng.choice(([0] * NUMBERS, (80, 45, 100, 55, 120, 150, 110, 130, 1, 2), [*drawn, drawn[0]])))
+    """Nine numbers that are not looked at: none, those of a site, or any."""
+    return limits.Site(*rng.choice(([0] * NUMBERS, (80, 45, 100, 55, 120, 150, 110, 130, 1), [any_number(rng) for _ in range(NUMBERS)])))
 
 
 def entered(rng, ground, frame, start, count):
@@ -72,20 +70,6 @@ def made_bad(rng, job, length):
     return rng.choice((job._replace(start=length + 1), job._replace(start=length, count=1), job._replace(start=0, count=length + 1),
                        job._replace(count=0), job._replace(count=MOST), job._replace(zone=0, site=job.site._replace(cls=0)),
                        job._replace(frame=job.frame._replace(R=0)), job._replace(frame=job.frame._replace(calculated_period=MOST))))
-
-
-def by_both(rng):
-    """Each job once by ours and once by the draft, over one stretch."""
-    parts = [small(rng, rng.choice((draw_site, draw_pairs))) for _ in range(rng.randint(1, 4))]
-    district = side_by_side(rng, parts)
-    jobs = [job._replace(site=job.site._replace(profile=profile)) for job in district.jobs for profile in limits.PROFILE]
-    return district._replace(jobs=rng.sample(jobs, len(jobs)), room=len(jobs))
-
-
-def with_profiles(rng, district):
-    """A district whose jobs have other profiles, good and bad; in the Basin none is looked at."""
-    jobs = [job._replace(site=job.site._replace(profile=rng.choice((*limits.PROFILE, *limits.PROFILE, random_profile(rng))))) for job in district.jobs]
-    return district._replace(jobs=jobs)
 
 
 def sharing(rng, stretches, weights, heights):

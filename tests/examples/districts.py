@@ -56,15 +56,6 @@ def stretches(core):
         yield f'{name}, in words', not refused[0] or core.TEXTS[refused[0]] in str(core.Refused(*refused))
 
 
-def by_profiles(core):
-    """A job by each profile and one by none that is allowed, beside each other."""
-    sites = [core.Site(*SITE), core.Site(*SITE, core.OURS), core.Site(*SITE, core.DRAFT), core.Site(*SITE, 3)]
-    rows, report = core.district([core.on_site(site, FRAME, 0, 3) for site in sites], WEIGHTS, HEIGHTS)
-    yield 'a district by both profiles', rows[0] == rows[1] and rows[1].star > 0 == rows[2].star and rows[2].vd == max(rows[2].v, rows[2].vm)
-    yield 'a row by no profile', rows[3] == (27, 0, 0, 0, 0, 0, 0) and (report.accepted, report.refused) == (3, 1)
-    yield 'its rows by single calls', rows == [single(core, core.on_site(site, FRAME, 0, 3), WEIGHTS, HEIGHTS) for site in sites]
-
-
 def districts(core):
     """The stored sheets as one district; stretches; no job and as many as may be."""
     jobs, weights, heights = stored_jobs(core)
@@ -73,6 +64,5 @@ def districts(core):
     yield 'its rows by single calls', [tuple(row) for row in answer.rows] == [single(core, job, weights, heights) for job in jobs]
     yield 'jobs that come one by one', core.district(iter(jobs), iter(weights), iter(heights)) == answer
     yield from stretches(core)
-    yield from by_profiles(core)
     yield 'no job', plain(core.district([], [], [])) == ([], (0, 0, 0, 0, 0, 0, [0] * district.CELLS))
     yield 'as many jobs as may be', core.district(jobs[:1] * district.MOST_JOBS, weights, heights).report.accepted == district.MOST_JOBS

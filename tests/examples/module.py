@@ -7,7 +7,6 @@ import re
 from tests.examples.districts import districts
 from tests.examples.drifts import drifts
 from tests.examples.places import EXAMPLES, ROOT
-from tests.examples.profiles import profiles
 from tests.examples.refusals import FRAME, HEIGHTS, SITE, WEIGHTS, refusals
 from tests.model import calls, soil
 from tests.writes.logs import BORING, MADE_UP
@@ -63,7 +62,7 @@ def two_calls(core):
     yield from ((f'the shear call of zone {zone}', core.basin_shear_call(zone, FRAME, sum(WEIGHTS), HEIGHTS[-1])
                  == core.basin_figures(zone, FRAME, WEIGHTS, HEIGHTS)) for zone in (1, 2, 3, 4))
     yield from ((f'a base shear of {base_shear} N at {period} ms', core.distribution(base_shear, period, WEIGHTS, HEIGHTS)
-                 == calls.distribution(base_shear, period, WEIGHTS, HEIGHTS)[5:]) for base_shear in (1, 964_287, core.MOST_BASE_SHEAR)
+                 == calls.distribution(base_shear, period, WEIGHTS, HEIGHTS)[5:]) for base_shear in (1, 964_287, 1_200_000_000)
                 for period in (0, 700, 701, 3_571, 3_572, 9_999))
     yield 'a total weight', 'total weight out' in str(raises(core.Refused, core.shear_call, SITE, FRAME, 0, 300))
     yield 'a top height', 'top height out' in str(raises(core.Refused, core.shear_call, SITE, FRAME, 15_000, 2_001))
@@ -95,7 +94,7 @@ def every_refusal(core):
         error = raises(core.Refused, function, *arguments)
         seen.add(number)
         yield f'refusal {number} at {place}', error and (error.number, error.place) == (number, place) and error.text in str(error)
-    yield 'every refusal', seen | {OF_A_ROW} == set(core.TEXTS) == set(range(1, 28))
+    yield 'every refusal', seen | {OF_A_ROW} == set(core.TEXTS) == set(range(1, 27))
 
 
 def of_another_kind(core):
@@ -109,8 +108,6 @@ def of_another_kind(core):
         yield f'a base shear of {number}', raises(OverflowError, core.distribution, number, 1000, WEIGHTS, HEIGHTS)
         yield f'a period of {number}', raises(OverflowError, core.distribution, 1_071_429, number, WEIGHTS, HEIGHTS)
         yield f'a value of {number}', raises(OverflowError, core.site_class, [3000], [2], [number])
-        yield f'a profile of {number} of a log', raises(OverflowError, core.site_class, [3000], [2], [2], number)
-        yield f'a profile of {number}', raises(OverflowError, core.figures, (*SITE, number), FRAME, WEIGHTS, HEIGHTS)
         yield f'a start of {number}', raises(OverflowError, core.district, [core.on_site(SITE, FRAME, number, 3)], WEIGHTS, HEIGHTS)
         yield f'a zone of {number} in a district', raises(OverflowError, core.district, [core.in_basin(number, FRAME, 0, 3)], WEIGHTS, HEIGHTS)
         yield f'a height of {number} in a drift', raises(OverflowError, core.drift, [number], [0], 50)
@@ -124,14 +121,13 @@ def of_another_kind(core):
     yield 'the largest number of 64 bits', raises(core.Refused, core.figures, SITE, (2, 2 ** 64 - 1, 480, 100, 150), WEIGHTS, HEIGHTS)
     yield 'a zone of 1.0', raises(TypeError, core.basin_figures, 1.0, FRAME, WEIGHTS, HEIGHTS)
     yield 'an R of 4.8', raises(TypeError, core.job, SITE, (2, 1000, 4.8, 100, 150), WEIGHTS, HEIGHTS)
-    for count in (6, 7, 8, 11):
-        yield f'a site of {count} numbers', f'10 numbers, or 9 without the profile, are wanted, {count} are given' == str(
-            raises(TypeError, core.job, (*SITE, 1, 1)[:count], FRAME, WEIGHTS, HEIGHTS))
-        yield f'a site of {count} numbers in a district', raises(TypeError, core.district, [core.on_site((*SITE, 1, 1)[:count], FRAME, 0, 3)], WEIGHTS, HEIGHTS)
+    for count in (6, 7, 8, 10):
+        yield f'a site of {count} numbers', raises(TypeError, core.job, (*SITE, 1)[:count], FRAME, WEIGHTS, HEIGHTS)
+        yield f'a site of {count} numbers in a district', raises(TypeError, core.district, [core.on_site((*SITE, 1)[:count], FRAME, 0, 3)], WEIGHTS, HEIGHTS)
     yield 'a Site of seven numbers', raises(TypeError, core.Site, *SITE[:7])
 
 
 def run_module(core):
     """What the module answers, refuses and does not call."""
-    for check in (jobs, two_calls, profiles, districts, drifts, logs, sheet_and_version, every_refusal, of_another_kind):
+    for check in (jobs, two_calls, districts, drifts, logs, sheet_and_version, every_refusal, of_another_kind):
         yield from check(core)

@@ -5,7 +5,6 @@ import subprocess
 
 from tests.examples.places import EXAMPLES, GIVEN, ROOT
 from tests.model import soil
-from tests.writes.both_profiles import draft_lines
 from tests.writes.by_hand.worked import read
 from tests.writes.five_jobs import district_lines
 from tests.writes.logs import BORING
@@ -33,14 +32,14 @@ def printed(path):
 
 def run_programs():
     """Three examples print the listing of the worked sheet, two what the manual has of a scaled analysis, two its towers, two
-    which way its figures move, two its district of five jobs, two its frame, floors and moments, two its school by both profiles, two the class of its
-    boring in soft clay; that in C++ prints every listing."""
+    which way its figures move, two its district of five jobs, two its frame, floors and moments, two the class of its boring in soft clay; that in
+    C++ prints every listing."""
     expected = (EXAMPLES / 'office.listing').read_bytes()
     for name in ('office.c', 'listing.cpp', 'rukeshomaji.py'):
         yield name, printed(EXAMPLES / name) == expected
     office = read((EXAMPLES / 'office.sheet').read_bytes())
     for example, lines in (('scaling', scaling_lines(office)), ('podium', podium_lines(office)), ('moves', moves_lines(office)),
-                           ('district', district_lines()), ('drift', drift_lines(office)), ('draft', draft_lines())):
+                           ('district', district_lines()), ('drift', drift_lines(office))):
         expected = ''.join(f'{line}\n' for line in lines).encode()
         for name in (f'{example}.c', f'{example}.py'):
             yield name, printed(EXAMPLES / name) == expected

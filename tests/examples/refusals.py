@@ -1,6 +1,6 @@
 """A call of examples/rukeshomaji.py for each refusal, and what it is to say."""
 
-SITE, FRAME = (80, 45, 100, 55, 100, 100, 100, 100, 1), (2, 1000, 480, 100, 150)       # a site without a profile is by ours
+SITE, FRAME = (80, 45, 100, 55, 100, 100, 100, 100, 1), (2, 1000, 480, 100, 150)
 WEIGHTS, HEIGHTS = [5000] * 3, [100, 200, 300]
 
 
@@ -37,12 +37,6 @@ def refusals(core):
     yield from ((5, place + 1, job(with_number(SITE, place, 75))) for place in (0, 1, 2, 3))
     yield from ((6, place - 3, job(with_number(SITE, place, 99))) for place in (4, 5, 6, 7))
     yield 7, 0, job(with_number(SITE, 8, 4))
-    for number in (0, 3, 2 ** 64 - 1):
-        yield from ((27, 0, each) for each in (job((*SITE, number)), job((*with_number(SITE, 0, 75), number)), call(site=(*with_number(SITE, 8, 4), number)),
-                                               (core.figures, ((*SITE, number), FRAME, WEIGHTS, HEIGHTS)), log([], [], [], number)))
-        yield from ((3, 0, call(weight=0, site=(*SITE, number))), (4, 3, job((*SITE, number), heights=[100, 200, 200])), (2, 0, log([3000], [], [1], number)))
-    yield from ((5, 1, job((*with_number(SITE, 0, 75), profile))) for profile in (core.OURS, core.DRAFT))
-    yield 13, 0, log([], [], [], core.DRAFT)
     yield from ((number, 0, job(frame=with_number(FRAME, place, 99_999))) for number, place in ((8, 2), (9, 3), (10, 4), (11, 0), (12, 1)))
     yield 13, 0, log([], [], [])
     yield 14, 2, log([3000, 0], [2, 2], [2, 2])
@@ -51,7 +45,6 @@ def refusals(core):
     yield from ((15, 2, log([1000, 2000], [core.MEASURED, kind], [2000, q])) for kind, q in ((core.SOFT_CLAY, 0), (core.SOFT_CLAY, 401), (5, 100)))
     yield 16, 1, (core.sheet, (b'',))
     yield 17, 0, (core.sheet, (b'\n' * 4097,))
-    yield 27, 0, (core.sheet, (b'site\t80\t45\t100\t55\t100\t100\t1\t3\nframe\t2\t1000\t480\t100\t150\nlevel\t5000\t100\n',))
     yield 18, 0, (core.sheet, (b'basin\t5\nframe\t2\t1000\t480\t100\t150\nlevel\t5000\t100\n',))
     yield from ((18, 0, (function, (zone, FRAME, WEIGHTS, HEIGHTS))) for function in (core.basin_job, core.basin_figures)
                 for zone in (0, 5, 2 ** 64 - 1))
@@ -66,7 +59,7 @@ def refusals(core):
     yield 2, 0, over(0, heights=HEIGHTS[:2])
     yield 3, 2, over(0, weights=[5000, 20_001, 5000])
     yield 4, 3, over(0, heights=[100, 200, 200])
-    yield from ((19, 0, over(number, 10_000)) for number in (0, 1_400_000_001, 2 ** 64 - 1))
+    yield from ((19, 0, over(number, 10_000)) for number in (0, 1_200_000_001, 2 ** 64 - 1))
     yield from ((20, 0, over(period=number)) for number in (10_000, 2 ** 64 - 1))
     jobs = [core.on_site(SITE, FRAME, 0, 3)]
     yield 1, 0, drift([], [0] * 5, 0)

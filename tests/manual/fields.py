@@ -15,7 +15,7 @@ FIELDS = {
         ('S_S D', '0.01 g', listed(limits.S_S_DESIGN)), ('S_1 D', '0.01 g', listed(limits.S_1_DESIGN)),
         ('S_S M', '0.01 g', listed(limits.S_S_MCE)), ('S_1 M', '0.01 g', listed(limits.S_1_MCE)), ('N_A', '0.01', ranged(limits.N_A)),
         ('N_V', '0.01', ranged(limits.N_V)), ('N_A M', '0.01', ranged(limits.N_A)), ('N_V M', '0.01', ranged(limits.N_V)),
-        ('class', 'number', listed(limits.CLASS)), ('profile', 'number', listed(limits.PROFILE))),
+        ('class', 'number', listed(limits.CLASS))),
     'Line 1 in the Taipei Basin: `basin`': (('zone', 'number', listed(limits.ZONE)),),
     'Line 2: `frame`': (
         ('kind', 'number', listed(limits.KIND)), ('calculated period', 'ms', '0 for none, ' + ranged(limits.CALCULATED_PERIOD[1:])),
@@ -23,8 +23,8 @@ FIELDS = {
     'Every later line: `level`': (
         ('weight', 'kN', ranged(limits.WEIGHT)), ('height', 'dm (0.1 m)', ranged(limits.HEIGHT) + ', each above the level below')),
 }
-LAYOUTS = (sheet.TWO_PAIRS_BY_PROFILE, sheet.BASIN, sheet.FRAME, sheet.LEVEL)
-OF_MCE, PROFILE = ('N_A M', 'N_V M'), ('profile',)      # what a site line may leave out
+LAYOUTS = (sheet.TWO_PAIRS, sheet.BASIN, sheet.FRAME, sheet.LEVEL)
+OF_MCE = ('N_A M', 'N_V M')      # what a site line of seven numbers leaves out
 
 
 def tenths(numbers):
@@ -86,18 +86,14 @@ def fields():
 
 
 def site_lines():
-    """A site line has seven to ten numbers, and no other count; in the orders that the pages on near-fault sites and on the draft have."""
+    """A site line has seven numbers or nine, and no other count; both in the order that the page on near-fault sites has."""
     name, names = 'docs/manual/near_fault.md', [field for field, _, _ in FIELDS['Line 1: `site`']]
-    orders = {len(left): left for left in ([field for field in names if field not in out] for out in (OF_MCE + PROFILE, OF_MCE, PROFILE, ()))}
-    layouts = {each.groups: each for each in (sheet.SITE, sheet.SITE_BY_PROFILE, sheet.TWO_PAIRS, sheet.TWO_PAIRS_BY_PROFILE)}
-    yield orders.keys() == layouts.keys() == {7, 8, 9, 10}, f'docs/manual/sheet.md: layouts of a site line: {orders.keys()}'
-    for paper, heading, counts in (('near_fault.md', 'How they are entered', (9, 7)), ('draft.md', 'How it is entered', (7, 8, 9, 10))):
-        found = [row[:2] for row in rows(page(paper), heading)]
-        yield found == [[str(count), ', '.join(orders[count])] for count in counts], f'docs/manual/{paper}: {found}'
+    short = [field for field in names if field not in OF_MCE]
+    for row, order, layout in zip(rows(page('near_fault.md'), 'How they are entered'), (names, short), (sheet.TWO_PAIRS, sheet.SITE)):
+        yield row[:2] == [str(layout.groups), ', '.join(order)] and len(order) == layout.groups, f'{name}: {row}, wanted {order}'
     taken = [count for count in range(13) if with_line(1, 'site' + count * '\t100') != ['refused', '16', '1']]
-    yield taken == list(orders), f'docs/manual/sheet.md: a site line may have {taken} numbers'
-    for words in ('These are ten numbers. Two things may be left out:', 'the profile: it is 1 then. These are nine numbers.',
-                  'These are eight numbers with the profile, seven without it.', 'Any other count is [refusal](refusals.md) 16 at line 1.'):
+    yield taken == [len(short), len(names)] == [7, 9], f'docs/manual/sheet.md: a site line may have {taken} numbers'
+    for words in ('These are nine numbers. A line may also have seven', 'Any other count is [refusal](refusals.md) 16 at line 1.'):
         yield words in page('sheet.md').replace('\n', ' '), f'docs/manual/sheet.md: does not say: {words}'
-    module = re.search(r"^Site = namedtuple\('Site', '([^']*)', defaults=\[OURS\]\)$", (ROOT / 'examples' / 'rukeshomaji.py').read_text(), re.M)
+    module = re.search(r"^Site = namedtuple\('Site', '([^']*)'\)$", (ROOT / 'examples' / 'rukeshomaji.py').read_text(), re.M)
     yield module[1].split() == near_fault.FIELDS, f'{name}: the fields in Python are {module[1]}'

@@ -29,7 +29,6 @@ SAID = {
                                                                f'{comma(sheets.MOST_BYTES)} bytes'],
     23: [f'not {signed(limits.DISPLACEMENT[0])} to {signed(limits.DISPLACEMENT[-1])}, in 0.01 mm'],
     24: [f'is 0, or above {comma(limits.DRIFT_LIMIT[-1])} ten-thousandths'], 25: ['is 0, or above the largest'], 26: [f'not {ranged(limits.DIMENSION)} dm'],
-    27: ['not ' + either(limits.PROFILE)],
 }
 # what those at place 0 must say, of a shear call and of a floor
 SAID_AT_0 = {3: [f'the total weight of a [shear call](shear_and_storeys.md) is not {ranged(limits.TOTAL_WEIGHT)} kN'],
@@ -106,20 +105,14 @@ def of_words(example):
 
 
 def order(text):
-    """Where 18 to 27 stand in the order."""
-    wrong = limits.refusals(limits.Site(*[0] * 10), (5, 60_001, 99, 99, 99), [0], [0, 0], ())
-    yield [number for number, _ in wrong][:6] == [2, 3, 4, 4, 27, 5], 'docs/manual/refusals.md: 27 is not where the page says'
-    log = [number for number, _ in soil.refusals([], [1], [1], 0)]
-    yield log[:3] == [2, 27, 13], 'docs/manual/refusals.md: 27 of a log is not where the page says'
-    said = '27, the [profile](draft.md), stands after 4 and before 5, in [a soil log](soil.md) after 2 and before 13.'
-    yield said in text.replace('\n', ' '), 'docs/manual/refusals.md: the place of 27'
+    """Where 18 to 26 stand in the order."""
     wrong = limits.refusals(limits.Basin(5), (5, 60_001, 99, 99, 99), [0], [0, 0], ())
     yield [number for number, _ in wrong] == [2, 3, 4, 4, 18, 8, 9, 10, 11, 12], 'docs/manual/refusals.md: 18 is not where the page says'
-    yield '18 stands in place of 27 and 5 to 7, after 1 to 4 and before 8 to 12' in text.replace('\n', ' '), 'docs/manual/refusals.md: the place of 18'
+    yield '18 stands in place of 5 to 7, after 1 to 4 and before 8 to 12' in text.replace('\n', ' '), 'docs/manual/refusals.md: the place of 18'
     wrong = limits.distribution_refusals(0, 10_000, [0], [0, 0], ())
     yield [number for number, _ in wrong] == [2, 3, 4, 4, 19, 20], 'docs/manual/refusals.md: 19 and 20 are not where the page says'
     yield '19, then 20, come after 1 to 4' in text.replace('\n', ' '), 'docs/manual/refusals.md: the place of 19 and 20'
-    wrong = district.DistrictJob(0, 0, limits.Site(*[0] * 10), limits.Frame(5, 60_001, 99, 99, 99), 2, 51)
+    wrong = district.DistrictJob(0, 0, limits.Site(*[0] * 9), limits.Frame(5, 60_001, 99, 99, 99), 2, 51)
     refused = district.answer_of(wrong, [0], [0]).row.number, district.district([wrong] * 257, [0], [0, 0], 0)[0]
     yield refused == (21, 22), 'docs/manual/refusals.md: 21 and 22 do not come first'
     said = '21 comes before all other numbers of its row, and 22 is of the whole call'
@@ -145,7 +138,7 @@ def one_row(number, place, wrong, to_do, example):
 
 def places_of_6(text):
     """Refusal 6 on a line of seven numbers, and what its places are called."""
-    by_seven = re.search(r'On a `site` line of seven or eight numbers, refusal 6 has place 1 or 2 only: `(site [\d ]*)` gets `(refused 6 [12])`', text)
+    by_seven = re.search(r'On a `site` line of seven numbers, refusal 6 has place 1 or 2 only: `(site [\d ]*)` gets `(refused 6 [12])`', text)
     yield bool(by_seven) and answer(f'line 1 `{by_seven[1]}`') == by_seven[2].split(), 'docs/manual/refusals.md: 6 on seven numbers'
     named = re.search(r'\(`./shear` calls 3 and 4 (N_A \w+) and (N_V \w+)\)', text)
     places = ('N_A', 'N_V', *named.groups()) if named else ()
@@ -157,7 +150,7 @@ def refusals():
     """The refusals: one row at least for each, and what it says."""
     text = page('refusals.md')
     found = rows(text, '')
-    yield sorted({int(row[0]) for row in found}) == list(range(1, 28)), 'docs/manual/refusals.md: not each of 1 to 27'
+    yield sorted({int(row[0]) for row in found}) == list(range(1, 27)), 'docs/manual/refusals.md: not each of 1 to 26'
     yield from order(text)
     for row in found:
         yield from one_row(*row)

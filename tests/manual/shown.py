@@ -22,8 +22,8 @@ def of_basin_and_near_fault():
 def sites_in_C():
     """The sites that README.md writes in C."""
     in_c = re.search(r'^ *(RukeshomajiSite site = .*;)$', (ROOT / 'examples' / 'office.c').read_text(), re.M)
-    *numbers, _, _ = read(NEAR_FAULT).ground
-    near = f'RukeshomajiSite near_fault = {{{listed(numbers)}, RUKESHOMAJI_HARD, RUKESHOMAJI_OURS}};'
+    *numbers, _ = read(NEAR_FAULT).ground
+    near = f'RukeshomajiSite near_fault = {{{listed(numbers)}, RUKESHOMAJI_HARD}};'
     for line, of in ((in_c[1], 'office.c'), (near, 'near_fault.sheet')):
         yield f'\n{line}\n' in (ROOT / 'README.md').read_text(), f'README.md: not the site of examples/{of}'
 

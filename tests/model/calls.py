@@ -2,7 +2,7 @@
 
 from typing import NamedTuple
 
-from . import basin as basins, limits, profile as profiles, response, shears, site as sites, storeys
+from . import basin as basins, limits, response, shears, site as sites, storeys
 
 
 HAZARDS = ('design', 'mce', 'star')
@@ -50,16 +50,6 @@ def made_by(ground):
     return basins if isinstance(ground, limits.Basin) else sites
 
 
-def profile_of(ground):
-    """The profile of a ground; the Basin has none but ours."""
-    return profiles.of(profiles.OURS if isinstance(ground, limits.Basin) else ground.profile)
-
-
-def star_divisor(ground):
-    """What divides V*; None by the draft, which has no V*."""
-    return made_by(ground).V_STAR if profile_of(ground).star else None
-
-
 def base_figures(ground, frame, W, h, s=response.UNIT):
     """The `BaseShear` of a total weight and a top height by "From map values to shear", all in range."""
     t = response.approximate_period(frame.kind, h)
@@ -67,16 +57,15 @@ def base_figures(ground, frame, W, h, s=response.UNIT):
 
     design, mce, star = (shears.respond(*made_by(ground).hazard(name, ground, frame.R), T, s) for name in HAZARDS)
 
-    lines = profile_of(ground).lines
     q = response.ratio(design.spectrum, design.lower_factor, s)
-    m = response.modified_ratio(q, s, lines)
+    m = response.modified_ratio(q, s)
     q_M = response.ratio(mce.spectrum, mce.lower_factor, s)
-    m_M = response.modified_ratio(q_M, s, lines)
-    p = response.p_of_star(star.spectrum, star.upper_factor, lines)
+    m_M = response.modified_ratio(q_M, s)
+    p = response.p_of_star(star.spectrum, star.upper_factor)
 
     V = shears.V(frame, m, W, s)
     V_M = shears.V(frame, m_M, W, s)
-    V_star = shears.V_star(frame, p, W, s, star_divisor(ground))
+    V_star = shears.V_star(frame, p, W, s, made_by(ground).V_STAR)
     V_D = shears.V_D(V, V_M, V_star)
     return BaseShear(ground, frame, W, h, s, t, T, design, mce, star, q, m, q_M, m_M, p, V, V_M, V_star, V_D)
 
@@ -99,8 +88,8 @@ def shear_call(ground, frame, weight, height, s=response.UNIT):
 
 
 def distribution(base_shear, period, weights, heights, buffer_lengths=()):
-    """('refused', number, place), or the `Distributed`: a base shear that "may be up to 1,400,000,000 N", "a period from 0 to 9,999 ms, and
-    the levels"."""
+    """('refused', number, place), or the `Distributed`: "any base shear from 1 to 1,200,000,000 N, a period from 0 to 9,999 ms, and the
+    levels"."""
     refusal = limits.judge_distribution(base_shear, period, weights, heights, buffer_lengths)
     if refusal is not None:
         return ('refused', *refusal)

@@ -8,7 +8,7 @@ from typing import NamedTuple
 from . import job as jobs, limits
 
 MOST_JOBS = 256
-CELLS, CELL = 133, 10           # "sorted into" so many "cells of ten thousandths each": "the district report gets 133 cells"
+CELLS, CELL = 113, 10           # "sorted into 113 cells of ten thousandths each"
 OUTSIDE, WHOLE = 21, 22         # refusals of a row and of the whole call, both at place 0
 
 

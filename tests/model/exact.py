@@ -4,7 +4,7 @@ from fractions import Fraction
 from math import ceil, floor, isqrt
 from typing import NamedTuple
 
-from . import basin as basins, limits, profile as profiles, site as sites
+from . import basin as basins, limits, site as sites
 
 DIGITS = 30
 
@@ -53,23 +53,11 @@ def factor(A, B, T, capacity, root):
     return root + (capacity - root) * (min(part, 1) * 5 - 3) / 2
 
 
-def by_draft(ground):
-    """The ground is a site by the draft's profile."""
-    return isinstance(ground, limits.Site) and ground.profile == profiles.DRAFT
-
-
 def modified(ratio):
     """(8), (18): the ratio up to 0.3, 0.52 of it plus 0.144 up to 0.8, 0.7 of it above."""
     if 10 * ratio <= 3:
         return ratio
     return ratio * 13 / 25 + Fraction(18, 125) if 10 * ratio <= 8 else ratio * 7 / 10
-
-
-def modified_by_draft(ratio):
-    """(8), (18) of 001: the ratio up to 0.4, 0.55 of it plus 0.18 up to 0.9, 0.75 of it above."""
-    if 5 * ratio <= 2:
-        return ratio
-    return ratio * 11 / 20 + Fraction(9, 50) if 10 * ratio <= 9 else ratio * 3 / 4
 
 
 def shear_unit(job):
@@ -88,17 +76,16 @@ def hazards(ground):
     if isinstance(ground, limits.Basin):
         design, mce = (basins.A_and_B(S, ground.zone) for S in (basins.S_DS, basins.S_MS))
         return design, mce, design
-    of_site = ground.cls, ground.profile
-    return (sites.A_and_B(ground.SSD, ground.S1D, ground.NA, ground.NV, *of_site),
-            sites.A_and_B(ground.SSM, ground.S1M, ground.NAM, ground.NVM, *of_site),
-            sites.A_and_B(ground.SSD, ground.S1D, 100, 100, *of_site))
+    return (sites.A_and_B(ground.SSD, ground.S1D, ground.NA, ground.NV, ground.cls),
+            sites.A_and_B(ground.SSM, ground.S1M, ground.NAM, ground.NVM, ground.cls),
+            sites.A_and_B(ground.SSD, ground.S1D, 100, 100, ground.cls))
 
 
 def capacity_and_star(ground, R):
-    """The design capacity, and 1.4 over what divides V*: 4.2, in the Basin 3.5; by the draft V* is absent."""
+    """The design capacity, and 1.4 over what divides V*: 4.2, in the Basin 3.5."""
     if isinstance(ground, limits.Basin):
         return Fraction(R + 100, 200), Fraction(2, 5)
-    return Fraction(2 * R + 100, 300), Fraction(0) if by_draft(ground) else Fraction(1, 3)
+    return Fraction(2 * R + 100, 300), Fraction(1, 3)
 
 
 def roof_part(T):
@@ -112,11 +99,10 @@ def base_chain(call, roots):
     R, T, unit = call.frame.R, call.T, shear_unit(call)
     design, mce, star = hazards(call.ground)
     (design_capacity, part), mce_capacity = capacity_and_star(call.ground, R), Fraction(R, 100)
-    lines = modified_by_draft if by_draft(call.ground) else modified
-    V = unit * lines(spectrum(*design, T) / factor(*design, T, design_capacity, roots[0]))
-    V_M = unit * lines(spectrum(*mce, T) / factor(*mce, T, mce_capacity, roots[1]))
+    V = unit * modified(spectrum(*design, T) / factor(*design, T, design_capacity, roots[0]))
+    V_M = unit * modified(spectrum(*mce, T) / factor(*mce, T, mce_capacity, roots[1]))
     F = factor(*star, T, design_capacity, roots[2])
-    V_star = unit * lines(spectrum(*star, T) / F) * F * part
+    V_star = unit * modified(spectrum(*star, T) / F) * F * part
     return V, V_M, V_star, max(V, V_M, V_star)
 
 

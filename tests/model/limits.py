@@ -2,8 +2,6 @@
 
 from typing import NamedTuple
 
-from . import profile as profiles
-
 LEVELS = range(1, 50 + 1)
 WEIGHT = range(1, 20_000 + 1)
 HEIGHT = range(1, 2_000 + 1)
@@ -15,7 +13,6 @@ N_A = range(100, 150 + 1)
 N_V = range(100, 200 + 1)
 FACTORS = {'NA': N_A, 'NV': N_V, 'NAM': N_A, 'NVM': N_V}      # those of a `Site`, in the order of their places
 CLASS = (1, 2, 3)
-PROFILE = (profiles.OURS, profiles.DRAFT)
 ZONE = (1, 2, 3, 4)
 R_RANGE = range(100, 600 + 1)
 I_VALUES = (100, 125, 150)
@@ -23,7 +20,7 @@ ALPHA_Y = range(100, 200 + 1)
 KIND = (1, 2, 3, 4)
 CALCULATED_PERIOD = range(0, 60_000 + 1)
 TOTAL_WEIGHT = range(1, 1_000_000 + 1)
-BASE_SHEAR = range(1, 1_400_000_000 + 1)
+BASE_SHEAR = range(1, 1_200_000_000 + 1)
 PERIOD = range(0, 9_999 + 1)
 DISPLACEMENT = range(-1_000_000, 1_000_000 + 1)
 FLOOR_DISPLACEMENT = range(0, 1_000_000 + 1)
@@ -32,8 +29,7 @@ DIMENSION = range(1, 5_000 + 1)
 
 
 class Site(NamedTuple):
-    """The numbers of a `site` line: "S_S D, S_1 D, S_S M, S_1 M, N_A, N_V", "N_A and N_V for MCE", "class"; "the profile by a last field on the site
-    line, 1 ours, 2 the draft; without it, 1"."""
+    """The numbers of a `site` line: "S_S D, S_1 D, S_S M, S_1 M, N_A, N_V", "N_A and N_V for MCE", "class"."""
 
     SSD: int
     S1D: int
@@ -44,12 +40,11 @@ class Site(NamedTuple):
     NAM: int
     NVM: int
     cls: int
-    profile: int = profiles.OURS
 
 
-def one_pair(SSD, S1D, SSM, S1M, NA, NV, cls, profile=profiles.OURS):
-    """A `Site` by seven numbers, or by eight with the profile: "A sheet with the old seven fields still means one pair for both"."""
-    return Site(SSD, S1D, SSM, S1M, NA, NV, NA, NV, cls, profile)
+def one_pair(SSD, S1D, SSM, S1M, NA, NV, cls):
+    """A `Site` by seven numbers: "A sheet with the old seven fields still means one pair for both"."""
+    return Site(SSD, S1D, SSM, S1M, NA, NV, NA, NV, cls)
 
 
 def of_two_pairs(site):
@@ -99,12 +94,6 @@ def level_refusals(weights, heights, buffer_lengths):
     yield from height_refusals(heights)
 
 
-def profile_refusals(profile):
-    """Refusal 27: "profile not 1 or 2", place 0; it stands "before 5, in a log after 2"."""
-    if profile not in PROFILE:
-        yield 27, 0
-
-
 def site_refusals(site):
     """Refusals 5 to 7: "mapped value not listed", at "1 to 4, sheet order"; factor, at 1 to 4 too: "6 gets places 3 and 4"; class."""
     mapped = (S_S_DESIGN, S_1_DESIGN, S_S_MCE, S_1_MCE)
@@ -125,19 +114,15 @@ def basin_refusals(basin):
 
 
 def ground_of(numbers):
-    """A ground: a `Basin`, or a `Site`, which may be given by nine numbers alone, or by seven, and each with the profile."""
+    """A ground: a `Basin`, or a `Site`, which may be given by its nine numbers alone, or by seven."""
     if isinstance(numbers, Basin):
         return numbers
-    return Site(*numbers) if len(numbers) >= len(Site._fields) - len(Site._field_defaults) else one_pair(*numbers)
+    return Site(*numbers) if len(numbers) == len(Site._fields) else one_pair(*numbers)
 
 
 def ground_refusals(ground):
-    """Refusals of the ground: 27, then 5 to 7, of a site; 18 of the Basin, which has no profile."""
-    if isinstance(ground, Basin):
-        yield from basin_refusals(ground)
-    else:
-        yield from profile_refusals(ground.profile)
-        yield from site_refusals(ground)
+    """Refusals of the ground: 5 to 7 of a site, 18 of the Basin."""
+    return basin_refusals(ground) if isinstance(ground, Basin) else site_refusals(ground)
 
 
 def frame_refusals(frame):
@@ -152,7 +137,7 @@ def frame_refusals(frame):
 
 
 def refusals(ground, frame, weights, heights, buffer_lengths):
-    """Every refusal that applies to a job, in order: by number and then by place, 27 "before 5", 18 where 5 to 7 stand."""
+    """Every refusal that applies to a job, in order: by number and then by place, 18 where 5 to 7 stand."""
     yield from level_refusals(weights, heights, buffer_lengths)
     yield from ground_refusals(ground_of(ground))
     yield from frame_refusals(Frame(*frame))

@@ -7,11 +7,8 @@ ratio and everything above following, thresholds scaled alike". The quotes of 01
 from fractions import Fraction
 from math import ceil, floor, isqrt
 
-from . import profile as profiles
-
 UNIT = 10**7
 PERIOD_C = {1: 85, 2: 70, 3: 70, 4: 50}
-LINES = profiles.of(profiles.OURS).lines
 
 
 def approximate_period(kind, h):
@@ -105,23 +102,22 @@ def ratio(Sa, F, s=UNIT):
     return ceil(Fraction(s * Sa, F))
 
 
-def modified_ratio(q, s=UNIT, lines=LINES):
-    """(8), (18): q up to 0.3 of the unit; up to 0.8 of it 0.52*q plus 0.144 of it, up; above that 0.7*q, up. By the draft's (8), (18) 0.4, 0.9, 0.55,
-    0.18 and 0.75.
+def modified_ratio(q, s=UNIT):
+    """(8), (18): q up to 0.3 of the unit; up to 0.8 of it 0.52*q plus 0.144 of it, up; above that 0.7*q, up.
 
     In ten-millionths 3,000,000, 8,000,000 and 1,440,000: 01's 300,000, 800,000 and 144,000 "scaled alike".
     """
-    if q <= lines.low * s:
+    if q <= Fraction(3 * s, 10):
         return q
-    if q <= lines.high * s:
-        return ceil(lines.times * q + lines.plus * s)
-    return ceil(lines.beyond * q)
+    if q <= Fraction(8 * s, 10):
+        return ceil(Fraction(52 * q, 100) + Fraction(144 * s, 1000))
+    return ceil(Fraction(7 * q, 10))
 
 
-def p_of_star(Sa, F, lines=LINES):
+def p_of_star(Sa, F):
     """For V*: "p = Sa if 10*Sa <= 3*F; 0.52*Sa + 0.144*F, up, if 10*Sa <= 8*F; else 0.7*Sa, up"."""
-    if Sa <= lines.low * F:
+    if 10 * Sa <= 3 * F:
         return Sa
-    if Sa <= lines.high * F:
-        return ceil(lines.times * Sa + lines.plus * F)
-    return ceil(lines.beyond * Sa)
+    if 10 * Sa <= 8 * F:
+        return ceil(Fraction(52 * Sa, 100) + Fraction(144 * F, 1000))
+    return ceil(Fraction(7 * Sa, 10))

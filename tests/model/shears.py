@@ -43,10 +43,10 @@ def V(frame, m, W, s=response.UNIT):
 
 
 def V_star(frame, p, W, s=response.UNIT, divided_by=site.V_STAR):
-    """In N, rounded up, W in kN: "V* I*p*W/(42000*alpha-y), with 35000 for 42000 in the Basin" (19); where nothing divides it there is none, "V* being 0"."""
-    return ceil(frame.I * p * W / (divisor(s, divided_by) * frame.alphay)) if divided_by else 0
+    """In N, rounded up, W in kN: "V* I*p*W/(42000*alpha-y), with 35000 for 42000 in the Basin" (19)."""
+    return ceil(frame.I * p * W / (divisor(s, divided_by) * frame.alphay))
 
 
 def V_D(v, v_m, v_star):
-    """(20): "V_D is the largest of the three"; by the draft's (19) "the larger of two shears", as V* is 0."""
+    """(20): "V_D is the largest of the three"."""
     return max(v, v_m, v_star)

@@ -2,24 +2,21 @@
 
 import re
 
-from . import job as jobs, limits, profile as profiles
+from . import job as jobs, limits
 
 MOST_BYTES = 4_096
 NUMBER = rb'\t(0|[1-9][0-9]{0,8})'
 SITE = re.compile(rb'site' + NUMBER * 7)
-SITE_BY_PROFILE = re.compile(rb'site' + NUMBER * 8)
 TWO_PAIRS = re.compile(rb'site' + NUMBER * 9)
-TWO_PAIRS_BY_PROFILE = re.compile(rb'site' + NUMBER * 10)
 FRAME = re.compile(rb'frame' + NUMBER * 5)
 LEVEL = re.compile(rb'level' + NUMBER * 2)
 BASIN = re.compile(rb'basin' + NUMBER)
-# what a line 1 means
-GROUNDS = {SITE: limits.one_pair, SITE_BY_PROFILE: limits.one_pair, TWO_PAIRS: limits.Site, TWO_PAIRS_BY_PROFILE: limits.Site, BASIN: limits.Basin}
+GROUNDS = {SITE: limits.one_pair, TWO_PAIRS: limits.Site, BASIN: limits.Basin}      # what a line 1 means
 
 
 def layouts(line_number):
-    """Layouts: "Line 1 is `site`", which "gets two further fields after N_V" and "names the profile by a last field", "Line 2 is `frame`", "All later
-    lines are `level`"; "`basin` with the zone in place of `site`"."""
+    """Layouts: "Line 1 is `site`", which "gets two further fields after N_V", "Line 2 is `frame`", "All later lines are `level`"; "`basin`
+    with the zone in place of `site`"."""
     return {1: tuple(GROUNDS), 2: (FRAME,)}.get(line_number, (LEVEL,))
 
 
@@ -63,20 +60,19 @@ def listing(job):
     return b''.join(lines)
 
 
-def first_line(ground, in_full=False, with_profile=False):
-    """The word and the numbers of line 1: a site that has one pair for both by seven numbers, unless both pairs are written in full; its profile behind
-    them where it is not 1, or where it is to be written."""
+def first_line(ground, in_full=False):
+    """The word and the numbers of line 1: a site that has one pair for both by seven numbers, unless it is written in full."""
     if isinstance(ground, limits.Basin):
         return 'basin', *ground
     site = limits.ground_of(ground)
-    pairs = (site.NA, site.NV, site.NAM, site.NVM) if in_full or limits.of_two_pairs(site) else (site.NA, site.NV)
-    last = [site.profile] if with_profile or site.profile != profiles.OURS else []
-    return 'site', site.SSD, site.S1D, site.SSM, site.S1M, *pairs, site.cls, *last
+    if in_full or limits.of_two_pairs(site):
+        return 'site', *site
+    return 'site', site.SSD, site.S1D, site.SSM, site.S1M, site.NA, site.NV, site.cls
 
 
-def write(ground, frame, weights, heights, in_full=False, with_profile=False):
+def write(ground, frame, weights, heights, in_full=False):
     """The bytes of a sheet that holds these numbers."""
-    lines = [first_line(ground, in_full, with_profile), ('frame', *frame)]
+    lines = [first_line(ground, in_full), ('frame', *frame)]
     lines += [('level', weight, height) for weight, height in zip(weights, heights)]
     return ''.join('\t'.join(map(str, line)) + '\n' for line in lines).encode('ascii')
 

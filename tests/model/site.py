@@ -1,16 +1,21 @@
-"""Site coefficients of Table 2, or of the draft's Tables 1 and 2, and A and B of the three hazards in 10^-8 g.
-
-The draft's tables have the columns of ours, "S_s <= 0.5" to "S_s >= 0.9" and "S_1 <= 0.3" to "S_1 >= 0.5", and "straight-line interpolation for
-intermediate values".
-"""
+"""Site coefficients of Table 2, and A and B of the three hazards in 10^-8 g."""
 
 from fractions import Fraction
 
-from . import profile as profiles, response
+from . import response
 
 S_S_COLUMNS = (5000, 6000, 7000, 8000, 9000)
+F_A = {
+    1: (10000, 10000, 10000, 10000, 10000),
+    2: (11000, 11000, 10000, 10000, 10000),
+    3: (12000, 12000, 11000, 10000, 10000),
+}
 S_1_COLUMNS = (3000, 3500, 4000, 4500, 5000)
-F_A, F_V = profiles.of(profiles.OURS).F_A, profiles.of(profiles.OURS).F_V       # ours
+F_V = {
+    1: (10000, 10000, 10000, 10000, 10000),
+    2: (15000, 14000, 13000, 12000, 11000),
+    3: (18000, 17000, 16000, 15000, 14000),
+}
 NO_NEAR_FAULT = 100
 V_STAR = Fraction(42, 10)
 
@@ -29,36 +34,36 @@ def interpolate(columns, coefficients, S):
     return int(coefficient)
 
 
-def F_a(cls, S_S, profile=profiles.OURS):
-    """F_a in ten-thousandths at S_S in 0.0001 g, by Table 2, or by the draft's Table 1."""
-    return interpolate(S_S_COLUMNS, profiles.of(profile).F_A[cls], S_S)
+def F_a(cls, S_S):
+    """F_a in ten-thousandths at S_S in 0.0001 g, by Table 2."""
+    return interpolate(S_S_COLUMNS, F_A[cls], S_S)
 
 
-def F_v(cls, S_1, profile=profiles.OURS):
-    """F_v in ten-thousandths at S_1 in 0.0001 g, by Table 2 of either."""
-    return interpolate(S_1_COLUMNS, profiles.of(profile).F_V[cls], S_1)
+def F_v(cls, S_1):
+    """F_v in ten-thousandths at S_1 in 0.0001 g, by Table 2."""
+    return interpolate(S_1_COLUMNS, F_V[cls], S_1)
 
 
-def A_and_B(mapped_S_S, mapped_S_1, NA, NV, cls, profile=profiles.OURS):
+def A_and_B(mapped_S_S, mapped_S_1, NA, NV, cls):
     """A and B: "S = mapped value times its near-fault factor"; "A = F_a*S_S and B = F_v*S_1, in 10^-8 g"."""
     S_S = mapped_S_S * NA
     S_1 = mapped_S_1 * NV
-    return F_a(cls, S_S, profile) * S_S, F_v(cls, S_1, profile) * S_1
+    return F_a(cls, S_S) * S_S, F_v(cls, S_1) * S_1
 
 
 def design(site):
     """A and B of V: "design values"; "V uses the first pair"."""
-    return A_and_B(site.SSD, site.S1D, site.NA, site.NV, site.cls, site.profile)
+    return A_and_B(site.SSD, site.S1D, site.NA, site.NV, site.cls)
 
 
 def mce(site):
     """A and B of V_M: "the same from MCE values"; "V_M the second"."""
-    return A_and_B(site.SSM, site.S1M, site.NAM, site.NVM, site.cls, site.profile)
+    return A_and_B(site.SSM, site.S1M, site.NAM, site.NVM, site.cls)
 
 
 def star(site):
     """A and B of V*: design values with "both near-fault factors taken as 100"; "V* neither"."""
-    return A_and_B(site.SSD, site.S1D, NO_NEAR_FAULT, NO_NEAR_FAULT, site.cls, site.profile)
+    return A_and_B(site.SSD, site.S1D, NO_NEAR_FAULT, NO_NEAR_FAULT, site.cls)
 
 
 def hazard(name, site, R):

@@ -1,11 +1,9 @@
-"""The soil log: velocities, times, class and refusals 2, 27, 13, 14 and 15."""
+"""The soil log: velocities, times, class and refusals 2, 13, 14 and 15."""
 
 from fractions import Fraction
 from functools import cache
 from math import ceil, floor
 from typing import NamedTuple
-
-from . import limits, profile as profiles
 
 LAYERS = range(1, 40 + 1)
 THICKNESS_SUM = 3_000
@@ -23,11 +21,10 @@ class Log(NamedTuple):
     cls: int
 
 
-def refusals(thicknesses, kinds, values, profile=profiles.OURS):
-    """Every refusal of a log: "for a log 2 precedes 13"; 27 "in a log after 2"; "14 at a layer of thickness 0 if there is one"."""
+def refusals(thicknesses, kinds, values):
+    """Every refusal of a log: "for a log 2 precedes 13"; "14 at a layer of thickness 0 if there is one"."""
     if not len(thicknesses) == len(kinds) == len(values):
         yield 2, 0
-    yield from limits.profile_refusals(profile)
     if len(thicknesses) not in LAYERS:
         yield 13, 0
     for layer, thickness in enumerate(thicknesses, 1):
@@ -40,9 +37,9 @@ def refusals(thicknesses, kinds, values, profile=profiles.OURS):
             yield 15, layer
 
 
-def judge(thicknesses, kinds, values, profile=profiles.OURS):
+def judge(thicknesses, kinds, values):
     """None, or the first (number, place)."""
-    return next(refusals(thicknesses, kinds, values, profile), None)
+    return next(refusals(thicknesses, kinds, values), None)
 
 
 def root(number, power):
@@ -81,24 +78,22 @@ def time(thickness, v):
     return Fraction(10**8 * thickness, v)
 
 
-def site_class(U, L, profile=profiles.OURS):
-    """Class: "Hard exactly if 27*U < 3*10^9; soft exactly if 18*L > 3*10^9; else normal", 27 and 18 being tenths of the limits in m/s; by the draft
-    "class limits at 180 and 360 m/s", of its Table 3: "V_s > 360", "180 <= V_s <= 360", "V_s < 180"."""
-    limits_of_class = profiles.of(profile)
-    if limits_of_class.hard * U < 30 * 10**9:
+def site_class(U, L):
+    """Class: "Hard exactly if 27*U < 3*10^9; soft exactly if 18*L > 3*10^9; else normal"."""
+    if 27 * U < 3 * 10**9:
         return HARD
-    if limits_of_class.soft * L > 30 * 10**9:
+    if 18 * L > 3 * 10**9:
         return SOFT
     return NORMAL
 
 
-def log(thicknesses, kinds, values, profile=profiles.OURS):
-    """('refused', number, place), or the `Log` by "Soil log", classed by a profile."""
-    refusal = judge(thicknesses, kinds, values, profile)
+def log(thicknesses, kinds, values):
+    """('refused', number, place), or the `Log` by "Soil log"."""
+    refusal = judge(thicknesses, kinds, values)
     if refusal is not None:
         return ('refused', *refusal)
     velocities = [velocity(kind, value) for kind, value in zip(kinds, values)]
     times = [time(thickness, v) for thickness, v in zip(thicknesses, velocities)]
     U = sum(ceil(each) for each in times)
     L = sum(floor(each) for each in times)
-    return Log(velocities, U, L, site_class(U, L, profile))
+    return Log(velocities, U, L, site_class(U, L))

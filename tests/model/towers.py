@@ -19,8 +19,6 @@ def holds(whole, parts):
 
 def share(result):
     """V_D over W before the last rounding, in N for each kN: the largest of V, V_M and V* with a weight of 1 kN."""
-    frame, divided_by = result.frame, calls.star_divisor(result.ground)
-    ratios = [(result.m, shears.divisor(result.s)), (result.m_M, shears.divisor(result.s))]
-    if divided_by:
-        ratios.append((result.p, shears.divisor(result.s, divided_by)))
+    frame, divided_by = result.frame, calls.made_by(result.ground).V_STAR
+    ratios = ((result.m, shears.divisor(result.s)), (result.m_M, shears.divisor(result.s)), (result.p, shears.divisor(result.s, divided_by)))
     return max(Fraction(frame.I * ratio) / (divisor * frame.alphay) for ratio, divisor in ratios)

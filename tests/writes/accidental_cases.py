@@ -2,9 +2,8 @@
 
 import itertools
 
-from tests.draws import call_faults, faults
+from tests.draws import call_faults, calls as drawn, faults
 from tests.model import limits
-from tests.writes.distribution_cases import BEYOND, FIRST_SHEARS
 from tests.writes.stored_drifts import LARGEST, LARGEST_SIGNED, OVER, SMALL, tall_moments
 
 LEAST_BUT_ONE = -LARGEST_SIGNED
@@ -25,7 +24,7 @@ def moment_cases():
         yield (OVER, SMALL)[number % 2]._replace(base_shear=base_shear, period=period, dimension=(1, 5_000, 333)[number % 3])
     yield from (SMALL._replace(base_shear=base_shear, period=0) for base_shear in (1, 2, 3, 7, 1_000))
     one = OVER._replace(weights=[5], heights=[9], buffers=(1, 1))
-    yield from (one._replace(base_shear=base_shear, dimension=dimension) for base_shear in FIRST_SHEARS for dimension in (1, 5_000))
+    yield from (one._replace(base_shear=base_shear, dimension=dimension) for base_shear in drawn.BASE_SHEARS for dimension in (1, 5_000))
     yield OVER._replace(weights=[20_000] * 50, heights=list(range(1_951, 2_001)), base_shear=1_200_000_000, dimension=5_000, buffers=(50, 51))
     yield OVER._replace(weights=[900, 1, 20_000, 44], heights=[1, 2, 1_999, 2_000], buffers=(4, 6))
 
@@ -33,7 +32,7 @@ def moment_cases():
 def limit_cases():
     """Both sides of the limits of base shear, period and dimension."""
     yield from (SMALL._replace(dimension=value) for value in call_faults.around(limits.DIMENSION))
-    yield from (SMALL._replace(base_shear=value) for value in (0, 1, 1_200_000_000, BEYOND, LARGEST))
+    yield from (SMALL._replace(base_shear=value) for value in (0, 1, 1_200_000_000, 1_200_000_001, LARGEST))
     yield from (SMALL._replace(period=value) for value in (0, 9_999, 10_000, LARGEST))
 
 
@@ -64,7 +63,7 @@ def level_cases():
 WRONG = {
     1: (('weights', None, []), ('weights', None, [5] * 51)), 2: (('heights', None, [10]), ('heights', None, [10, 23, 31, 40])),
     '2, a buffer': (('buffers', 0, 2), ('buffers', 1, 2)), 3: (('weights', 1, 0), ('weights', 0, 20_001)),
-    4: (('heights', 0, 0), ('heights', 0, 2_001)), 19: (('base_shear', None, 0), ('base_shear', None, BEYOND)),
+    4: (('heights', 0, 0), ('heights', 0, 2_001)), 19: (('base_shear', None, 0), ('base_shear', None, 1_200_000_001)),
     20: (('period', None, 10_000), ('period', None, LARGEST)), 26: (('dimension', None, 0), ('dimension', None, 5_001)),
 }
 
@@ -80,13 +79,7 @@ def pair_cases():
     yield SMALL._replace(base_shear=0, period=10_000, weights=[0] * 3, heights=[0] * 3, dimension=0, buffers=(2, 2))
 
 
-def larger_cases():
-    """Base shears beyond 1,200,000,000 N, up to the last that is taken (Wish 11); as much as there can be."""
-    yield from (SMALL._replace(base_shear=value) for value in (1_200_000_001, limits.BASE_SHEAR[-1]))
-    yield OVER._replace(weights=[5], heights=[9], base_shear=limits.BASE_SHEAR[-1], dimension=5_000, buffers=(1, 1))
-
-
 def accidental_cases():
     """All of them."""
-    for part in (held_cases, moment_cases, limit_cases, list_cases, level_cases, pair_cases, larger_cases):
+    for part in (held_cases, moment_cases, limit_cases, list_cases, level_cases, pair_cases):
         yield from part()

@@ -1,9 +1,9 @@
 """Writes the cases of the program `run_calls` and what the model says of them: shear calls and distributions (Wish 6), towers (Wish 8), which
-way the figures move (Wish 14), shear calls by the draft and larger base shears (Wish 11).
+way the figures move (Wish 14).
 
 usage: python3 -m tests.writes.call_cases        rewrites crates/run_calls/stdin and crates/run_calls/stdout
 
-The first line of stdin is the count of cases. Every other line is a case. A shear call: 0 for a site or 1 for the Basin, ten numbers of
+The first line of stdin is the count of cases. Every other line is a case. A shear call: 0 for a site or 1 for the Basin, nine numbers of
 the ground, five of the frame, weight and height. A distribution: 2, base shear, period, the counts of weights and of heights, the lengths
 of three buffers and what a cell of each holds; then the weights and the heights.
 """
@@ -14,9 +14,8 @@ import random
 
 from tests.draws import calls as drawn
 from tests.model import calls, limits
-from tests.writes.distribution_cases import (FIRST, distribution_pairs, distribution_two_wrong, every_shear_at_every_period, handed_in_limits,
-                                             larger_shears, level_cases, list_cases)
-from tests.writes.draft_shear_cases import draft_shears
+from tests.writes.distribution_cases import (distribution_pairs, distribution_two_wrong, every_shear_at_every_period, handed_in_limits, level_cases,
+                                             list_cases)
 from tests.writes.shear_cases import move_cases, shear_limits, shear_pairs, shear_pairs_by_place, tower_cases, within_limits
 from tests.writes.stored_calls import CELLS, DRAWN, FEW, LARGEST, MOST_BYTES, NEAR, OLD, OVER, SEED, UNEVEN, WORKED, Distribution, Shear
 
@@ -36,14 +35,14 @@ def worked_cases():
 
 def drawn_cases():
     """From all that is allowed: shear calls on each kind of ground by turns, distributions over few levels and one over 50."""
-    rng, kinds = random.Random(SEED), itertools.cycle(drawn.GROUNDS[kind] for kind in ('site', 'basin', 'pairs'))
+    rng, kinds = random.Random(SEED), itertools.cycle(drawn.GROUNDS.values())
     yield from (Shear(*drawn.draw_shear_call(rng, next(kinds))) for _ in range(DRAWN))
     for _ in range(DRAWN):
-        call = drawn.draw_distribution(rng, shears=FIRST)
+        call = drawn.draw_distribution(rng)
         count = min(len(call.weights), rng.randint(1, FEW))
         yield Distribution(call.base_shear, call.period, call.weights[-count:], call.heights[-count:],
                            tuple(count + rng.choice((0, 0, 1)) for _ in OLD))
-    call = drawn.draw_distribution(rng, draw_levels=drawn.LEVELS['levels 50'], shears=FIRST)
+    call = drawn.draw_distribution(rng, draw_levels=drawn.LEVELS['levels 50'])
     yield Distribution(call.base_shear, 1_234, call.weights, call.heights, (50, 51, 60))
 
 
@@ -51,7 +50,7 @@ def all_cases():
     """Every case, in the order of the file."""
     return [*worked_cases(), *shear_limits(), *shear_pairs(), *every_shear_at_every_period(), *handed_in_limits(), *list_cases(),
             *level_cases(), *distribution_pairs(), *drawn_cases(), *tower_cases(), *move_cases(), *shear_pairs_by_place(), *within_limits(),
-            *distribution_two_wrong(), *draft_shears(), *larger_shears()]
+            *distribution_two_wrong()]
 
 
 def stored(cases):

@@ -1,7 +1,4 @@
-"""Stored distributions: base shear and period at their ends, lists and levels, pairs of refusals.
-
-Up to Wish 11 a base shear could be 1,200,000,000 N, and the first cases have these ends; those of 1,400,000,000 N stand behind all others.
-"""
+"""Stored distributions: base shear and period at their ends, lists and levels, pairs of refusals."""
 
 import itertools
 
@@ -10,32 +7,18 @@ from tests.model import limits
 from tests.writes.stored_calls import AT_THE_TOP, LARGEST, OVER, SMALL, UNEVEN, tall_frame
 
 
-FIRST = range(1, 1_200_000_000 + 1)
-FIRST_SHEARS = (1, 2, FIRST[-2], FIRST[-1])
-BEYOND = limits.BASE_SHEAR[-1] + 1
-
-
 def every_shear_at_every_period():
     """Each end of the base shear at each end of the period and of the roof force, over two sets of levels by turns."""
-    for number, (base_shear, period) in enumerate(itertools.product(FIRST_SHEARS, drawn.PERIODS)):
+    for number, (base_shear, period) in enumerate(itertools.product(drawn.BASE_SHEARS, drawn.PERIODS)):
         yield (UNEVEN, SMALL)[number % 2]._replace(base_shear=base_shear, period=period)
 
 
 def handed_in_limits():
     """Both sides of the limits of base shear and period; as much as there can be."""
-    taken = [value for value in call_faults.around(FIRST) if value in FIRST]
-    refused = [value for value in call_faults.around(limits.BASE_SHEAR) if value not in limits.BASE_SHEAR]
-    yield from (SMALL._replace(base_shear=value) for value in sorted(taken + refused))
+    yield from (SMALL._replace(base_shear=value) for value in call_faults.around(limits.BASE_SHEAR))
     yield from (SMALL._replace(period=value) for value in call_faults.around(limits.PERIOD))
-    yield from (AT_THE_TOP._replace(base_shear=FIRST[-1], period=period) for period in (700, 701, 9_999))
+    yield from (AT_THE_TOP._replace(base_shear=limits.BASE_SHEAR[-1], period=period) for period in (700, 701, 9_999))
     yield AT_THE_TOP._replace(base_shear=1, period=0)
-
-
-def larger_shears():
-    """Base shears beyond what they could be at first, up to the last that is taken; as much as there can be."""
-    yield from (SMALL._replace(base_shear=value) for value in (FIRST[-1] + 1, FIRST[-1] + 2**16, limits.BASE_SHEAR[-2], limits.BASE_SHEAR[-1]))
-    yield from (UNEVEN._replace(base_shear=limits.BASE_SHEAR[-1], period=period) for period in (701, 9_999))
-    yield AT_THE_TOP._replace(base_shear=limits.BASE_SHEAR[-1], period=700)
 
 
 def list_cases():
@@ -68,7 +51,7 @@ def distribution_pairs():
         1: (('weights', None, []), ('weights', None, [5] * 51)), 2: (('heights', None, [10]), ('heights', None, [10, 23, 31, 40])),
         '2, a buffer': (('buffers', 0, 0), ('buffers', 2, 2)),
         3: (('weights', 1, 0), ('weights', 0, 20_001)), 4: (('heights', 0, 0), ('heights', 0, 2_001)),
-        19: (('base_shear', None, 0), ('base_shear', None, BEYOND)), 20: (('period', None, 10_000), ('period', None, LARGEST)),
+        19: (('base_shear', None, 0), ('base_shear', None, 1_200_000_001)), 20: (('period', None, 10_000), ('period', None, LARGEST)),
     }
     yield from (call_faults.both(SMALL, wrong[one][0], wrong[other][1]) for one, other in itertools.permutations(wrong, 2))
     yield SMALL._replace(base_shear=0, period=10_000, weights=[0] * 3, heights=[0] * 3, buffers=(2, 2, 2))
@@ -79,7 +62,7 @@ def distribution_two_wrong():
     over = tall_frame(51)
     none = over._replace(weights=[], heights=[])
     for case in (none, over):
-        yield from (case._replace(base_shear=value) for value in (0, BEYOND))
+        yield from (case._replace(base_shear=value) for value in (0, 1_200_000_001))
         yield from (case._replace(period=value) for value in (10_000, LARGEST))
     yield from (over._replace(weights=faults.put(over.weights, level, value)) for level, value in ((0, 0), (50, 20_001)))
     yield from (over._replace(heights=faults.put(over.heights, level, value)) for level, value in ((0, 0), (50, 2_001)))

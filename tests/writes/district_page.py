@@ -7,14 +7,12 @@ import re
 from fractions import Fraction
 from math import ceil
 
-from tests.compares.header_words import thousandths
 from tests.compares.said import of_sheets
-from tests.model import district, limits, profile as profiles, sheet, sheets
+from tests.model import district, limits, sheet, sheets
 from tests.writes import hundred_sheets as hundred
 from tests.writes.by_hand.ground import CLASS_NAMES
 from tests.writes.by_hand.text import code, comma, decimal, hundredths, same, table
 from tests.writes.by_hand.worked import read
-from tests.writes.extremes import extremes
 from tests.writes.five_jobs import cell_words, district_lines, in_c, jobs_table
 
 SHOWN = (1, 2, 3, hundred.DAMAGED, hundred.EDGE, hundred.SMALLEST, hundred.BAD_R, hundred.LARGEST, hundred.BAD_WEIGHT, 100)      # rows of the page
@@ -128,26 +126,15 @@ def edge_names(every):
     edge, most, least = (every[number] for number in (hundred.EDGE, hundred.LARGEST, hundred.SMALLEST))
     V_D, W = edge.row.V_D, edge.W
     assert V_D % W == 0 and V_D // W % CELL == 0 and district.cell_of(V_D - 1, W) == district.cell_of(V_D, W) - 1
-    assert district.thousandths(most.row.V_D, most.W) * limits.TOTAL_WEIGHT[-1] == largest_shear(profiles.OURS)
-    by_draft = district.thousandths(largest_shear(profiles.DRAFT), limits.TOTAL_WEIGHT[-1])
-    small = {W: thousandths(W, profiles.DRAFT) for W in range(1, 1000)}
-    most_small, small_W = max(small.values()), next(W for W, each in small.items() if each == by_draft)
-    assert [each == most_small for each in small.values()] == [W < small_W for W in small] and by_draft // CELL == most_small // CELL == district.CELLS - 1
+    assert district.cell_of(most.row.V_D, most.W) == district.CELLS - 1
     assert least.row.V_D * CITY // least.W == min(row.V_D * CITY // W for row, W in every.values() if not row.number)
     site, frame, *_ = hundred.made()[hundred.LARGEST]
     assert site.NA == site.NAM
     return {'edge': str(hundred.EDGE), 'edge_cell': code(cell_lines(*edge)), 'edge_W': comma(W), 'below_V_D': comma(V_D - 1),
             'below': decimal(Fraction(V_D - 1, W)), 'below_words': cell_words(V_D - 1, W), 'largest': str(hundred.LARGEST),
-            'most': comma(district.thousandths(most.row.V_D, most.W)), 'most_draft': comma(by_draft), 'most_small': comma(most_small), 'small_W': str(small_W),
-            'most_words': cell_words(most.row.V_D, most.W), 'smallest': str(hundred.SMALLEST),
+            'most': comma(district.thousandths(most.row.V_D, most.W)), 'most_words': cell_words(most.row.V_D, most.W), 'smallest': str(hundred.SMALLEST),
             'least': str(district.thousandths(least.row.V_D, least.W)), 'largest_R': hundredths(frame.R), 'largest_I': hundredths(frame.I),
             'largest_alphay': hundredths(frame.alphay), 'largest_NA': hundredths(site.NA), 'least_shear': least_shear()}
-
-
-def largest_shear(profile):
-    """The largest V_D by a profile, in N."""
-    largest, _ = extremes()
-    return largest[profile]
 
 
 def least_shear():
@@ -167,7 +154,7 @@ def tie_names(every):
 
 def limits_names():
     """The limits of a call and of a file, and the calls of a city."""
-    most, calls = district.MOST_JOBS * largest_shear(profiles.DRAFT), ceil(Fraction(CITY, district.MOST_JOBS))
+    most, calls = district.MOST_JOBS * 1_125 * limits.TOTAL_WEIGHT[-1], ceil(Fraction(CITY, district.MOST_JOBS))
     assert sheets.MOST_BYTES == district.MOST_JOBS * (sheet.MOST_BYTES + 1) and most < 2**64
     return {'most_jobs': str(district.MOST_JOBS), 'most_bytes': comma(sheets.MOST_BYTES), 'cell_count': str(district.CELLS),
             'bytes_steps': f'{district.MOST_JOBS} · ({comma(sheet.MOST_BYTES)} + 1) = {comma(sheets.MOST_BYTES)}', 'sheet_bytes': comma(sheet.MOST_BYTES),

@@ -4,19 +4,18 @@ import itertools
 
 from tests.draws import faults
 from tests.model import limits
-from tests.writes.stored_refusals import LOW_BITS, both_sides
+from tests.writes.refusal_cases import LOW_BITS, both_sides
 from tests.writes.stored_calls import SITE
 from tests.writes.stored_districts import FRAME, LARGEST, NO_SITE, THREE, case, in_basin, near_fault, on_site, short_store
 
 GROUNDS = (on_site, in_basin)
-# each number of a ground and of a frame, by a value that is refused; the profile: tests/writes/district_profiles.py
-NUMBERS = limits.Site._fields[:-1]
-WRONG_SITE = [SITE._replace(**{name: allowed[0] - 1}) for name, allowed in zip(NUMBERS, faults.LIMITS['site'])]
+# each number of a ground and of a frame, by a value that is refused
+WRONG_SITE = [SITE._replace(**{name: allowed[0] - 1}) for name, allowed in zip(limits.Site._fields, faults.LIMITS['site'])]
 WRONG_FRAME = [FRAME._replace(**change) for change in ({'R': 601}, {'I': 110}, {'alphay': 99}, {'kind': 0}, {'calculated_period': 60_001})]
 
 
 def flag_cases():
-    """Every flag of the Basin, and what is not looked at: a zone on a site, the numbers of a site in the Basin."""
+    """Every flag of the Basin, and what is not looked at: a zone on a site, nine numbers in the Basin."""
     yield case([in_basin(0, 3, 2, site=site, flag=flag) for flag in (1, 2, 2**32, 2**63, LARGEST) for site in (SITE, NO_SITE)], *THREE)
     yield case([in_basin(0, 3, 2, site=limits.Site(*[LARGEST] * len(SITE))), *(on_site(0, 3, zone=zone) for zone in (0, 1, 5, LARGEST))], *THREE)
 
@@ -71,9 +70,9 @@ def order_cases():
     """A job with everything wrong, repaired one by one: on a site and in the Basin."""
     weights, heights = [5, 0, *[5] * 50], [0, 1, 1, 2, 0, 1, 2, *range(10, 55)]
     stretches = (52, 3), (0, 51), (1, 3), (4, 3)            # 21, 1, 3 and 4; of the levels from the eighth on none is bad
-    site, frame = limits.Site(*[1] * (len(NUMBERS) - 1), 0), limits.Frame(0, 60_001, 0, 0, 0)
+    site, frame = limits.Site(*[1] * (len(SITE) - 1), 0), limits.Frame(0, 60_001, 0, 0, 0)
     jobs = [on_site(*stretch, site, frame) for stretch in (*stretches, (7, 3))] + [in_basin(*stretch, 0, frame) for stretch in (*stretches, (7, 3))]
-    for name in NUMBERS:
+    for name in limits.Site._fields:
         site = site._replace(**{name: getattr(SITE, name)})
         jobs.append(on_site(7, 3, site, frame))
     for name in ('R', 'I', 'alphay', 'kind', 'calculated_period'):

@@ -2,16 +2,16 @@
 
 usage: python3 -m tests.writes.district_sheets        rewrites crates/district/stdin and crates/district/stdout
 
-Every refusal of a sheet is there, and sheets that are taken stand between them: on a site by seven to ten numbers, by either profile, in the Basin,
-with shears that tie, in the first and in the last cell that a job can be in, and at the edge of a cell. An empty line stands at the front, two stand in a
-row between sheets, and the last line has no LF.
+Every refusal of a sheet is there, and sheets that are taken stand between them: on a site by seven and by nine numbers, in the Basin, with shears
+that tie, in the first and in the last cell that a job can be in, and at the edge of a cell. An empty line stands at the front, two stand in a row
+between sheets, and the last line has no LF.
 """
 
 import itertools
 import pathlib
 import random
 
-from tests.draws import district_jobs as one, draft_jobs as draft
+from tests.draws import district_jobs as one
 from tests.model import sheets
 from tests.model.sheet import MOST_BYTES, write
 from tests.writes.refusal_sheets import BASIN, SITE, written
@@ -31,7 +31,7 @@ def taken():
 
 
 def refused():
-    """A sheet for each refusal that a sheet can get, but for 27: 17, 16 at several lines, 1, 3 to 12, 18."""
+    """A sheet for each refusal that a sheet can get: 17, 16 at several lines, 1, 3 to 12, 18."""
     yield from (filled(MOST_BYTES + 1), filled(MOST_BYTES), b'x' * (MOST_BYTES - 1) + b'\n')
     lines = WORKED.splitlines(keepends=True)
     yield from (b'', lines[0], b''.join(lines[:2]), WORKED.replace(b'frame', b'Frame'), WORKED.replace(b'\t200\n', b'\t0200\n'))
@@ -42,22 +42,10 @@ def refused():
     yield written(BASIN, {'zone': 5})
 
 
-def by_profile():
-    """Sheets that name a profile: 27 by eight numbers and by ten, and with another refusal, between sheets by ours and by the draft; in the first cell and
-    in the last; 16 where a basin line names one (Wish 11)."""
-    rng = random.Random(SEED)
-    yield from (written(SITE, {'profile': profile}) for profile in (0, 1, 3, 2))
-    yield from (WORKED.replace(b'\t1\n', b'\t1\t%d\n' % profile, 1) for profile in (1, 999_999_999, 2))
-    yield from (write(*one.few_levels(draw_one(rng), 1)) for draw_one in (draft.largest, draft.smallest, draft.tied, draft.at_exact_edge))
-    yield from (written(SITE, {'profile': 3} | change) for change in ({'weight': 0}, {'cls': 4}))
-    yield from (written(SITE, {'profile': 2} | change) for change in ({'cls': 4}, {'cls': 3}))
-    yield written(BASIN, {}).replace(b'basin\t3\n', b'basin\t3\t2\n')
-
-
 def file_of_sheets():
-    """All of them, refused and taken by turns, after an empty line, then those by a profile; the last without its LF."""
+    """All of them, refused and taken by turns, after an empty line; the last without its LF."""
     by_turns = itertools.chain(*itertools.zip_longest(refused(), taken()))
-    return sheets.write([b'', *(each for each in by_turns if each is not None), *by_profile(), WORKED])[:-2]
+    return sheets.write([b'', *(each for each in by_turns if each is not None), WORKED])[:-2]
 
 
 def stored(folder=HERE):

@@ -1,17 +1,17 @@
-"""Writes the cases of the program `run_districts` and what the model says of them (Wish 9), those by a profile too (Wish 11).
+"""Writes the cases of the program `run_districts` and what the model says of them (Wish 9).
 
 usage: python3 -m tests.writes.districts        rewrites crates/run_districts/stdin and crates/run_districts/stdout
 
 The first line of stdin is the count of cases. Every other line is a case:
 - how many jobs there are, how many of them are given, the counts of weights and of heights, how many rows there are, and what each cell of each
   row holds before the call;
-- the jobs that are given, 19 numbers each: basin, zone, ten of a site, five of a frame, start, count. Job k, from 0, is the given one of place
+- the jobs that are given, 18 numbers each: basin, zone, nine of a site, five of a frame, start, count. Job k, from 0, is the given one of place
   k mod the count of given ones: a district of 256 jobs is some few in turn;
 - the weights, then the heights.
 There are at most 260 jobs, 260 rows and 120 levels.
 
 Of each case stdout has a line `taken`, or `refused`, 22 and 0; a line `row` with its seven numbers for each row, those that the call leaves alone too;
-and a line `report` with its six numbers and its 133 cells, zeros where the call is refused. Parts are separated by tabs.
+and a line `report` with its six numbers and its 113 cells, zeros where the call is refused. Parts are separated by tabs.
 """
 
 import itertools
@@ -21,7 +21,6 @@ import random
 from tests.draws import districts as drawn
 from tests.draws.stretches import STRETCHES
 from tests.model import limits
-from tests.writes.district_profiles import profile_cases
 from tests.writes.district_reports import report_cases
 from tests.writes.district_rows import GROUNDS, row_cases
 from tests.writes.stored_districts import FRAME, LARGEST, MOST_BYTES, OLD, THREE, Case, case, in_basin, near_fault, on_site, short_store
@@ -72,7 +71,7 @@ def drawn_cases():
 
 def all_cases():
     """Every case, in the order of the file."""
-    return [*worked_cases(), *row_cases(), *whole_cases(), *empty_cases(), *report_cases(), *drawn_cases(), *profile_cases()]
+    return [*worked_cases(), *row_cases(), *whole_cases(), *empty_cases(), *report_cases(), *drawn_cases()]
 
 
 def stored(cases, folder=HERE):

@@ -44,7 +44,7 @@ def shear_names(office):
     up = Fraction(ceil(scale * 10**6), 10**6)
     rows = [(str(level + 1), comma(office.forces[level]), comma(over.forces[level])) for level in reversed(range(len(office.forces)))]
     rows.append(('sum', comma(sum(office.forces)), same(sum(over.forces), V_drift)))
-    numbers = [', '.join(map(str, each)) for each in (office.ground[:9], office.frame)]      # ours is what a Site has without a profile
+    numbers = [', '.join(map(str, each)) for each in (office.ground, office.frame)]
     in_python = code(['>>> from rukeshomaji import Frame, Site, shear_call', f'>>> site, frame = Site({numbers[0]}), Frame({numbers[1]})',
                       f'>>> shear_call(site, frame._replace(alpha_y={ALPHA_1}), {office.W}, {office.heights[-1]}).star', str(V_drift)])
     return {'p': decimal(p), 'I': hundredths(office.frame.I), 'alphay': hundredths(office.frame.alphay), 'V_D': comma(office.V_D), 'W': comma(office.W),

@@ -6,7 +6,7 @@ usage: python3 -m tests.writes.exhausted > crates/run_exhausted/stdout
 from fractions import Fraction
 from math import ceil, floor
 
-from tests.model import basin, limits, paper, profile as profiles, response, site as sites
+from tests.model import basin, limits, paper, response, site as sites
 
 UNIT, MILLIONTHS = response.UNIT, 10**6
 
@@ -35,25 +35,19 @@ def on_paper(R):
         yield ('place', design.place, design.found, design.left, mce.found, mce.left)
 
 
-def coefficients(profile):
-    """F_a at every S_S, then F_v at every S_1, in every class by a profile."""
+def lines():
+    """Every line."""
+    yield from (ductility(R, UNIT) for R in limits.R_RANGE)
+    yield from (('h', h, *(response.approximate_period(kind, h) for kind in limits.KIND)) for h in limits.HEIGHT)
     mapped = (('S_S', limits.S_S_DESIGN, limits.S_S_MCE, limits.N_A, sites.F_a),
               ('S_1', limits.S_1_DESIGN, limits.S_1_MCE, limits.N_V, sites.F_v))
     for name, design, mce, factors, coefficient in mapped:
         for value in sorted({*design, *mce}):
-            yield from ((name, value * N, *(coefficient(cls, value * N, profile) for cls in limits.CLASS)) for N in factors)
-
-
-def lines():
-    """Every line; the coefficients by the draft last, each after its word."""
-    yield from (ductility(R, UNIT) for R in limits.R_RANGE)
-    yield from (('h', h, *(response.approximate_period(kind, h) for kind in limits.KIND)) for h in limits.HEIGHT)
-    yield from coefficients(profiles.OURS)
+            yield from ((name, value * N, *(coefficient(cls, value * N) for cls in limits.CLASS)) for N in factors)
     yield from (basin_ductility(R, UNIT) for R in limits.R_RANGE)
     yield from (ductility(R, MILLIONTHS) for R in limits.R_RANGE)
     yield from (basin_ductility(R, MILLIONTHS) for R in limits.R_RANGE)
     yield from on_paper(480)
-    yield from (('draft', *line) for line in coefficients(profiles.DRAFT))
 
 
 if __name__ == '__main__':

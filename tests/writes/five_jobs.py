@@ -9,7 +9,7 @@ from tests.writes.by_hand.text import comma, decimal, table
 
 SOURCE = pathlib.Path(__file__).resolve().parents[2] / 'examples' / 'district.c'
 OFFICE, STEEL = limits.Frame(2, 1000, 480, 100, 150), limits.Frame(1, 0, 480, 125, 100)
-NEAR_FAULT, NO_SITE = limits.Site(70, 40, 90, 50, 112, 123, 118, 136, 2), limits.Site(*[0] * len(limits.Site._fields))
+NEAR_FAULT, NO_SITE = limits.Site(70, 40, 90, 50, 112, 123, 118, 136, 2), limits.Site(*[0] * 9)
 STORE = [5000] * 3 + [3000] * 3 + [2500], [100, 200, 300, 40, 75, 110, 145]
 JOBS = (district.DistrictJob(0, 0, limits.one_pair(80, 45, 100, 55, 100, 100, 1), OFFICE, 0, 3), district.DistrictJob(1, 3, NO_SITE, OFFICE, 0, 3),
         district.DistrictJob(0, 0, NEAR_FAULT, STEEL, 3, 4), district.DistrictJob(0, 0, NEAR_FAULT, STEEL._replace(R=200), 3, 4),

@@ -2,12 +2,13 @@
 
 usage: python3 -m tests.writes.job_cases        rewrites crates/run_jobs/stdin and crates/run_jobs/stdout
 
-The first line of stdin is the count of cases. Every other line is a case: what the ground is, ten numbers of it, five of the frame, the
+The first line of stdin is the count of cases. Every other line is a case: what the ground is, nine numbers of it, five of the frame, the
 counts of weights and of heights, the lengths of three buffers and what a cell of each holds; then the weights and the heights.
 """
 
-import itertools
+import pathlib
 import random
+from typing import NamedTuple
 
 from tests.draws import pairs
 from tests.draws.basin import corner_strata, named
@@ -15,11 +16,60 @@ from tests.draws.plain_jobs import draw_basin, draw_pairs
 from tests.draws.sample import all_strata, draw_in
 from tests.draws.strata import about_levels, governed_by
 from tests.model import limits
-from tests.writes.draft_cases import draft_cases
-from tests.writes.stored_jobs import (FACTORS, FRAME_WRONG, HERE, LARGEST, LISTED, MOST_BYTES, NEAR, NO_LEVEL, NO_ROOM, OLD, ONE, OTHER, SEED, TURNED, WORKED,
-                                      Case, put, tall_frame)
+from tests.model.job import job
 
-FEW = 4
+HERE = pathlib.Path(__file__).resolve().parents[2] / 'crates' / 'run_jobs'
+LISTED, MOST_BYTES = 60, 65_536
+LINE, SITE_GROUND, BASIN_GROUND = len(limits.Site._fields), 0, 1
+OLD, SEED, LARGEST, FEW = (7, 8, 9), 1, 2**64 - 1, 4
+
+
+class Case(NamedTuple):
+    """A call: what it is of, the lengths of the buffers of forces, shears and moments, and what a cell of each holds."""
+
+    ground: tuple
+    frame: tuple
+    weights: list
+    heights: list
+    buffers: tuple
+    old: tuple = OLD
+
+    def row(self):
+        """The numbers that the program reads: of the Basin the zone stands first of the nine of a site."""
+        assert max(len(self.weights), len(self.heights)) <= LISTED
+        ground = limits.ground_of(self.ground)
+        kind = BASIN_GROUND if isinstance(ground, limits.Basin) else SITE_GROUND
+        line = [*ground, *[0] * (LINE - len(ground))]
+        counts = len(self.weights), len(self.heights)
+        return [kind, *line, *self.frame, *counts, *self.buffers, *self.old, *self.weights, *self.heights]
+
+    def said(self):
+        """What the program must write."""
+        result = job(self.ground, self.frame, self.weights, self.heights, self.buffers)
+        plain = job(self.ground, self.frame, self.weights, self.heights)
+        cells = [[]] * 3 if result[0] == 'refused' else [result.forces, result.shears, result.moments]
+        lines = [answer(result)]
+        for name, written, old, length in zip(('forces', 'shears', 'moments'), cells, self.old, self.buffers):
+            lines.append('\t'.join(map(str, (name, *written, *[old] * (length - len(written))))))
+        return '\n'.join([*lines, 'without buffers ' + answer(plain)]) + '\n'
+
+
+def answer(result):
+    """The parts of an answer, separated by tabs."""
+    if result[0] == 'refused':
+        return '\t'.join(map(str, result))
+    return '\t'.join(map(str, ('taken', result.V, result.V_M, result.V_star, result.V_D, result.T)))
+
+
+WORKED = Case((80, 45, 100, 55, 100, 100, 1), (2, 1000, 480, 100, 150), [5000] * 3, [100, 200, 300], (3, 3, 3))
+NEAR, TURNED = (80, 45, 100, 55, 120, 150, 110, 130, 1), (80, 45, 100, 55, 110, 130, 120, 150, 1)
+FACTORS = {limits.Site._fields.index(name): allowed for name, allowed in limits.FACTORS.items()}
+OTHER = Case((60, 35, 80, 45, 142, 179, 3), (4, 0, 250, 150, 100), [900, 1, 20_000, 44], [1, 2, 1999, 2000], (4, 5, 6))
+
+
+def tall_frame(count):
+    """So many levels of one weight, 38 dm apart, with buffers longer than the lists."""
+    return WORKED._replace(weights=[5000] * count, heights=[38 * (i + 1) for i in range(count)], buffers=(55, 56, 57))
 
 
 def buffer_cases():
@@ -114,13 +164,21 @@ def pair_cases():
                             buffers=(50, 50, 50))
 
 
+def put(numbers, *changes):
+    """The numbers with others at some places."""
+    numbers = list(numbers)
+    for place, value in changes:
+        numbers[place] = value
+    return tuple(numbers)
+
+
 def wrong_pair_cases():
     """Each of the nine numbers of a site wrong, both sides of each factor, two factors at once, and a factor with another refusal; buffers
     that hold another job's figures must stay as they are."""
     used = WORKED._replace(ground=NEAR, old=(573_215, 1_071_429, 57_321_500), buffers=(5, 5, 5))
-    for place in range(len(NEAR)):
+    for place in range(LINE):
         yield used._replace(ground=put(NEAR, (place, LARGEST)))
-        yield used._replace(ground=NEAR[:place] + (0,) * (len(NEAR) - place))
+        yield used._replace(ground=NEAR[:place] + (0,) * (LINE - place))
     for place, allowed in FACTORS.items():
         beside = (allowed[0] - 1, allowed[0], allowed[-1], allowed[-1] + 1, allowed[0] + 2**16, allowed[0] + 2**32, allowed[0] + 2**63)
         yield from (used._replace(ground=put(NEAR, (place, value))) for value in beside)
@@ -130,6 +188,11 @@ def wrong_pair_cases():
         yield from (bad._replace(ground=put(bad.ground, each)) for each in ((3, 41), (8, 4)))
         yield from (bad._replace(weights=[5000, 5000, 0]), bad._replace(heights=[100, 200, 200]), bad._replace(buffers=(5, 2, 5)))
         yield from (bad._replace(frame=put(WORKED.frame, (each, 61_000))) for each in range(5))
+
+
+ONE = Case((50, 30, 70, 40, 100, 100, 100, 100, 1), (1, 0, 100, 100, 100), [5], [9], (1, 1, 1))
+FRAME_WRONG = ((2, 601), (3, 99), (4, 201), (0, 5), (1, 60_001))      # refusals 8 to 12: place and number
+NO_LEVEL, NO_ROOM = ONE._replace(weights=[], heights=[]), ONE._replace(buffers=(1, 1, 0))
 
 
 def two_wrong_cases():
@@ -160,21 +223,10 @@ def drawn_pair_cases():
         yield Case(tuple(drawn.ground), tuple(drawn.frame), drawn.weights[-count:], drawn.heights[-count:], (count,) * 3)
 
 
-def all_cases():
-    """Every case, in the order of the file."""
-    return [*buffer_cases(), *list_cases(), *wrong_cases(), *order_cases(), *drawn_cases(), *basin_cases(), *drawn_basin_cases(),
-            *pair_cases(), *wrong_pair_cases(), *drawn_pair_cases(), *two_wrong_cases(), *more_basin_cases(), *draft_cases()]
-
-
-def stored(cases):
-    """What the file stdout says of each case: the answer, three buffers, and the answer without them."""
-    lines = iter((HERE / 'stdout').read_text().splitlines(keepends=True))
-    return [''.join(itertools.islice(lines, 2 + len(each.buffers))) for each in cases]
-
-
 def main():
     """Write both files, and say how many cases there are."""
-    cases = all_cases()
+    cases = [*buffer_cases(), *list_cases(), *wrong_cases(), *order_cases(), *drawn_cases(), *basin_cases(), *drawn_basin_cases(),
+             *pair_cases(), *wrong_pair_cases(), *drawn_pair_cases(), *two_wrong_cases(), *more_basin_cases()]
     lines = [str(len(cases)), *(' '.join(map(str, case.row())) for case in cases)]
     text = '\n'.join(lines) + '\n'
     assert len(text) <= MOST_BYTES, len(text)

@@ -1,12 +1,35 @@
-"""Writes the cases of the program `run_logs` and what the model says of them, by ours and by the draft's profile (Wish 11).
+"""Writes the cases of the program `run_logs` and what the model says of them.
 
 usage: python3 -m tests.writes.log_cases        rewrites crates/run_logs/stdin and crates/run_logs/stdout
 """
 
 import itertools
+import pathlib
 
-from tests.model import profile as profiles, soil
-from tests.writes.stored_logs import COUNTS, HERE, MOST, NONE, PROFILE, at, call, count, outcome, plain, said, velocity
+from tests.model import soil
+
+HERE = pathlib.Path(__file__).resolve().parents[2] / 'crates' / 'run_logs'
+COUNTS = ('thicknesses', 'kinds', 'values')
+FIRST = {'thickness': 10, 'kind': 60, 'value': 110}
+LISTED, NONE = 41, 999
+MOST = 2**64 - 1
+CLASS = {soil.HARD: 'hard', soil.NORMAL: 'normal', soil.SOFT: 'soft'}
+NORMAL_SPEED = 2_000
+
+
+def count(name, value):
+    """So many numbers in one of the lists."""
+    return COUNTS.index(name), value
+
+
+def at(name, layer, value):
+    """A layer's thickness, kind or value."""
+    return FIRST[name] + layer - 1, value
+
+
+def plain(layers, speed=NORMAL_SPEED, thickness=None):
+    """So many layers of one thickness, 3,000 cm in all where they divide it, each with the same measured velocity."""
+    return layers, thickness if thickness is not None else soil.THICKNESS_SUM // max(layers, 1), speed
 
 
 def three(*speeds):
@@ -141,46 +164,40 @@ def two_wrong_cases():
     yield from ((plain(5), [at('kind', layer, 5), at('value', 6 - layer, 499)]) for layer in (2, 4))
 
 
-BY_DRAFT = (PROFILE, profiles.DRAFT)
+def said(field, value):
+    """A change as the program writes it."""
+    if field < len(COUNTS):
+        return f'{COUNTS[field]} {value}; '
+    name = next(name for name in ('value', 'kind', 'thickness') if FIRST[name] <= field)
+    return f'{name} {field - FIRST[name] + 1}: {value}; '
 
 
-def by_draft(first, second, last):
-    """Three layers of 10 m with measured velocities, by the draft."""
-    return plain(3, last), [at('value', 1, first), at('value', 2, second), BY_DRAFT]
+def lists(log, changes):
+    """Thicknesses, kinds and values of a plain log so changed."""
+    layers, thickness, speed = log
+    numbers = {place: layers for place in range(len(COUNTS))}
+    for name, value in (('thickness', thickness), ('kind', soil.MEASURED), ('value', speed)):
+        numbers |= {FIRST[name] + i: value for i in range(LISTED)}
+    numbers |= dict(changes)
+    counted = zip(FIRST.values(), (min(numbers[place], LISTED) for place in range(len(COUNTS))))
+    return [[numbers[first + i] for i in range(length)] for first, length in counted]
 
 
-def by_draft_cases():
-    """By the draft: 180, 270 and 360 m/s and one unit to either side, in one layer and in 40; three layers at and about 360 and 180 m/s; kinds 2 to 4."""
-    for layers, speeds in ((1, (1_799, 1_800, 2_699, 2_700, 2_701, 3_599, 3_600, 3_601, 30_000)), (40, (1_799, 1_800, 2_701, 3_600, 3_601))):
-        yield from ((plain(layers, speed), [BY_DRAFT]) for speed in speeds)
-    yield from ((plain(1, speed), []) for speed in (3_599, 3_600, 3_601))
-    yield from ((plain(1, speed), [(PROFILE, profiles.OURS)]) for speed in (2_700, 2_701))
-    yield by_draft(2_860, 3_900, 4_400)         # exactly 360 m/s
-    yield by_draft(2_220, 2_920, 24_742)        # U = 83,333,333 ns, the most that is hard
-    yield by_draft(1_530, 7_050, 26_389)        # U = 83,333,334 ns, though the average is above 360 m/s
-    yield by_draft(2_000, 2_000, 9_000)         # exactly 270 m/s
-    yield by_draft(800, 4_000, 6_000)           # exactly 180 m/s
-    yield by_draft(710, 7_470, 8_042)           # L = 166,666,667 ns, the least that is soft
-    yield by_draft(700, 5_030, 25_453)          # L = 166,666,666 ns, though the average is below 180 m/s
-    yield from ((plain(5, 5_000), [at('kind', 3, kind), at('value', 3, value), BY_DRAFT]) for kind, value in ((2, 25), (3, 50), (4, 400)))
+def outcome(thicknesses, kinds, values):
+    """What the model says of a log."""
+    answer = soil.log(thicknesses, kinds, values)
+    return CLASS[answer.cls] if isinstance(answer, soil.Log) else 'refused {} at {}'.format(*answer[1:])
 
 
-def profile_cases():
-    """By the draft; profiles that there are none of, alone and with each other refusal: 2 comes before 27, 13, 14 and 15 after it; the draft's with each."""
-    yield from by_draft_cases()
-    yield from ((plain(5), [(PROFILE, value)]) for value in (0, 3, 4, 2**16 + 1, 2**32 + 2, 2**63 + 1, MOST))
-    whole = at('thickness', 41, 80)
-    wrong = [(plain(5), [count(name, 4)]) for name in COUNTS] + [(plain(0), []), (plain(41), [whole]), (FIVE_OF_750, [at('thickness', 2, 0)])]
-    wrong += [(plain(5), [change]) for change in (at('thickness', 3, 599), at('thickness', 3, 601), at('kind', 4, 0), at('value', 4, 499))]
-    for profile in (0, 3):
-        yield from ((log, [*changes, (PROFILE, profile)]) for log, changes in wrong)
-    yield from ((log, [*changes, BY_DRAFT]) for log, changes in wrong[3:])
+def velocity(kind, value):
+    """What the model says of the velocity of N or q."""
+    return soil.velocity(kind, value) if value in soil.VALUE[kind] else 'refused 15 at 1'
 
 
 def all_cases():
     """Every log: a plain one and its changes."""
     return [*class_cases(), *count_cases(), *thickness_cases(), *layer_cases(), *pair_cases(), *unknown_kind_cases(), *soft_clay_cases(),
-            *place_cases(), *two_wrong_cases(), *profile_cases()]
+            *place_cases(), *two_wrong_cases()]
 
 
 def values():
@@ -193,7 +210,7 @@ def main():
     """Write both files."""
     cases = all_cases()
     lines = ['{} of {} cm at {} dm/s; '.format(*log) + ''.join(said(*change) for change in changes)
-             + outcome(*call(log, changes)) for log, changes in cases]
+             + outcome(*lists(log, changes)) for log, changes in cases]
     lines += [f'kind {kind}, {"q" if kind == soil.SOFT_CLAY else "N"} {value}: {velocity(kind, value)}' for kind, value in values()]
     (HERE / 'stdout').write_text(''.join(line + '\n' for line in lines))
     rows = [[len(cases)], *((*log, *itertools.chain(*(changes + 3 * [(NONE, 0)])[:3])) for log, changes in cases)]

@@ -15,8 +15,6 @@ CLOSEST = (([1000] * 3, [1] * 3, [1190, 7340, 7433]), ([1000] * 3, [1] * 3, [700
 # a boring in soft clay, and the same with N = 2 made up for its clay
 BORING = ([300, 500, 400, 800, 1000], [3, 4, 4, 2, 3], [8, 25, 40, 12, 35])
 MADE_UP = ([300, 500, 400, 800, 1000], [3, 2, 2, 2, 3], [8, 2, 2, 12, 35])
-# a boring between 270 and 360 m/s, that of examples/draft.c
-SCHOOL = ([500, 1000, 1500], [3, 3, 1], [20, 45, 3900])
 SHOWN = (1, 2, 5, 10, 25, 40, 50, 100, 200, 308, 309, 400)
 
 
@@ -27,25 +25,22 @@ def average(log):
                                                  for d, kind, value in zip(thicknesses, kinds, values))
 
 
-def layers_table(log):
-    """The layers of a log with their velocities and times."""
+def near(log):
+    """A log as a table, and how it is classed."""
     answer, rows = soil.log(*log), []
     for place, (thickness, kind, value) in enumerate(zip(*log)):
         v = answer.velocities[place]
         shown = f'{comma(value)} dm/s' if kind == soil.MEASURED else f'{"q" if kind == soil.SOFT_CLAY else "N"} = {value}'
-        rows.append((comma(thickness), f'{kind} {KINDS[kind]}', shown, comma(v), decimal(soil.time(thickness, v), 2)))
-    return table(('thickness, cm', 'kind', 'value', 'v, dm/s', 'time, ns'), rows)
-
-
-def near(log):
-    """A log as a table, and how it is classed by ours."""
-    answer = soil.log(*log)
+        time = soil.time(thickness, v)
+        rows.append((comma(thickness), f'{kind} {KINDS[kind]}', shown, comma(v), decimal(time, 2)))
+    head = ('thickness, cm', 'kind', 'value', 'v, dm/s', 'time, ns')
+    name = CLASS_NAMES[answer.cls]
     hard, soft = ('<' if 27 * answer.U < 3 * 10**9 else 'is not <'), ('>' if 18 * answer.L > 3 * 10**9 else 'is not >')
     lines = [f'U = {comma(answer.U)} ns, L = {comma(answer.L)} ns',
              f'27 · U = {comma(27 * answer.U)} {hard} 3,000,000,000',
              f'18 · L = {comma(18 * answer.L)} {soft} 3,000,000,000',
-             f'class {answer.cls}, {CLASS_NAMES[answer.cls]}; the average is {decimal(average(log), 3)} m/s']
-    return layers_table(log) + '\n\n' + code(lines)
+             f'class {answer.cls}, {name}; the average is {decimal(average(log), 3)} m/s']
+    return table(head, rows) + '\n\n' + code(lines)
 
 
 def names():
@@ -61,7 +56,7 @@ def names():
             'tenth_second': comma(3 * 10**9 // 27), 'layers': str(soil.LAYERS[-1]), 'depth': comma(soil.THICKNESS_SUM),
             'measured': ranged(soil.VALUE[soil.MEASURED]), 'cohesive': ranged(soil.VALUE[soil.COHESIVE]),
             'cohesionless': ranged(soil.VALUE[soil.COHESIONLESS]), 'cohesive_least': str(soil.VALUE[soil.COHESIVE][0]),
-            'soft_clay': ranged(soil.VALUE[soil.SOFT_CLAY]), 'between': decimal(average(SCHOOL), 1)}
+            'soft_clay': ranged(soil.VALUE[soil.SOFT_CLAY])}
 
 
 def unrounded(number, power):

@@ -11,9 +11,9 @@ import string
 from fractions import Fraction
 from math import ceil
 
-from tests.model import exact, limits, profile as profiles, response, storeys
+from tests.model import exact, limits, response, storeys
 from tests.model.sheet import listing
-from tests.writes import calls, district_page, draft_page, drift_page, finer, logs, moves, near_fault, roof, root, towers
+from tests.writes import calls, district_page, drift_page, finer, logs, moves, near_fault, roof, root, towers
 from tests.writes.by_hand import one_sheet
 from tests.writes.by_hand.text import code, comma, decimal, ranged, table
 from tests.writes.by_hand.worked import read
@@ -61,15 +61,12 @@ def rounding_names():
 
 
 def heaviest():
-    """Six ten-millionths of I*W/(1.4*alpha-y) for the heaviest building, and the largest V_D by ours and by the draft: 0.7, or 0.75, times the largest
-    spectrum of it, 1.5 g, or 1.65 g, at a factor of 1."""
+    """Six ten-millionths of I*W/(1.4*alpha-y) for the heaviest building, and the largest V_D: 0.7 times the largest spectrum, 1.5 g, of
+    it at a factor of 1."""
     W, I, alphay = limits.LEVELS[-1] * limits.WEIGHT[-1], limits.I_VALUES[-1], limits.ALPHA_Y[0]
-    unit, S_S = Fraction(I * W * 1000 * 10, 14 * alphay), Fraction(limits.S_S_MCE[-1] * limits.N_A[-1], 10**4)
-    most = {}
-    for name, profile in (('most_V_D', profiles.OURS), ('most_draft', profiles.DRAFT)):
-        own = profiles.of(profile)
-        most[name] = comma(ceil(own.lines.beyond * max(own.F_A[cls][-1] for cls in limits.CLASS) * S_S / 10**4 * unit))
-    return {'heaviest': decimal(6 * unit / response.UNIT), **most}
+    unit = Fraction(I * W * 1000 * 10, 14 * alphay)
+    most = Fraction(7, 10) * Fraction(limits.S_S_MCE[-1] * limits.N_A[-1], 10**4) * unit
+    return {'heaviest': decimal(6 * unit / response.UNIT), 'most_V_D': comma(int(most))}
 
 
 def alone(worked):
@@ -121,7 +118,7 @@ def written():
              'soft_clay.md': logs.soft_clay_names(), 'root.md': root.names(), 'towers.md': towers.names(example('office')),
              'moves.md': moves.names(example('office'), example('near_fault')),
              'shear_and_storeys.md': calls_names(), 'finer_spectrum.md': finer_names(), 'district.md': district_page.names(),
-             'drift.md': drift_page.names(example('office')), 'draft.md': draft_page.names(example)}
+             'drift.md': drift_page.names(example('office'))}
     assert {path.name for path in PAGES.iterdir()} == pages.keys()
     return {page: filled(page, names) for page, names in pages.items()}
 

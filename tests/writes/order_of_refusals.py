@@ -6,7 +6,7 @@ from tests.writes.by_hand.text import comma, table
 
 # what each refusal of the calls, and of a job, judges
 LEVELS = {1: 'number of levels', 2: 'lengths', 3: 'weights', 4: 'heights'}
-GROUND_AND_FRAME = {27: 'profile', 5: 'site', 6: 'site', 7: 'site', 18: 'zone', **dict.fromkeys(range(8, 13), 'frame')}
+GROUND_AND_FRAME = {5: 'site', 6: 'site', 7: 'site', 18: 'zone', **dict.fromkeys(range(8, 13), 'frame')}
 BUILDING, HANDED_IN = {3: 'total weight', 4: 'top height'}, {19: 'base shear', 20: 'period'}
 
 
@@ -24,7 +24,7 @@ def order(found, judged):
 
 def refusal_names(office):
     """The order of refusals of each call, with everything wrong; and a job beside the two calls."""
-    site, basin, frame = limits.Site(*[0] * len(limits.Site._fields)), limits.Basin(0), limits.Frame(0, 60_001, 0, 0, 0)
+    site, basin, frame = limits.Site(*[0] * 9), limits.Basin(0), limits.Frame(0, 60_001, 0, 0, 0)
     levels = [0] * 51, [0] * 50, ()
     of_calls = {name: list(limits.shear_call_refusals(ground, frame, 0, 0)) for name, ground in (('site', site), ('basin', basin))}
     of_jobs = {name: list(limits.refusals(ground, frame, *levels)) for name, ground in (('site', site), ('basin', basin))}

@@ -1,5 +1,5 @@
 """The sheets with a pair of near-fault factors for each level among those of the program `run_sheets`, and line 1 with other counts of
-numbers; by eight and by ten the last one is a profile, and the sheets that are about it stand in tests/writes/draft_sheets.py."""
+numbers."""
 
 import random
 
@@ -17,7 +17,6 @@ LINES = sheet.write(NEAR, FRAME, *LEVELS).splitlines(keepends=True)
 SITE, FRAME_LINE, LEVEL = LINES[:3]
 REST = b''.join(LINES[1:])
 NUMBERS = SITE[:-1].split(b'\t')[1:]
-NAMES = limits.Site._fields[:len(NUMBERS)]      # without the profile
 
 
 def line_of(numbers, word=b'site'):
@@ -47,8 +46,8 @@ def counts():
     by_seven = (*MAPPED, *FIRST, CLASS)
     for value in (0, 1, 2, 3, 100):
         yield f'eight_with_{value}', line_of((*by_seven, value)) + REST
-        yield f'ten_with_{value}', line_of((*NUMBERS, value)) + REST
-    yield 'eight_no_class', line_of(NUMBERS[:-1]) + REST
+        yield f'ten_with_{value}', line_of((*NEAR, value)) + REST
+    yield 'eight_no_class', line_of(NEAR[:-1]) + REST
     yield 'eight_three_factors', line_of((*MAPPED, *FIRST, 110, CLASS)) + REST
     yield 'eight_bad_factor', line_of((*MAPPED, 99, 99, CLASS, 1)) + REST
     yield 'ten_bad_factor', line_of((*MAPPED, *FIRST, 99, 99, CLASS, 1)) + REST
@@ -56,16 +55,16 @@ def counts():
 
 def out_of_range():
     """Each of the nine numbers at 0 and with nine digits; both sides of each factor; two factors at once; seven numbers with a bad pair."""
-    for place, name in enumerate(NAMES):
+    for place, name in enumerate(limits.Site._fields):
         yield f'{name}_0', put(place, b'0') + REST
         yield f'{name}_nine_digits', put(place, b'999999999') + REST
     for name, allowed in limits.FACTORS.items():
-        place = NAMES.index(name)
+        place = limits.Site._fields.index(name)
         yield from ((f'{name}_{value}', put(place, value) + REST) for value in (allowed[0] - 1, allowed[0], allowed[-1], allowed[-1] + 1))
     bad = {f'{one}_and_{other}': {one: 99, other: 201} for one in limits.FACTORS for other in limits.FACTORS if one < other}
     bad |= {'SSM_and_NAM': {'SSM': 60, 'NAM': 99}, 'NVM_and_class': {'NVM': 99, 'cls': 4}, 'NA_160_NV_160': {'NA': 160, 'NV': 160},
             'NAM_160_NVM_160': {'NAM': 160, 'NVM': 160}, 'every_factor': dict.fromkeys(limits.FACTORS, 99)}
-    yield from ((f'bad_{name}', line_of(NEAR._replace(**changes)[:len(NAMES)]) + REST) for name, changes in bad.items())
+    yield from ((f'bad_{name}', line_of(NEAR._replace(**changes)) + REST) for name, changes in bad.items())
     for name, pair in (('NA', (99, 100)), ('NV', (100, 99)), ('NA_151', (151, 100)), ('NV_201', (100, 201)), ('both', (99, 99)),
                        ('160', (160, 160))):
         yield f'by_seven_bad_{name}', line_of((*MAPPED, *pair, CLASS)) + REST

@@ -4,10 +4,36 @@ usage: python3 -m tests.writes.refusal_cases        rewrites crates/run_refusals
 """
 
 import itertools
+import pathlib
 
-from tests.model import limits, profile as profiles
-from tests.writes.stored_refusals import (BASIN, FACTOR_RANGES, FIELD, FIELDS, FRAME_RANGES, GOOD, HEIGHTS, HERE, LOW_BITS, MAPPED, MOST, NONE, PAIR_RANGES,
-                                          SITE_RANGES, WEIGHTS, both_sides, levels, outcome, said)
+from tests.model import limits
+
+HERE = pathlib.Path(__file__).resolve().parents[2] / 'crates' / 'run_refusals'
+MAPPED = ('S_S D', 'S_1 D', 'S_S M', 'S_1 M')
+SITE = (*MAPPED, 'N_A', 'N_V', 'N_A M', 'N_V M', 'class')
+FRAME = ('kind', 'period', 'R', 'I', 'alpha-y')
+NAMES = (*SITE, *FRAME, 'weights', 'heights', 'room', 'ground', 'zone')
+FIELD = {name: place for place, name in enumerate(NAMES)}
+WEIGHTS, HEIGHTS, LISTED, FIELDS, NONE = 20, 80, 51, 140, 999
+MOST = 2**64 - 1
+SITE_GROUND, BASIN_GROUND = 0, 1
+GOOD = {**dict(enumerate((80, 45, 100, 55, 100, 100, 100, 100, 1, 2, 1000, 480, 100, 150, 5, 5, 5, SITE_GROUND, 1))),
+        **{WEIGHTS + i: 5000 for i in range(LISTED)}, **{HEIGHTS + i: 38 * (i + 1) for i in range(LISTED)}}
+
+
+def both_sides(allowed):
+    """Each end of each run of allowed numbers, and the number beyond it."""
+    among = set(allowed)
+    values = {value + step for value in allowed for step in (-1, 0, 1)}
+    near = {value: {value - 1, value, value + 1} for value in values}
+    ends = {value for value in values if not near[value] <= among and not near[value].isdisjoint(among)}
+    return sorted(value for value in ends if value >= 0) + [MOST]
+
+
+SITE_RANGES = {**dict(zip(MAPPED, (limits.S_S_DESIGN, limits.S_1_DESIGN, limits.S_S_MCE, limits.S_1_MCE))),
+               'N_A': limits.N_A, 'N_V': limits.N_V, 'class': limits.CLASS}
+PAIR_RANGES = {'N_A M': limits.N_A, 'N_V M': limits.N_V}
+FRAME_RANGES = dict(zip(FRAME, (limits.KIND, limits.CALCULATED_PERIOD, limits.R_RANGE, limits.I_VALUES, limits.ALPHA_Y)))
 
 
 def number_cases():
@@ -15,6 +41,11 @@ def number_cases():
     for name, allowed in {**SITE_RANGES, **FRAME_RANGES}.items():
         yield from ([(FIELD[name], value)] for value in both_sides(allowed))
     yield from ([(FIELD['period'], value)] for value in (1, 2))
+
+
+def levels(count):
+    """So many weights and heights, and room for them."""
+    return [(FIELD['weights'], count), (FIELD['heights'], count), (FIELD['room'], count)]
 
 
 def level_cases():
@@ -51,6 +82,7 @@ def pair_cases():
     yield [(FIELD['N_A'], 99), (FIELD['N_V'], 99)]
 
 
+BASIN = (FIELD['ground'], BASIN_GROUND)
 WRONG_ZONE = (FIELD['zone'], 5)
 
 
@@ -68,6 +100,10 @@ def basin_cases():
     wrong = {number: change for number, change in WRONG.items() if number not in (5, 6, 7)} | {18: WRONG_ZONE}
     yield from ([BASIN, wrong[first], wrong[second]] for first in wrong for second in wrong if first != second)
     yield from ([BASIN, WRONG_ZONE, WRONG[number]] for number in (5, 6, 7))
+
+
+FACTOR_RANGES = {'N_A': limits.N_A, 'N_V': limits.N_V, **PAIR_RANGES}
+LOW_BITS = (2**16, 2**32, 2**63)
 
 
 def two_pair_cases():
@@ -128,31 +164,33 @@ def more_level_cases():
     yield from ([BASIN, (base + 1, 0), (base + 3, 0)] for base in (WEIGHTS, HEIGHTS))
 
 
-PROFILE, BY_DRAFT = FIELD['profile'], (FIELD['profile'], profiles.DRAFT)
-WRONG_PROFILES = (0, 3)
-# with each of these 27 is wrong and nothing else: those that come before it, those that come after it
-BEFORE = [NO_LEVEL, levels(51), [WRONG[2]], *UNEQUAL, [WRONG[3]], [WRONG[4]]]
-AFTER = [[wrong] for wrong in ON_SITE[2:]]
+def said(field, value):
+    """A change as the program writes it."""
+    if field < len(NAMES):
+        return f'{NAMES[field]:8}{value}; '
+    name, first = ('weight', WEIGHTS) if field < HEIGHTS else ('height', HEIGHTS)
+    return f'{name:8}{field - first + 1}: {value}; '
 
 
-def profile_cases():
-    """The profile: both sides of its limits, numbers whose low bits are allowed; wrong ones with every other refusal, which comes before 27 or after it,
-    and with several; in the Basin they play no part. The job by the draft with every other refusal, and with numbers at their ends."""
-    yield from ([(PROFILE, value)] for value in (*both_sides(limits.PROFILE), 4, *(step + each for step in LOW_BITS for each in limits.PROFILE)))
-    for value in WRONG_PROFILES:
-        yield from ([*changes, (PROFILE, value)] for changes in (*BEFORE, *AFTER))
-        yield from ([(PROFILE, value), WRONG[5], WRONG[6], WRONG[7]], [(PROFILE, value), *FRAME_WRONG[:3]], [WRONG[3], WRONG[4], (PROFILE, value), WRONG[5]])
-        yield [BASIN, (PROFILE, value)]
-        yield from ([BASIN, (PROFILE, value), wrong] for wrong in (WRONG_ZONE, WRONG[8], WRONG[4]))
-    yield from ([BY_DRAFT, *changes] for changes in (*BEFORE, *AFTER))
-    yield from ([BY_DRAFT, (FIELD[name], value)] for name, allowed in (SITE_RANGES | PAIR_RANGES).items() for value in (allowed[0], allowed[-1]))
-    yield [BASIN, BY_DRAFT]
+def inputs(job):
+    """Ground, frame, weights, heights and lengths of buffers of a job by its fields."""
+    weights, heights = ([job[first + i] for i in range(min(job[FIELD[name]], LISTED))]
+                        for name, first in (('weights', WEIGHTS), ('heights', HEIGHTS)))
+    site, frame = (tuple(job[FIELD[name]] for name in names) for names in (SITE, FRAME))
+    ground = limits.Basin(job[FIELD['zone']]) if job[FIELD['ground']] == BASIN_GROUND else site
+    return ground, frame, weights, heights, (job[FIELD['room']],)
+
+
+def outcome(changes):
+    """What the model says of the good job so changed."""
+    refusal = limits.judge(*inputs({**GOOD, **dict(changes)}))
+    return 'taken' if refusal is None else 'refused {} at {}'.format(*refusal)
 
 
 def all_cases():
     """Every list of changes to the good job."""
     return [*number_cases(), *level_cases(), *pair_cases(), *basin_cases(), *two_pair_cases(), *list_pair_cases(), *place_pair_cases(),
-            *more_level_cases(), *profile_cases()]
+            *more_level_cases()]
 
 
 def main():

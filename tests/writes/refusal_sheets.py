@@ -1,24 +1,24 @@
-"""The sheets that have one or two refusals and no other among those of the program `run_sheets`, on a site by nine numbers, by ten where its profile is
-changed, and in the Basin; and both sides of every limit."""
+"""The sheets that have one or two refusals and no other among those of the program `run_sheets`, on a site by nine numbers and in the Basin;
+and both sides of every limit."""
 
 import itertools
 
 from tests.model import limits, sheet
-from tests.writes.stored_refusals import both_sides
+from tests.writes.refusal_cases import both_sides
 
 SITE, BASIN = limits.Site(80, 45, 100, 55, 120, 150, 110, 130, 1), limits.Basin(3)
 FRAME = limits.Frame(2, 1000, 480, 100, 150)
 PLAIN = {'count': 3, 'level': 2, 'weight': None, 'height': None, 'after': b''}
 LAID_OUT = 300          # so many level lines are more than 4,096 bytes
 RANGES = dict(zip(limits.Site._fields, (limits.S_S_DESIGN, limits.S_1_DESIGN, limits.S_S_MCE, limits.S_1_MCE, *limits.FACTORS.values(),
-                                        limits.CLASS, limits.PROFILE)))
+                                        limits.CLASS)))
 FRAME_RANGES = dict(zip(limits.Frame._fields, (limits.KIND, limits.CALCULATED_PERIOD, limits.R_RANGE, limits.I_VALUES, limits.ALPHA_Y)))
 
 # what is refused with each number, by what is changed; 5 and 6 at each of their places
 LONG, LONG_LINE = {'count': LAID_OUT}, {'after': b'x' * sheet.MOST_BYTES + b'\n'}
 LISTED = {'16': {'after': b'level\t1\n'}, 'no_level': {'count': 0}, '51_levels': {'count': 51}}
 LEVEL = {'3': {'weight': 0}, '4': {'height': 0}}
-ON_SITE = {'27': {'profile': 3}, '5_at_1': {'SSD': 49}, '5_at_2': {'S1D': 46}, '5_at_3': {'SSM': 60}, '5_at_4': {'S1M': 41}, '6_at_1': {'NA': 151}, '6_at_2': {'NV': 99},
+ON_SITE = {'5_at_1': {'SSD': 49}, '5_at_2': {'S1D': 46}, '5_at_3': {'SSM': 60}, '5_at_4': {'S1M': 41}, '6_at_1': {'NA': 151}, '6_at_2': {'NV': 99},
            '6_at_3': {'NAM': 99}, '6_at_4': {'NVM': 201}, '7': {'cls': 4}}
 IN_BASIN = {'18': {'zone': 5}}
 OF_FRAME = {'8': {'R': 99}, '9': {'I': 110}, '10': {'alphay': 201}, '11': {'kind': 0}, '12': {'calculated_period': 60_001}}
@@ -34,7 +34,7 @@ def written(ground, changes):
         if value is not None:
             listed[numbers['level'] - 1] = value
     ground, frame = (type(part)(*(numbers[name] for name in part._fields)) for part in (ground, FRAME))
-    return sheet.write(ground, frame, weights, heights, in_full=True, with_profile='profile' in changes) + numbers['after']
+    return sheet.write(ground, frame, weights, heights, in_full=True) + numbers['after']
 
 
 def two_refusals(ground, judged):

@@ -1,5 +1,4 @@
-"""Stored shear calls: both sides of limits, pairs of refusals; towers (Wish 8); which way the figures move (Wish 14). Those by the draft:
-tests/writes/draft_shear_cases.py."""
+"""Stored shear calls: both sides of limits, pairs of refusals; towers (Wish 8); which way the figures move (Wish 14)."""
 
 import itertools
 
@@ -65,7 +64,7 @@ def shear_pairs():
     for number, wrong in WRONG.items():
         if number not in (5, 6, 7):
             yield from (twice_wrong(basin, wrong, WRONG_ZONE), twice_wrong(basin, WRONG_ZONE, wrong))
-    yield from (twice_wrong(basin, WRONG[3], WRONG[4]), Shear((0,) * LINE, (0,) * 5, 0, 0), Shear((LARGEST,) * (LINE - 1), (LARGEST,) * 5, 1, 1))
+    yield from (twice_wrong(basin, WRONG[3], WRONG[4]), Shear((0,) * LINE, (0,) * 5, 0, 0), Shear((LARGEST,) * LINE, (LARGEST,) * 5, 1, 1))
 
 
 # the same of every mapped value and every near-fault factor, by number and place

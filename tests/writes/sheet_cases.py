@@ -3,7 +3,6 @@
 usage: python3 -m tests.writes.sheet_cases        rewrites crates/run_sheets/data and crates/run_sheets/stdout
 """
 
-import itertools
 import pathlib
 import random
 import shutil
@@ -11,7 +10,6 @@ import shutil
 from tests.draws.sample import all_strata, draw_in
 from tests.model import sheet
 from tests.writes.basin_sheets import basin_sheets
-from tests.writes.draft_sheets import draft_sheets
 from tests.writes.pair_sheets import pair_sheets
 from tests.writes.refusal_sheets import refusal_sheets
 from tests.writes.roof_sheets import roof_sheets
@@ -137,20 +135,10 @@ def random_bytes():
         yield f'of_its_own_bytes_{number}', bytes(rng.choice(WORKED) for _ in range(rng.choice((10, 100, 1_000))))
 
 
-def stored():
-    """The bytes of each stored sheet, and the listing that stands behind its name in stdout."""
-    names, rest = (HERE / 'data' / 'names').read_text().splitlines(), (HERE / 'stdout').read_bytes()
-    for name, after in itertools.zip_longest(names, names[1:]):
-        assert rest.startswith(name.encode() + b'\n')
-        listing, found, rest = rest[len(name) + 1:].partition(f'\n{after}\n'.encode()) if after else (rest[len(name) + 1:], b'', b'')
-        yield (HERE / 'data' / name).read_bytes(), listing + found[:1]
-        rest = found[1:] + rest
-
-
 def main():
     """Write the sheets, their names and their listings."""
     cases = [('worked', WORKED), *drawn(), *counted(), *laid_out_otherwise(), *long_sheets(), *damaged(), *random_bytes(), *basin_sheets(),
-             *pair_sheets(), *roof_sheets(), *refusal_sheets(), *draft_sheets()]
+             *pair_sheets(), *roof_sheets(), *refusal_sheets()]
     assert len({name for name, _ in cases}) == len(cases)
     shutil.rmtree(HERE / 'data', ignore_errors=True)
     (HERE / 'data').mkdir()

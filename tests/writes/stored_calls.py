@@ -4,7 +4,7 @@ from typing import NamedTuple
 
 from tests.model import calls, limits
 
-LISTED, MOST_BYTES = 60, 65_536
+LISTED, MOST_BYTES = 60, 65_000
 LINE, SITE_GROUND, BASIN_GROUND, DISTRIBUTION = len(limits.Site._fields), 0, 1, 2
 OLD, SEED, LARGEST, FEW = (7, 8, 9), 6, 2**64 - 1, 6
 DRAWN = 25              # calls of each kind from all that is allowed
@@ -25,7 +25,7 @@ class Shear(NamedTuple):
     height: int
 
     def row(self):
-        """The numbers that the program reads: of the Basin the zone stands first of the ten of a site."""
+        """The numbers that the program reads: of the Basin the zone stands first of the nine of a site."""
         ground = limits.ground_of(self.ground)
         kind = BASIN_GROUND if isinstance(ground, limits.Basin) else SITE_GROUND
         return [kind, *ground, *[0] * (LINE - len(ground)), *self.frame, self.weight, self.height]

@@ -7,7 +7,7 @@ from tests.model import district, limits
 from tests.model.district import DistrictJob
 from tests.writes.stored_calls import NEAR, SITE, tabbed
 
-MOST_LISTED, MOST_LEVELS, MOST_BYTES = 260, 120, 65_536      # jobs and rows, levels of the store, bytes of all cases
+MOST_LISTED, MOST_LEVELS, MOST_BYTES = 260, 120, 60_000      # jobs and rows, levels of the store, bytes of all cases
 OLD, LARGEST = 7, 2**64 - 1
 FRAME, NO_SITE = limits.Frame(2, 1000, 480, 100, 150), limits.Site(*[0] * len(limits.Site._fields))
 THREE = [5_000] * 3, [100, 200, 300]

@@ -1,10 +1,9 @@
 """Writes the jobs that the definitions are put through: crates/vectors/specs/Rows.antt, from a seed.
 
-usage: python3 -m tests.writes.vectors [SEED [COUNT [BASIN [PAIRS [DRAFT]]]]] > crates/vectors/specs/Rows.antt
+usage: python3 -m tests.writes.vectors [SEED [COUNT [BASIN [PAIRS]]]] > crates/vectors/specs/Rows.antt
 
 COUNT jobs are on sites with one pair of near-fault factors for both levels, BASIN in the Basin, PAIRS on sites with a pair for each level. At each
-end of the rule of the roof force there is one more of each kind of ground. The last DRAFT are by the draft's profile, with one pair or with two: of them
-V* is 0, and the stages that it would be made of are the draft's all the same.
+end of the rule of the roof force there is one more of each kind of ground.
 """
 
 import random
@@ -12,36 +11,34 @@ import sys
 from fractions import Fraction
 
 from tests.draws.basin import accepted_basin_jobs
-from tests.draws.draft import accepted_vector_jobs, vector_strata
 from tests.draws.pairs import accepted_pair_jobs, plain_strata
 from tests.draws.plain_jobs import draw_basin, draw_pairs, draw_site
 from tests.draws.roof import ENDS, accepted_roof_jobs
 from tests.draws.sample import accepted_jobs
 from tests.draws.strata import about_levels
-from tests.model import exact, limits, profile as profiles
+from tests.model import exact, limits
 from tests.model.job import job
 from tests.model.response import UNIT
 from tests.model.sheet import first_line
 
-SEED, COUNT, BASIN, PAIRS, DRAFT = 2005, 520, 100, len(plain_strata()), len(vector_strata())     # with two pairs and by the draft a job of each stratum
+SEED, COUNT, BASIN, PAIRS = 2005, 520, 100, len(plain_strata())     # with two pairs a job of each stratum
 MILLIONTHS, EACH = 10**6, 10    # the unit of every so many rows: the definitions hold at either
 FEW_LEVELS = 4
 KINDS_OF_GROUND = (draw_site, draw_basin, draw_pairs)
 CLASSES = {1: 'Hard', 2: 'Normal', 3: 'Soft'}
-MAKERS = {profiles.OURS: 'siteOf', profiles.DRAFT: 'draftOf'}
 ZONES = {1: 'One', 2: 'Two', 3: 'Three', 4: 'Four'}
 KINDS = {1: 'Steel', 2: 'Concrete', 3: 'Braced', 4: 'Other'}
 
-HEAD = """-- {count} jobs on sites, {basin} in the Basin, {pairs} on sites with two pairs of near-fault factors, {roof} at the ends of the rule of
--- the roof force and {draft} by the draft, with what the model of tests/ makes of them: data.
--- `python3 -m tests.writes.vectors {seed} {count} {basin} {pairs} {draft}` writes it. A line a row: the unit; the site or the zone; the frame; weights;
--- heights; three fractions for the roots; the printed stages; the exact figures.
+HEAD = """-- {count} jobs on sites, {basin} in the Basin, {pairs} on sites with two pairs of near-fault factors and {roof} at the ends of the rule of
+-- the roof force, with what the model of tests/ makes of them: data. `python3 -m tests.writes.vectors {seed} {count} {basin} {pairs}` writes
+-- it. A line a row: the unit; the site or the zone; the frame; weights; heights; three fractions for the roots; the printed stages; the exact
+-- figures.
 use mathlib.Core.List.{{List, [], _∷_}}
 use Rattle·whole.specs.Fraction.{{over}}
 use Rattle·limits.specs.declared.class.Class.the-variants.{{Hard, Normal, Soft}}
 use Rattle·limits.specs.declared.kind.Kind.the-variants.{{Steel, Concrete, Braced, Other}}
 use Rattle·limits.specs.declared.zone.Zone.the-variants.{{One, Two, Three, Four}}
-use Rattle·vectors·specs.specs.Vector.{{Vector, vector, basinVector, siteOf, siteOfPairs, draftOf, draftOfPairs, frameOf, rootsOf}}
+use Rattle·vectors·specs.specs.Vector.{{Vector, vector, basinVector, siteOf, siteOfPairs, frameOf, rootsOf}}
 
 unfoldable pub rows : List Vector
 rows ="""
@@ -88,8 +85,8 @@ def maker(s, ground):
     """How a row begins: what makes the vector, its unit, and the site or the zone."""
     if isinstance(ground, limits.Basin):
         return f'basinVector {s} {ZONES[ground.zone]}'
-    _, *numbers, cls = first_line(ground._replace(profile=profiles.OURS))
-    name = MAKERS[ground.profile] + ('Pairs' if limits.of_two_pairs(ground) else '')
+    _, *numbers, cls = first_line(ground)
+    name = 'siteOfPairs' if limits.of_two_pairs(ground) else 'siteOf'
     return f'vector {s} ({name} {" ".join(map(str, numbers))} {CLASSES[cls]})'
 
 
@@ -103,15 +100,13 @@ def worked(seed, jobs):
         yield result, [some_root(rng, each.lower_root, each.upper_root, s) for each in (result.design, result.mce, result.star)]
 
 
-def all_worked(seed=SEED, count=COUNT, basin=BASIN, pairs=PAIRS, draft=DRAFT):
-    """Those on sites, those in the Basin, those with two pairs; of each kind of ground those at the ends of the rule of the roof force; those by the
-    draft."""
+def all_worked(seed=SEED, count=COUNT, basin=BASIN, pairs=PAIRS):
+    """Those on sites, those in the Basin, those with two pairs; of each kind of ground those at the ends of the rule of the roof force."""
     yield from worked(seed, accepted_jobs(seed, count))
     yield from worked(seed, accepted_basin_jobs(seed, basin))
     yield from worked(seed, accepted_pair_jobs(seed, pairs))
     for draw_ground in KINDS_OF_GROUND:
         yield from worked(seed, accepted_roof_jobs(seed, draw_ground))
-    yield from worked(seed, accepted_vector_jobs(seed, draft))
 
 
 def row(result, roots):
@@ -128,10 +123,10 @@ def row(result, roots):
     ))
 
 
-def main(seed=SEED, count=COUNT, basin=BASIN, pairs=PAIRS, draft=DRAFT):
+def main(seed=SEED, count=COUNT, basin=BASIN, pairs=PAIRS):
     """Write the file."""
-    print(HEAD.format(seed=seed, count=count, basin=basin, pairs=pairs, draft=draft, roof=len(KINDS_OF_GROUND) * len(ENDS)))
-    for each in all_worked(seed, count, basin, pairs, draft):
+    print(HEAD.format(seed=seed, count=count, basin=basin, pairs=pairs, roof=len(KINDS_OF_GROUND) * len(ENDS)))
+    for each in all_worked(seed, count, basin, pairs):
         print('    ' + row(*each) + ' ∷')
     print('    []')
 

@@ -2,29 +2,22 @@
 -- Assumes nothing.
 use Prim.Native.Nat.{ℕ, ◌≤◌}
 use native.Mathlib.Omega.{arith}
-use Rattle.limits.specs.declared.profile.Profile.TheVariants.{Ours}
 use Rattle.limits.specs.declared.zone.Zone.{Zone}
 use Rattle.site.specs.Basin.{basin_design, basin_mce, basin_hazards}
-use Rattle.site.specs.Lines.{lines}
 use Rattle.site.proofs.Corners.{corner_bounds}
-use Rattle.response.proofs.Bent.{lines_meet}
 use Rattle.base_shear.specs.Ready.{Bounded, Reached}
 use Rattle.base_shear.proofs.Ductilities.{basin_ductile, mce_ductile}
 use Rattle.base_shear.proofs.HazardsReached.{Sized, three_bounded, three_reached}
-use Rattle.base_shear.proofs.Profiles.{shear_most, profile_thousandths, shears_within}
 
 module _ (z : Zone) (R : ℕ) (lo : 100 ≤ R) (hi : R ≤ 600) where
-  design : Sized 15_000_000 (basin_design z R)
+  design : Sized (basin_design z R)
   design = record { a = omega arith; b = omega (arith, corner_bounds z); ductile = basin_ductile R lo hi }
 
-  mce : Sized 15_000_000 (basin_mce z R)
+  mce : Sized (basin_mce z R)
   mce = record { a = omega arith; b = omega (arith, corner_bounds z); ductile = mce_ductile R lo hi }
 
-  pub basin_bounded : Bounded (shear_most Ours) (basin_hazards z R)
-  basin_bounded =
-      three_bounded 15_000_000 (omega arith) lines 35 1 _ _ _ design mce design (shear_most Ours) (shears_within Ours) (omega arith)
+  pub basin_bounded : Bounded 1_125_000_000 (basin_hazards z R)
+  basin_bounded = three_bounded _ _ _ 35 design mce design _ (omega arith) (omega arith)
 
   pub basin_reached : Reached (basin_hazards z R)
-  basin_reached =
-      three_reached 15_000_000 (omega arith) lines 35 1 _ _ _ design mce design (shear_most Ours) (shears_within Ours) (omega arith)
-      (profile_thousandths Ours) lines_meet (omega arith) (omega arith) (omega arith)
+  basin_reached = three_reached _ _ _ 35 design mce design (omega arith) (omega arith)

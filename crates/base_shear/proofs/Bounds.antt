@@ -26,17 +26,13 @@ module _ (s : ℕ) (h : Hazard) (t : ℕ) (u : FineUnit s) (r : Ready s h t) whe
   ratio_within = ratio_most s _ _ (lower_some s h t u r) (lower_least s h t u r)
 
   pub ratio_at_most : ratio_at s h t ≤ 2 * s
-  ratio_at_most = le_trans ratio_within (spectrum_most_lem s h.a h.b t r.shape.b_positive r.shape.a_most_lem)
+  ratio_at_most = le_trans ratio_within (spectrum_most_lem s h.a h.b t r.shape.b_positive r.shape.a_most)
 
   ratio_at_some : 0 < ratio_at s h t
   ratio_at_some =
       ratio_some s _ _ u.positive
       (spectrum_some s h.a h.b t u.positive r.shape.a_positive r.shape.b_positive)
       (lower_some s h t u r)
-
--- W counted at most once
-pub counted_within : (c W : ℕ) → c ≤ 1 → c * W ≤ W
-counted_within c W h = omega (arith, mul-le-mul_right W h)
 
 module _ (k : Hazards) (f : Frame) (W T : ℕ) (c : Reached k) (b : AllowedFrame f) (t : T ≤ period_most) where
   abbrev g : Shearing unit k T
@@ -47,27 +43,27 @@ module _ (k : Hazards) (f : Frame) (W T : ℕ) (c : Reached k) (b : AllowedFrame
       (v : ℕ) (e : Bounded v k) (w u : ℕ) (l : W ≤ w)
       (carried : (n x : ℕ) → Within v n x → 10_000 * (150 * x * w) ≤ n * unit * 100 * u)
     where
-      newtons_most : (z n x y : ℕ) → z ≤ w → 0 < n → x ≤ y → Within v n y → newtons unit n f z x ≤ u
+      newtons_most : (n x y : ℕ) → 0 < n → x ≤ y → Within v n y → newtons unit n f W x ≤ u
       unfolding newtons
-      newtons_most z n x y lz p l' h =
+      newtons_most n x y p l' h =
           let ix : f.i * x ≤ 150 * y = mul-le-mul b.i.1 l' in
-          let ixw : f.i * x * z ≤ 150 * y * w = mul-le-mul ix lz in
+          let ixw : f.i * x * W ≤ 150 * y * w = mul-le-mul ix l in
           let small : 100 * (n * u) ≤ f.alpha * (n * u) = mul-le-mul_right (n * u) b.alpha.0 in
-          up_most (10_000 * (f.i * x * z)) (n * unit * f.alpha) u (mul-pos (mul-pos p (omega arith)) (omega (arith, b.alpha)))
+          up_most (10_000 * (f.i * x * W)) (n * unit * f.alpha) u (mul-pos (mul-pos p (omega arith)) (omega (arith, b.alpha)))
           (omega (arith, ixw, small, carried n y h))
 
-      shear_most_lem : (h : Hazard) → Ready unit h T → unit * h.a ≤ 100_000_000 * e.most → shear unit k h f W T ≤ u
+      shear_most : (h : Hazard) → Ready unit h T → unit * h.a ≤ 100_000_000 * e.most → shear unit k h f W T ≤ u
       unfolding shear
-      shear_most_lem h y a =
+      shear_most h y a =
           let x = spectrum_below unit h.a h.b T e.most y.shape.b_positive a in
           let q = le_trans (ratio_within unit h T g.unit y) x in
-          newtons_most W k.divisor _ _ l g.divisor.0 (modified_rises k.lines c.meeting unit _ _ q) e.shears_within
+          newtons_most k.divisor _ _ g.divisor.0 (modified_rises k.lines c.meeting unit _ _ q) e.shears_within
 
       star_most : star unit k f W T ≤ u
       unfolding star
       star_most =
           let h = k.star in
-          newtons_most (k.starcount * W) k.stardivisor _ _ (le_trans (counted_within k.starcount W g.starcount) l) g.stardivisor.0
+          newtons_most k.stardivisor _ _ g.stardivisor.0
           (le_trans (blended_within k.lines c.meeting _ _)
           (spectrum_below unit h.a h.b T e.most g.star.shape.b_positive e.star))
           e.star_within
@@ -75,7 +71,7 @@ module _ (k : Hazards) (f : Frame) (W T : ℕ) (c : Reached k) (b : AllowedFrame
       base_carried : base unit k f W T ≤ u
       unfolding base
       base_carried =
-          max-le (max-le (shear_most_lem k.design g.design e.design) (shear_most_lem k.mce g.mce e.mce)) star_most
+          max-le (max-le (shear_most k.design g.design e.design) (shear_most k.mce g.mce e.mce)) star_most
 
   pub base_most : (v : ℕ) → Bounded v k → W ≤ total_most → base unit k f W T ≤ v
   base_most v e w = base_carried v e total_most v w (λ n x h. h)

@@ -1,5 +1,5 @@
--- V is `Ahead` on every allowed ground: near-fault factors make no smaller A and B, and A of the design level without them is at most 0.8 g by ours, 0.96 g by
--- the draft; in the Taipei Basin V's hazard is V*'s own, with 0.6 g.
+-- V is `Ahead` on every allowed ground: near-fault factors make no smaller A and B, and A of the design level without them is at most 0.8 g; in the Taipei
+-- Basin V's hazard is V*'s own, with 0.6 g.
 -- Assumes nothing.
 use mathlib.Core.Path.{refl, ap}
 use Prim.Native.Nat.{ℕ, ◌+◌, ◌*◌, ◌≤◌}
@@ -11,23 +11,20 @@ use Rattle.whole.proofs.Root.{le_of_square, lower_root_is}
 use Rattle.limits.specs.Allowed.{AllowedSite, AllowedGround}
 use Rattle.limits.specs.declared.ground.Ground.{Ground}
 use Rattle.limits.specs.declared.ground.Ground.TheVariants.{Site as OnSite, Basin as InBasin}
-use Rattle.limits.specs.declared.profile.Profile.{Profile}
-use Rattle.limits.specs.declared.profile.Profile.TheVariants.{Ours, Draft}
 use Rattle.limits.specs.declared.site.Site.{Site}
 use Rattle.limits.specs.declared.zone.Zone.{Zone}
 use Rattle.site.specs.Basin.{basin_hazards}
 use Rattle.site.specs.Capacity.{design_capacity, design_square}
 use Rattle.site.specs.Ground.{ground_hazards}
-use Rattle.site.specs.Profile.{lines_of}
 use Rattle.site.specs.SiteHazards.{site_hazards}
-use Rattle.site.proofs.Rising.{a_plain, a_rises, b_rises, factored_rises, a_design_most}
+use Rattle.site.proofs.Rising.{a_rises, b_rises, factored_rises, a_design_most}
 use Rattle.response.specs.Period.{period_most}
 use Rattle.response.specs.Unit.{unit}
 use Rattle.response.proofs.LargerGround.{Rooted}
 use Rattle.response.proofs.Most.{spectrum_below}
 use Rattle.response.proofs.Reached.{small, roots_ordered, unit_fine}
 use Rattle.base_shear.proofs.Ahead.{Ahead, own_hazard, larger_hazard}
-use Rattle.base_shear.specs.Shears.{spectrum_at, upper_at}
+use Rattle.base_shear.specs.Shears.{upper_at}
 use Rattle.base_shear.proofs.BasinReached.{basin_reached}
 use Rattle.base_shear.proofs.Ductilities.{design_ductile}
 use Rattle.base_shear.proofs.SiteReached.{site_reached}
@@ -62,38 +59,24 @@ module _ (R : ℕ) (lo : 100 ≤ R) (hi : R ≤ 600) where
         root_below = omega (arith, below, d.root_most);
       }
 
--- ---- the spectrum of V* by a profile, in units: it is soon at its end
-abbrev plain_most : Profile → ℕ
-plain_most Ours = 8_000_000
-plain_most Draft = 9_600_000
-
-plain_sized : (p : Profile) (a : ℕ) → a ≤ a_plain p → unit * a ≤ 100_000_000 * plain_most p
-plain_sized Ours a h = omega arith
-plain_sized Draft a h = omega arith
-
-soon_by : (p : Profile) (x : ℕ) → x ≤ plain_most p → 14 * (1000 * x) ≤ 42 * ((lines_of p).first * unit)
-soon_by Ours x h = omega arith
-soon_by Draft x h = omega arith
-
 -- ---- V is ahead
 site_ahead : (s : Site) (R : ℕ) → AllowedSite s → 100 ≤ R → R ≤ 600 → (T : ℕ) → T ≤ period_most → Ahead unit (site_hazards s R) T
 site_ahead s R a lo hi T t =
     let k = site_hazards s R in
     let g = (site_reached s R a lo hi).shearing T t in
     let h = k.star in
-    let p = s.profile in
-    let most = a_design_most p s.class s.ssd a.ssd.1 in
-    let sa = spectrum_below unit h.a h.b T (plain_most p) g.star.shape.b_positive (plain_sized p h.a most) in
+    let most : h.a ≤ 80_000_000 = a_design_most s.class s.ssd a.ssd.1 in
+    let sa = spectrum_below unit h.a h.b T 8_000_000 g.star.shape.b_positive (omega arith) in
     record {
-      soon = soon_by p (spectrum_at unit h T) sa;
+      soon = omega (arith, sa);
       ratio =
           λ below.
           let few : upper_at unit h T ≤ 3 * unit = omega (arith, below) in
           omega (
             arith,
             larger_hazard unit h k.design T 3 unit_fine g.star g.design
-                (a_rises p s.class _ _ (factored_rises s.ssd s.nad a.nad.0))
-                (b_rises p s.class _ _ (factored_rises s.s1d s.nvd a.nvd.0))
+                (a_rises s.class _ _ (factored_rises s.ssd s.nad a.nad.0))
+                (b_rises s.class _ _ (factored_rises s.s1d s.nvd a.nvd.0))
                 refl refl (rooted R lo hi) few,
           );
     }

@@ -25,7 +25,6 @@ ground_more_ductile (OnSite s) R R' h =
       lines = refl;
       divisor = refl;
       stardivisor = refl;
-      starcount = refl;
     }
 ground_more_ductile (InBasin z) R R' h =
     let allowable = hazard_more_ductile _ _ (basin_capacity R) (basin_square R) (basin_capacity R') (basin_square R') (omega arith) (omega arith) in
@@ -36,5 +35,4 @@ ground_more_ductile (InBasin z) R R' h =
       lines = refl;
       divisor = refl;
       stardivisor = refl;
-      starcount = refl;
     }

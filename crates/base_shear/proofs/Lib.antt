@@ -7,7 +7,6 @@ pub mod Ahead
 pub mod NeverRises
 pub mod Ductilities
 pub mod HazardsReached
-pub mod Profiles
 pub mod SiteReached
 pub mod BasinReached
 pub mod GroundReached

@@ -25,10 +25,6 @@ use Rattle.base_shear.proofs.LowerSome.{lower_some}
 pub no_lighter_itself : (f : Frame) (W : ℕ) → NoLighter f W f W
 no_lighter_itself f W = record { i = le_refl f.i; alpha = le_refl f.alpha; weight = le_refl W }
 
--- W counted equally often
-counted_no_lighter : (f f' : Frame) (W W' c : ℕ) → NoLighter f W f' W' → NoLighter f (c * W) f' (c * W')
-counted_no_lighter f f' W W' c l = record { i = l.i; alpha = l.alpha; weight = mul-le-mul_left c l.weight }
-
 -- ---- newtons
 module _ (s n : ℕ) (ps : 0 < s) (pn : 0 < n) (f f' : Frame) (W W' : ℕ) (pa : 0 < f'.alpha) (l : NoLighter f W f' W') where
   pub newtons_rise : (x x' : ℕ) → x ≤ x' → newtons s n f W x ≤ newtons s n f' W' x'
@@ -46,9 +42,7 @@ module _ (s : ℕ) (k : Hazards) (T : ℕ) (ps : 0 < s) (f f' : Frame) (W W' : �
 
   pub star_never_lower : 0 < k.stardivisor → star s k f W T ≤ star s k f' W' T
   unfolding star
-  star_never_lower pe =
-      newtons_rise s k.stardivisor ps pe f f' (k.starcount * W) (k.starcount * W') pa (counted_no_lighter f f' W W' k.starcount l) _ _
-      (le_refl (blended_at s k.lines k.star T))
+  star_never_lower pe = newtons_rise s k.stardivisor ps pe f f' W W' pa l _ _ (le_refl (blended_at s k.lines k.star T))
 
   pub base_never_lower : 0 < k.divisor → 0 < k.stardivisor → base s k f W T ≤ base s k f' W' T
   unfolding base
@@ -88,6 +82,6 @@ module _ (s : ℕ) (k k' : Hazards) (T : ℕ) (d : MoreDuctileAll k k') (g : She
   pub star_never_falls : star s k f W T ≤ star s k' f W T
   unfolding star
   star_never_falls =
-      rw (sym d.stardivisor, sym d.starcount, sym d.lines)
-      (newtons_rise s k.stardivisor g.unit.positive g.stardivisor.0 f f (k.starcount * W) (k.starcount * W) pa (no_lighter_itself f _) _ _
+      rw (sym d.stardivisor, sym d.lines)
+      (newtons_rise s k.stardivisor g.unit.positive g.stardivisor.0 f f W W pa (no_lighter_itself f W) _ _
       (blended_at_rises s k.star k'.star T g.unit g.star g'.star d.star k.lines m))

@@ -18,11 +18,10 @@ use Rattle.response.specs.Spectrum.{spectrum}
 use Rattle.response.proofs.Bent.{bent_first, bent_past_first}
 use Rattle.response.proofs.Ductility.{blended_full}
 use Rattle.response.proofs.Most.{blended_within}
-use Rattle.base_shear.specs.Moves.{NoLighter, MoreDuctileAll}
+use Rattle.base_shear.specs.Moves.{MoreDuctileAll}
 use Rattle.base_shear.specs.Ready.{Shearing}
 use Rattle.base_shear.specs.Shears.{newtons, ratio_at, shear, star, base, spectrum_at, upper_at}
 use Rattle.base_shear.proofs.Ahead.{Ahead}
-use Rattle.base_shear.proofs.Bounds.{counted_within}
 use Rattle.base_shear.proofs.Moves.{no_lighter_itself, newtons_rise, shear_never_higher, star_never_falls}
 
 -- ---- newtons of x over d tenths and of m over n tenths
@@ -44,19 +43,16 @@ module _ (s : ℕ) (k k' : Hazards) (T : ℕ) (d : MoreDuctileAll k k') (g : She
   abbrev sa : ℕ
   sa = spectrum_at s k.star T
 
-  lighter : NoLighter f (k.starcount * W) f W
-  lighter = record { i = le_refl f.i; alpha = le_refl f.alpha; weight = counted_within k.starcount W g.starcount }
-
   -- how far V* can rise
   abbrev end : ℕ
-  end = newtons s k.stardivisor f (k.starcount * W) sa
+  end = newtons s k.stardivisor f W sa
 
   star_to_end : star s k' f W T ≤ end
   unfolding star
   star_to_end =
       let h = k'.star in
-      rw (sym d.stardivisor, sym d.starcount, sym d.lines)
-      (newtons_rise s k.stardivisor g.unit.positive g.stardivisor.0 f f (k.starcount * W) (k.starcount * W) pa (no_lighter_itself f _) _ _
+      rw (sym d.stardivisor, sym d.lines)
+      (newtons_rise s k.stardivisor g.unit.positive g.stardivisor.0 f f W W pa (no_lighter_itself f W) _ _
       (subst₂ (λ (a b : ℕ). blended k.lines (spectrum s a b T) (upper_factor s a b T h.capacity h.square) ≤ sa) d.star.a d.star.b
       (blended_within k.lines meet sa (upper_factor s k.star.a k.star.b T h.capacity h.square))))
 
@@ -89,12 +85,10 @@ module _ (s : ℕ) (k k' : Hazards) (T : ℕ) (d : MoreDuctileAll k k') (g : She
     unfolding shear modified
     v_at_end h =
         let z = bent k.lines (ratio_at s k.design T) s in
-        le_trans
-        (newtons_rise s k.stardivisor g.unit.positive g.stardivisor.0 f f (k.starcount * W) W pa lighter sa sa (le_refl sa))
-        (newtons_across s k.divisor k.stardivisor f W sa (up z 1000) g.unit.positive g.divisor.0 g.stardivisor.0 pa
+        newtons_across s k.divisor k.stardivisor f W sa (up z 1000) g.unit.positive g.divisor.0 g.stardivisor.0 pa
         (le_of_mul-le-mul_left {k = 1000}
         (omega (arith, bent_enough (b.ratio h), mul-le-mul_left k.stardivisor (up_law z 1000 (omega arith)).0))
-        (omega arith)))
+        (omega arith))
 
     -- where V* rises, it does not come above what V was
     pub risen_below_v : star s k f W T < star s k' f W T → star s k' f W T ≤ shear s k k.design f W T

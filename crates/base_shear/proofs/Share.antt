@@ -23,11 +23,6 @@ newtons_share_lem : (s n : ℕ) (f : Frame) (W x : ℕ) → newtons s n f W x �
 unfolding newtons
 newtons_share_lem s n f W x = ap₂ up (omega arith) refl
 
--- W counted c times, or x
-counted_share : (s n : ℕ) (f : Frame) (c W x : ℕ) → newtons s n f (c * W) x ≡ share_of (newtons_share s n f (c * x)) W
-unfolding newtons
-counted_share s n f c W x = ap₂ up (omega arith) refl
-
 module _ (s : ℕ) (k : Hazards) (f : Frame) (T : ℕ) (u : 0 < s) (a : 0 < f.alpha) (d : 0 < k.divisor) (e : 0 < k.stardivisor) where
   share_positive : (n : ℕ) → 0 < n → 0 < n * s * f.alpha
   share_positive n p = mul-pos (mul-pos p u) a
@@ -38,7 +33,7 @@ module _ (s : ℕ) (k : Hazards) (f : Frame) (T : ℕ) (u : 0 < s) (a : 0 < f.al
 
   star_share_lem : (W : ℕ) → star s k f W T ≡ share_of (star_share s k f T) W
   unfolding star
-  star_share_lem W = counted_share s k.stardivisor f k.starcount W _
+  star_share_lem W = newtons_share_lem s k.stardivisor f W _
 
   -- of V and V_M
   abbrev two : Fraction

@@ -1,7 +1,7 @@
 -- The shears of the exact figure of demand 3: the same chain with no rounding after T, in N, the root being any fraction.
 --   exact_newtons n f W x       I·x·W/(n/10·alpha-y), of a fraction x; n is 14 for V and V_M, 42 for V*, 35 for V* in the Taipei Basin
 --   exact_shear k h f W T r     V and V_M
---   exact_star k f W T r        V*, in which W counts as often as the hazards say
+--   exact_star k f W T r        V*
 --   Roots                      the fractions taken for the roots in V, V_M and V*
 --   exact_base k f W T r        V_D
 use Rattle.std.specs.Prelude.{ℕ, ◌*◌}
@@ -26,7 +26,7 @@ exact_shear k h f W T r =
 abbrev pub exact_star : Hazards → Frame → ℕ → ℕ → Fraction → Fraction
 exact_star k f W T r =
     let h = k.star in
-    exact_newtons k.stardivisor f (k.starcount * W)
+    exact_newtons k.stardivisor f W
     (exact_blended k.lines (exact_spectrum h.a h.b T) (exact_factor h.a h.b T h.capacity r))
 
 pub record Roots : Type 0 where

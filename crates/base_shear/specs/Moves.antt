@@ -1,7 +1,7 @@
 -- What is known of two frames, two weights and two hazards where one thing is changed, whatever made the hazards.
 --   NoLighter f W f' W'    I and W are no smaller, and alpha-y is no larger
 --   MoreDuctile h h'       the hazard of a larger R: the same A and B, a capacity and a square that are no smaller
---   MoreDuctileAll k k'    so it is of the three hazards; lines, divisors and the count of V* are the same
+--   MoreDuctileAll k k'    so it is of the three hazards; lines and divisors are the same
 use Rattle.std.specs.Prelude.{◌≡◌, ℕ, ◌≤◌}
 use Rattle.whole.specs.Fraction.{AtMost}
 use Rattle.limits.specs.declared.frame.Frame.{Frame}
@@ -26,4 +26,3 @@ pub record MoreDuctileAll (k k' : Hazards) : Type 0 where
   pub lines : k.lines ≡ k'.lines
   pub divisor : k.divisor ≡ k'.divisor
   pub stardivisor : k.stardivisor ≡ k'.stardivisor
-  pub starcount : k.starcount ≡ k'.starcount

@@ -1,6 +1,6 @@
 -- What hazards must be like, whatever made them: for their shears to be worked out in 64 bits, and for what is proved of V_D.
 --   Ready s h t       a hazard within the reach of spectrum and factor, at T
---   Shearing s k t    three such hazards, lines in thousandths, divisors of at most ten, W counted in V* at most once; a fine unit that 10,000 divides
+--   Shearing s k t    three such hazards, lines in thousandths, divisors of at most ten; a fine unit that 10,000 divides
 --   Within v n x      x units over n tenths come to at most v N, at the largest I and W and the smallest alpha-y
 --   Bounded v k       no spectrum is above `most` units, and V, V_M and V* of that are within v N: V_D is at most v N
 --   Reached k         ready at every period in use, in the unit in use; lines that meet; V* divided by no less than V and V_M;
@@ -27,7 +27,6 @@ pub record Shearing (s : ℕ) (k : Hazards) (t : ℕ) : Type 0 where
   pub star : Ready s k.star t
   pub divisor : (0 < k.divisor) × (k.divisor ≤ 100)
   pub stardivisor : (0 < k.stardivisor) × (k.stardivisor ≤ 100)
-  pub starcount : k.starcount ≤ 1
 
 abbrev pub Within : ℕ → ℕ → ℕ → Type 0
 Within v n x = 10_000 * (150 * x * total_most) ≤ n * unit * 100 * v

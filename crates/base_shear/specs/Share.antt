@@ -19,7 +19,7 @@ abbrev pub shear_share : ℕ → Hazards → Hazard → Frame → ℕ → Fracti
 shear_share s k h f T = newtons_share s k.divisor f (modified_at s k.lines h T)
 
 abbrev pub star_share : ℕ → Hazards → Frame → ℕ → Fraction
-star_share s k f T = newtons_share s k.stardivisor f (k.starcount * blended_at s k.lines k.star T)
+star_share s k f T = newtons_share s k.stardivisor f (blended_at s k.lines k.star T)
 
 abbrev pub base_share : ℕ → Hazards → Frame → ℕ → Fraction
 base_share s k f T = larger (larger (shear_share s k k.design f T) (shear_share s k k.mce f T)) (star_share s k f T)

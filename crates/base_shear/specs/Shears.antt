@@ -6,8 +6,7 @@
 --   modified_at s l h T    m of a hazard
 --   shear s k h f W T     V of the design hazard and V_M of the MCE hazard: I·m·W/(14000·alpha-y)
 --   blended_at s l h T     p of a hazard: its spectrum against its upper factor
---   star s k f W T        V*: I·p·W/(42000·alpha-y) on a site, I·p·W/(35000·alpha-y) in the Taipei Basin; p by the upper factor of V*'s own hazard. W counts in
---                         it as often as the hazards say: by the draft, which has no V*, not at all, so that V* is 0
+--   star s k f W T        V*: I·p·W/(42000·alpha-y) on a site, I·p·W/(35000·alpha-y) in the Taipei Basin; p by the upper factor of V*'s own hazard
 --   base s k f W T        V_D, the largest of the three
 --   figures_at s k f W T   V, V_M, V*, V_D and T
 --   base_figures k f W h   those of hazards, a frame, a total weight and a top height h in dm, in the unit in use
@@ -49,7 +48,7 @@ abbrev pub blended_at : ℕ → Lines → Hazard → ℕ → ℕ
 blended_at s l h T = blended l (spectrum_at s h T) (upper_at s h T)
 
 unfoldable pub star : ℕ → Hazards → Frame → ℕ → ℕ → ℕ
-star s k f W T = newtons s k.stardivisor f (k.starcount * W) (blended_at s k.lines k.star T)
+star s k f W T = newtons s k.stardivisor f W (blended_at s k.lines k.star T)
 
 unfoldable pub base : ℕ → Hazards → Frame → ℕ → ℕ → ℕ
 base s k f W T = max (max (shear s k k.design f W T) (shear s k k.mce f W T)) (star s k f W T)

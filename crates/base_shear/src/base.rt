@@ -21,7 +21,7 @@ fn larger(a: u64, b: u64) -> u64
     a
 }
 
-// The figures of three hazards at a period: s is the unit. W counts in V* as often as the hazards say.
+// The figures of three hazards at a period: s is the unit.
 pub fn figures_at(s: u64, k: Hazards, f: Frame, w: u64, t: u64) -> Figures
     requires { Shearing s k t × AllowedFrame f × (w ≤ total_most) }
     ensures { result ≡ figures_at s k f w t }
@@ -32,8 +32,7 @@ pub fn figures_at(s: u64, k: Hazards, f: Frame, w: u64, t: u64) -> Figures
     let plain = k.star;
     let v = newtons(s, k.divisor, f, w, modified_at(s, lines, design, t));
     let vm = newtons(s, k.divisor, f, w, modified_at(s, lines, mce, t));
-    let counted = k.starcount * w;
-    let star = newtons(s, k.stardivisor, f, counted, blended_at(s, lines, plain, t));
+    let star = newtons(s, k.stardivisor, f, w, blended_at(s, lines, plain, t));
     let vd = larger(larger(v, vm), star);
     Figures { v, vm, star, vd, t }
 }

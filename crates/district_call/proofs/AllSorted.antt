@@ -19,7 +19,7 @@ pub all_sorted : {A : Type 0} (f : A → Outcome Weighed) → ((a : A) → Sorte
 all_sorted f h [] = tt
 all_sorted f h (a ∷ l) = (h a, all_sorted f h l)
 
-pub sum_low : (os : List (Outcome Weighed)) → AllSorted os → sum (map vd_of os) ≤ length os * 1_326_000_000
+pub sum_low : (os : List (Outcome Weighed)) → AllSorted os → sum (map vd_of os) ≤ length os * 1_125_000_000
 unfolding sum
 sum_low [] s = omega arith
 sum_low (accepted w ∷ os) s = omega (arith, sum_low os s.1, s.0.base)

@@ -33,9 +33,9 @@ pub record Reported (js : List (List ℕ)) (r : Report) : Type 0 where
   pub cells_accepted : sum r.cells ≡ r.totals.accepted
   pub all_jobs : r.totals.accepted + r.totals.refused ≡ length js
   pub governed : r.totals.v + r.totals.vm + r.totals.star ≡ r.totals.accepted
-  pub sum_most : r.totals.sum ≤ 339_456_000_000
+  pub sum_most : r.totals.sum ≤ 288_000_000_000
   pub of_none : js ≡ []
-      → r ≡ record { totals = record { accepted = 0; refused = 0; sum = 0; v = 0; vm = 0; star = 0 }; cells = zeros 133 }
+      → r ≡ record { totals = record { accepted = 0; refused = 0; sum = 0; v = 0; vm = 0; star = 0 }; cells = zeros 113 }
 
 -- of any list that is answered element by element, each accepted answer with a cell
 pub reported_of : (f : List ℕ → Outcome Weighed) → ((j : List ℕ) → Sorted (f j)) → (js : List (List ℕ)) → length js ≤ 256

@@ -115,10 +115,10 @@ governed_add_up os =
     each (accepted w) = one_of (eqb w.figures.v w.figures.vd) (eqb w.figures.vm w.figures.vd)
     each (refused n p) = refl
 
--- ---- the sum fits: 256 jobs of at most 1,326,000,000 N each
-pub sum_fits : (os : List (Outcome Weighed)) → AllSorted os → length os ≤ 256 → (report_of os).totals.sum ≤ 339_456_000_000
+-- ---- the sum fits: 256 jobs of at most 1,125,000,000 N each
+pub sum_fits : (os : List (Outcome Weighed)) → AllSorted os → length os ≤ 256 → (report_of os).totals.sum ≤ 288_000_000_000
 unfolding report_of
-sum_fits os s few = omega (arith, sum_low os s, mul-le-mul_right 1_326_000_000 few)
+sum_fits os s few = omega (arith, sum_low os s, mul-le-mul_right 1_125_000_000 few)
 
 -- ---- reports add up number by number: that of two districts together is their sum
 pub record AddUp (r s t : Report) : Type 0 where
@@ -149,6 +149,6 @@ reports_add os ps =
     }
 
 -- ---- 'No job at all gives a report of zeros'
-pub none_reported : report_of [] ≡ record { totals = record { accepted = 0; refused = 0; sum = 0; v = 0; vm = 0; star = 0 }; cells = zeros 133 }
+pub none_reported : report_of [] ≡ record { totals = record { accepted = 0; refused = 0; sum = 0; v = 0; vm = 0; star = 0 }; cells = zeros 113 }
 unfolding report_of how_many cells sum
 none_reported = refl

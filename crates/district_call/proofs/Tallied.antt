@@ -149,7 +149,7 @@ module _ (os : List (Outcome Weighed)) (i : ℕ) (t : Totals) (cs : List ℕ) (f
       record {
         accepted = omega (arith, r.accepted, many_most taken os);
         refused = omega (arith, r.refused, many_most untaken os);
-        sum = omega (arith, r.sum, sum_low os s, mul-le-mul_right 1_326_000_000 few);
+        sum = omega (arith, r.sum, sum_low os s, mul-le-mul_right 1_125_000_000 few);
         v = omega (arith, r.v, many_most (of_taken (λ w. by_v w.figures)) os);
         vm = omega (arith, r.vm, many_most (of_taken (λ w. by_vm w.figures)) os);
         star = omega (arith, r.star, many_most (of_taken (λ w. by_star w.figures)) os);

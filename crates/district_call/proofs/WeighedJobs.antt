@@ -1,4 +1,4 @@
--- What a weighed job is: the answer of the job without buffers, with its W. V_D is at most 1,326 N for each kN of W.
+-- What a weighed job is: the answer of the job without buffers, with its W. V_D is at most 1,125 N for each kN of W.
 -- Assumes nothing.
 use mathlib.Core.Path.{◌≡◌, refl, sym, ap, subst, ◌∙◌}
 use mathlib.Core.List.{List}

@@ -20,19 +20,19 @@ use Rattle.district_call.specs.Row.{row_of}
 use Rattle.district_call.proofs.Districts.{district_passed}
 use Rattle.district_call.proofs.WorkedDistrict.{jobs, weights, heights, answers, worked_answers, worked_totals, worked_cells}
 
--- a buffer of seven rows, whatever they held: q, then five more, and last r
-module _ (q o₁ o₂ o₃ o₄ o₅ r : List ℕ) (a : DistrictAnswer) (held : List (List ℕ))
-    (t : DistrictAnswers jobs weights heights (q ∷ o₁ ∷ o₂ ∷ o₃ ∷ o₄ ∷ o₅ ∷ r ∷ []) a held)
+-- a buffer of six rows, whatever they held: q, then four more, and last r
+module _ (q o₁ o₂ o₃ o₄ r : List ℕ) (a : DistrictAnswer) (held : List (List ℕ))
+    (t : DistrictAnswers jobs weights heights (q ∷ o₁ ∷ o₂ ∷ o₃ ∷ o₄ ∷ r ∷ []) a held)
   where
     abbrev old : List (List ℕ)
-    old = q ∷ o₁ ∷ o₂ ∷ o₃ ∷ o₄ ∷ o₅ ∷ r ∷ []
+    old = q ∷ o₁ ∷ o₂ ∷ o₃ ∷ o₄ ∷ r ∷ []
 
-    passes : judged_district 6 4 4 7 ≡ accepted tt
+    passes : judged_district 5 4 4 6 ≡ accepted tt
     unfolding judged_district
     passes = refl
 
-    taken : district_of jobs weights heights 7 ≡ accepted (report_of (answers_to jobs weights heights))
-    taken = district_passed jobs weights heights 7 passes
+    taken : district_of jobs weights heights 6 ≡ accepted (report_of (answers_to jobs weights heights))
+    taken = district_passed jobs weights heights 6 passes
 
     pub never_refused : (k : Refusal) → a.verdict ≡ Refused k → ⊥
     never_refused k v = never (sym (ap verdict_outcome v) ∙ t.verdict ∙ ap done_only taken)
@@ -54,19 +54,19 @@ module _ (q o₁ o₂ o₃ o₄ o₅ r : List ℕ) (a : DistrictAnswer) (held : 
     pub never_stopped : (get_or o₁ 2 0 ≡ 909_704 → ⊥) → get_or held 1 [] ≡ o₁ → ⊥
     never_stopped other e = other (ap (λ (l : List ℕ). get_or l 2 0) (sym e ∙ row_1))
 
-    pub never_cleared : (get_or r 0 0 ≡ 0 → ⊥) → get_or (get_or held 6 []) 0 0 ≡ 0 → ⊥
+    pub never_cleared : (get_or r 0 0 ≡ 0 → ⊥) → get_or (get_or held 5 []) 0 0 ≡ 0 → ⊥
     unfolding row_of
-    never_cleared held-something e = held-something (sym (ap (λ (h : List (List ℕ)). get_or (get_or h 6 []) 0 0) rows_are) ∙ e)
+    never_cleared held-something e = held-something (sym (ap (λ (h : List (List ℕ)). get_or (get_or h 5 []) 0 0) rows_are) ∙ e)
 
     pub never_for_star : a.report.totals.star ≡ 2 → ⊥
     never_for_star e =
         let z = sym (ap (λ (m : Report). m.totals.star) report_is ∙ ap (λ m. m.star) worked_totals) ∙ e in
         let w : ◌≡◌ {A = ℕ} 1 2 = z in omega arith
 
-    pub never_for_vm : a.report.totals.vm ≡ 3 → ⊥
+    pub never_for_vm : a.report.totals.vm ≡ 2 → ⊥
     never_for_vm e =
         let z = sym (ap (λ (m : Report). m.totals.vm) report_is ∙ ap (λ m. m.vm) worked_totals) ∙ e in
-        let w : ◌≡◌ {A = ℕ} 2 3 = z in omega arith
+        let w : ◌≡◌ {A = ℕ} 1 2 = z in omega arith
 
     pub never_below : get_or a.report.cells 17 0 ≡ 1 → ⊥
     never_below e =

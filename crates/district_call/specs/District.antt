@@ -1,4 +1,4 @@
--- A whole district in one call: jobs js of nineteen numbers each, a store of weights ws in kN and heights hs in dm, a row buffer of `room` rows.
+-- A whole district in one call: jobs js of eighteen numbers each, a store of weights ws in kN and heights hs in dm, a row buffer of `room` rows.
 --   answers_to js ws hs       what each job is answered
 --   district_of js ws hs room     the report, or 22 for the whole call
 --   reported o               the report that comes back: of no job where the call is refused, which is zeros

@@ -59,7 +59,7 @@ vd_of (accepted w) = w.figures.vd
 vd_of (refused n p) = 0
 
 abbrev pub cells_most : ℕ
-cells_most = 133
+cells_most = 113
 
 abbrev pub totals_of : List (Outcome Weighed) → Totals
 totals_of os =

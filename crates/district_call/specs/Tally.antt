@@ -1,5 +1,5 @@
 -- What counting asks for, so that no counter wraps and every accepted job has a cell.
---   Ratio w         a weight above 0, and V_D of at most 1,326 N for each kN of it; and at most 1,326,000,000 N
+--   Ratio w         a weight above 0, and V_D of at most 1,125 N for each kN of it; and at most 1,125,000,000 N
 --   Sorted o        so is an accepted job
 --   Small t         totals that one job more does not make wrap
 --   LowCells cs     the same of cells
@@ -10,8 +10,8 @@ use Rattle.district_call.specs.declared.weighed.Weighed.{Weighed}
 
 pub record Ratio (w : Weighed) : Type 0 where
   pub weight : 0 < w.weight
-  pub most : w.figures.vd ≤ 1_326 * w.weight
-  pub base : w.figures.vd ≤ 1_326_000_000
+  pub most : w.figures.vd ≤ 1_125 * w.weight
+  pub base : w.figures.vd ≤ 1_125_000_000
 
 abbrev pub Sorted : Outcome Weighed → Type 0
 Sorted (accepted w) = Ratio w

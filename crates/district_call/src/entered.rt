@@ -1,4 +1,4 @@
-// A job of a district as it is lent: nineteen numbers, in C a struct.
+// A job of a district as it is lent: eighteen numbers, in C a struct.
 ghost use Rattle.std.specs.Prelude.{◌≡◌};
 ghost use Rattle.district_call.specs.Entered.{entered, site_in};
 
@@ -7,8 +7,8 @@ use limits::frame::FrameValues;
 use limits::ground::GroundValues;
 use limits::site::SiteValues;
 
-// How many numbers a job has, and where each stands: the Basin or a site, the zone, ten of a site, five of a frame, the stretch.
-pub const JOB: usize = 19;
+// How many numbers a job has, and where each stands: the Basin or a site, the zone, nine of a site, five of a frame, the stretch.
+pub const JOB: usize = 18;
 // 0 on a site; anything else in the Taipei Basin.
 const ON_SITE: u64 = 0;
 
@@ -25,7 +25,6 @@ fn site_in(j: &[u64; JOB]) -> SiteValues
         nam: j[8],
         nvm: j[9],
         class: j[10],
-        profile: j[11],
     }
 }
 
@@ -44,11 +43,11 @@ pub fn frame_in(j: &[u64; JOB]) -> FrameValues
     ensures { result ≡ (entered j.now).frame }
 {
     FrameValues {
-        kind: j[12],
-        calculated: j[13],
-        r: j[14],
-        i: j[15],
-        alpha: j[16],
+        kind: j[11],
+        calculated: j[12],
+        r: j[13],
+        i: j[14],
+        alpha: j[15],
     }
 }
 
@@ -57,7 +56,7 @@ pub fn stretch_in(j: &[u64; JOB]) -> Stretch
     ensures { result ≡ record { start = (entered j.now).start; count = (entered j.now).count } }
 {
     Stretch {
-        start: j[17],
-        count: j[18],
+        start: j[16],
+        count: j[17],
     }
 }

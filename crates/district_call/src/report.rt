@@ -8,8 +8,8 @@ ghost use Rattle.district_call.specs.Weighed.{weighed_outcome};
 use crate::weighed::{Weighed, WeighedAnswer};
 use base_shear::Figures;
 
-// V_D over W in thousandths, N over kN, is at most 1,326: cells of ten, from 0 on, hold every accepted job.
-pub const CELLS: usize = 133;
+// V_D over W in thousandths, N over kN, is at most 1,125: cells of ten, from 0 on, hold every accepted job.
+pub const CELLS: usize = 113;
 
 // How many thousandths a cell is of.
 pub const CELL_THOUSANDTHS: u64 = 10;
@@ -97,7 +97,7 @@ impl Totals {
     }
 
     fn with_taken(self, n: Figures) -> Totals
-        requires { Small self × (n.vd ≤ 1_326_000_000) }
+        requires { Small self × (n.vd ≤ 1_125_000_000) }
         ensures { result ≡ with_figures self n }
     {
         Totals {

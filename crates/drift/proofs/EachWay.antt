@@ -18,7 +18,7 @@ use Rattle.whole.proofs.Floor.{back, neg_fits}
 use Rattle.storeys.specs.Reach.{Load, Falling}
 use Rattle.storeys.specs.Storeys.{weight_height, shear_under, shears, force, forces}
 use Rattle.storeys.proofs.Chain.{shears_length, forces_length}
-use Rattle.storeys.proofs.Telescope.{shear_most_lem, force_whole}
+use Rattle.storeys.proofs.Telescope.{shear_most, force_whole}
 use Rattle.drift.specs.Accidental.{accidental_moment, each_way}
 use Rattle.drift.specs.Reach.{Carried}
 
@@ -67,4 +67,4 @@ module _ (us : List ℕ) (d : ℕ) where
 pub shears_carried : (T v : ℕ) (ws hs : List ℕ) → Load T v → 0 < weight_height ws hs → Carried (shears T v ws hs)
 shears_carried T v ws hs load p x h =
     let l : x < length ws = rw (sym (shears_length T v ws hs)) h in
-    omega (arith, cells_at (shear_under T v ws hs) (length ws) x l, shear_most_lem T v ws hs x p load.part, load.shear)
+    omega (arith, cells_at (shear_under T v ws hs) (length ws) x l, shear_most T v ws hs x p load.part, load.shear)

@@ -18,7 +18,7 @@ use Rattle.limits.specs.Levels.{judged_levels, top_height}
 use Rattle.limits.specs.Outcome.{Outcome, accepted, refused}
 use Rattle.limits.proofs.AcceptedCalls.{judged_in_turn, judged_handed_lem}
 use Rattle.limits.proofs.Told.{given_applies}
-use Rattle.limits.proofs.Numbers.{OfJob, numbered_levels, of_job}
+use Rattle.limits.proofs.Numbers.{numbered_levels, at_most_18}
 use Rattle.limits.proofs.Refusing.{levels_told}
 use Rattle.base_shear.specs.declared.Figures.{Figures}
 use Rattle.job.specs.declared.FiguresAnswer.{FiguresAnswer}
@@ -115,7 +115,7 @@ module _ (G : GroundValues) (f : FrameValues) (ws hs : List ℕ) (b : Buffers) w
       let j = sym (judged_in_turn G f ws hs (shortest b) l) ∙ job.refused_judged G f ws hs b r b' p in
       inr (refl, sym (call.call_refused G f (sum ws) (top_height hs) j))
 
--- ---- V_D and T of any shear call are what the distribution takes, over any levels: it never gives 19 or 20 for them; nor does a job, whose numbers are 1 to 18 and 27
+-- ---- V_D and T of any shear call are what the distribution takes, over any levels: it never gives 19 or 20 for them; nor does a job
 pub never_19_nor_20 : (G : GroundValues) (f : FrameValues) (W h : ℕ) (n : Figures) → Sheared G f W h (Taken n)
     → (ws hs : List ℕ) (b : Buffers) (r : Refusal) (b' : Buffers) → Distributed n.vd n.t ws hs b (RefusedVerdict r) b' → r.number ≤ 4
 never_19_nor_20 G f W h n c ws hs b r b' d =
@@ -123,8 +123,8 @@ never_19_nor_20 G f W h n c ws hs b r b' d =
     let told = levels_told ws hs (shortest b) in
     (numbered_levels (given_applies (LevelsApply ws hs (shortest b)) (judged_levels ws hs (shortest b)) told r.number r.place l)).1
 
-pub job_numbers : (G : GroundValues) (f : FrameValues) (ws hs : List ℕ) (b : Buffers) (r : Refusal) (b' : Buffers)
-    → Answers G f ws hs b (Refused r) b' → OfJob r.number
-job_numbers G f ws hs b r b' a =
+pub job_at_most_18 : (G : GroundValues) (f : FrameValues) (ws hs : List ℕ) (b : Buffers) (r : Refusal) (b' : Buffers)
+    → Answers G f ws hs b (Refused r) b' → r.number ≤ 18
+job_at_most_18 G f ws hs b r b' a =
     let w = (job_first G f ws hs b (Refused r) b' a).refused_applies r.number r.place refl in
-    of_job (LevelsApply ws hs (shortest b)) (λ n p. numbered_levels) f G w
+    (at_most_18 (LevelsApply ws hs (shortest b)) (λ n p. numbered_levels) f G w).1

@@ -44,10 +44,9 @@ module _ (G : GroundValues) (f : FrameValues) (ws hs : List ℕ) where
   pub figures_first : (a : FiguresAnswer) → Figured G f ws hs a → FirstRefusal (JobApplies G f ws hs (length ws)) (answer_outcome a)
   figures_first a h = subst (FirstRefusal (JobApplies G f ws hs (length ws))) (sym h) (five_first (length ws))
 
--- on a site this is 'the lowest number that applies', or 27 before 5 to 12; in the Basin it is the lowest, or 18 before 8 to 12
+-- on a site this is 'the lowest number that applies'; in the Basin it is the lowest, or 18 before 8 to 12
 pub lowest_number : (s : SiteValues) (f : FrameValues) (ws hs : List ℕ) (b : Buffers) (r : Refusal) (b' : Buffers)
-    → Answers (Site s) f ws hs b (Refused r) b' → (m q : ℕ) → JobApplies (Site s) f ws hs (shortest b) m q
-    → (r.number ≤ m) ⊎ ((r.number ≡ 27) × (5 ≤ m))
+    → Answers (Site s) f ws hs b (Refused r) b' → (m q : ℕ) → JobApplies (Site s) f ws hs (shortest b) m q → r.number ≤ m
 lowest_number s f ws hs b r b' a m q w =
     judged.lowest_number (LevelsApply ws hs (shortest b)) (λ n p. numbered_levels) f (answer_outcome (Refused r)) r.number r.place m q refl
     s (job_first (Site s) f ws hs b (Refused r) b' a) w
@@ -59,19 +58,6 @@ lowest_in_basin z f ws hs b r b' a m q w =
     judged.lowest_in_basin (LevelsApply ws hs (shortest b)) (λ n p. numbered_levels) f (answer_outcome (Refused r)) r.number r.place m q refl
     z (job_first (Basin z) f ws hs b (Refused r) b' a) w
 
--- 27 'before 5', and 18 where 5 to 7 stand: where it applies, no number of 5 to 12 is given
-pub profile_foremost : (s : SiteValues) (f : FrameValues) (ws hs : List ℕ) (b : Buffers) (r : Refusal) (b' : Buffers)
-    → Answers (Site s) f ws hs b (Refused r) b' → (q : ℕ) → JobApplies (Site s) f ws hs (shortest b) 27 q → (r.number ≤ 4) ⊎ (r.number ≡ 27)
-profile_foremost s f ws hs b r b' a q w =
-    judged.profile_foremost (LevelsApply ws hs (shortest b)) (λ n p. numbered_levels) f (answer_outcome (Refused r)) r.number r.place 0 q refl
-    s (job_first (Site s) f ws hs b (Refused r) b' a) w
-
-pub zone_foremost : (z : ℕ) (f : FrameValues) (ws hs : List ℕ) (b : Buffers) (r : Refusal) (b' : Buffers)
-    → Answers (Basin z) f ws hs b (Refused r) b' → (q : ℕ) → JobApplies (Basin z) f ws hs (shortest b) 18 q → (r.number ≤ 4) ⊎ (r.number ≡ 18)
-zone_foremost z f ws hs b r b' a q w =
-    judged.zone_foremost (LevelsApply ws hs (shortest b)) (λ n p. numbered_levels) f (answer_outcome (Refused r)) r.number r.place 0 q refl
-    z (job_first (Basin z) f ws hs b (Refused r) b' a) w
-
 -- ---- the shear call
 pub shear_call_first : (G : GroundValues) (f : FrameValues) (W h : ℕ) (a : FiguresAnswer) → Sheared G f W h a
     → FirstRefusal (ShearCallApplies G f W h) (answer_outcome a)
@@ -81,7 +67,7 @@ shear_call_first G f W h a e =
     (first_of_value (ShearCallApplies G f W h) (judged_shear_call G f W h) (λ g. building_figures g W h) (judged.shear_call_first G f W h))
 
 pub lowest_called : (s : SiteValues) (f : FrameValues) (W h : ℕ) (r : Refusal) → Sheared (Site s) f W h (Refused r)
-    → (m q : ℕ) → ShearCallApplies (Site s) f W h m q → (r.number ≤ m) ⊎ ((r.number ≡ 27) × (5 ≤ m))
+    → (m q : ℕ) → ShearCallApplies (Site s) f W h m q → r.number ≤ m
 lowest_called s f W h r a m q w =
     judged.lowest_number (BuildingApplies W h) (λ n p. numbered_building) f (answer_outcome (Refused r)) r.number r.place m q refl
     s (shear_call_first (Site s) f W h (Refused r) a) w
@@ -91,12 +77,6 @@ pub lowest_called_in_basin : (z : ℕ) (f : FrameValues) (W h : ℕ) (r : Refusa
 lowest_called_in_basin z f W h r a m q w =
     judged.lowest_in_basin (BuildingApplies W h) (λ n p. numbered_building) f (answer_outcome (Refused r)) r.number r.place m q refl
     z (shear_call_first (Basin z) f W h (Refused r) a) w
-
-pub profile_called : (s : SiteValues) (f : FrameValues) (W h : ℕ) (r : Refusal) → Sheared (Site s) f W h (Refused r)
-    → (q : ℕ) → ShearCallApplies (Site s) f W h 27 q → (r.number ≤ 4) ⊎ (r.number ≡ 27)
-profile_called s f W h r a q w =
-    judged.profile_foremost (BuildingApplies W h) (λ n p. numbered_building) f (answer_outcome (Refused r)) r.number r.place 0 q refl
-    s (shear_call_first (Site s) f W h (Refused r) a) w
 
 -- ---- the distribution
 module _ (v T : ℕ) (ws hs : List ℕ) (b : Buffers) (b' : Buffers) where

@@ -1,15 +1,13 @@
 -- A judged shear call is within reach of the calculation: the hazards, V_D and T; and judged levels are what the storeys ask for. What is known of
 -- the ground goes through `given_reached` and `given_bounded`.
---   Between n    V_D is 1 to 1,326,000,000 N and T is 1 to 6328 ms
+--   Between n    V_D is 1 to 1,125,000,000 N and T is 1 to 6328 ms
 -- Assumes nothing.
 use mathlib.Core.Path.{sym}
 use mathlib.Core.List.{List}
 use Prim.Native.Nat.{ℕ, ◌*◌, ◌≤◌, ◌<◌}
-use native.Mathlib.Nat.{le_trans, mul-le-mul_right}
 use native.Mathlib.Omega.{arith}
 use lib.ListN.{length}
 use Rattle.limits.specs.declared.judging.Given.{Given}
-use Rattle.limits.specs.Building.{total_most}
 use Rattle.limits.specs.Allowed.{AllowedLevels, AllowedShearCall, AllowedHanded}
 use Rattle.response.proofs.Periods.{period_bounds}
 use Rattle.base_shear.specs.declared.Figures.{Figures}
@@ -19,7 +17,7 @@ use Rattle.base_shear.proofs.Bounds.{base_most, base_least, base_for_each}
 use Rattle.storeys.specs.Reach.{Load, Standing}
 use Rattle.storeys.proofs.Chain.{load_of, standing_of}
 use Rattle.job.specs.ShearCall.{given_hazards, building_figures}
-use Rattle.base_shear.proofs.GroundReached.{ground_most, ground_bounded, ground_few, ground_reached}
+use Rattle.base_shear.proofs.GroundReached.{ground_bounded, ground_reached}
 
 pub standing : (ws hs : List ℕ) → AllowedLevels ws hs → Standing ws hs
 standing ws hs l =
@@ -28,13 +26,13 @@ standing ws hs l =
     ((l.weights x h).0, (l.weights x h).1, (l.heights x hh).0, (l.heights x hh).1))
 
 abbrev pub Between : Figures → Type 0
-Between n = (1 ≤ n.vd) × (n.vd ≤ 1_326_000_000) × (1 ≤ n.t) × (n.t ≤ 6328)
+Between n = (1 ≤ n.vd) × (n.vd ≤ 1_125_000_000) × (1 ≤ n.t) × (n.t ≤ 6328)
 
 module _ (g : Given) (W h : ℕ) (a : AllowedShearCall g W h) where
   pub given_reached : Reached (given_hazards g)
   given_reached = ground_reached g.ground g.frame.r a.ground a.frame.r.0 a.frame.r.1
 
-  given_bounded : Bounded (ground_most g.ground * total_most) (given_hazards g)
+  given_bounded : Bounded 1_125_000_000 (given_hazards g)
   given_bounded = ground_bounded g.ground g.frame.r a.ground a.frame.r.0 a.frame.r.1
 
   abbrev period : (1 ≤ (building_figures g W h).t) × ((building_figures g W h).t ≤ 6328)
@@ -46,15 +44,12 @@ module _ (g : Given) (W h : ℕ) (a : AllowedShearCall g W h) where
   given_between =
       let least = base_least _ g.frame W _ given_reached a.frame period.1 a.building.weight.0 in
       let most = base_most _ g.frame W _ given_reached a.frame period.1 _ given_bounded a.building.weight.1 in
-      (least, omega (arith, most, ground_few g.ground), period.0, period.1)
+      (least, most, period.0, period.1)
 
-  -- V_D over W, N over kN: by the ground at most 1,125 or 1,326 thousandths
-  pub given_by_ground : (building_figures g W h).vd ≤ ground_most g.ground * W
+  -- V_D over W, N over kN, is at most 1,125 thousandths
+  pub given_for_each : (building_figures g W h).vd ≤ 1_125 * W
   unfolding figures_at
-  given_by_ground = base_for_each _ g.frame W _ given_reached a.frame period.1 (ground_most g.ground) given_bounded
-
-  pub given_for_each : (building_figures g W h).vd ≤ 1_326 * W
-  given_for_each = le_trans given_by_ground (mul-le-mul_right W (ground_few g.ground))
+  given_for_each = base_for_each _ g.frame W _ given_reached a.frame period.1 1_125 given_bounded
 
 -- so the distribution takes V_D and T: it never refuses them with 19 or 20
 pub between_handed : (n : Figures) → Between n → AllowedHanded n.vd n.t

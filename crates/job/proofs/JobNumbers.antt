@@ -1,8 +1,7 @@
 -- A job by its numbers, and what it comes to in the unit in use.
 --   Job                  ground, frame line, weights, heights, and what is given where they are accepted
---   site_line ..          a site line of seven numbers: one pair for both levels, by our profile
---   draft_line ..         one of eight: by the draft
---   job_by p ..           a job of the lines of a sheet, as its numbers stand there, with its profile, class and kind; job_on ..    by ours
+--   site_line ..          a site line of seven numbers: one pair for both levels
+--   job_on ..             a job of the lines of a sheet, as its numbers stand there, with its class and kind
 --   IsAccepted j         they are accepted, with result buffers of as many cells as levels
 --   hazards j, period j  the three hazards; T
 --   printed j, printed_under j x       V_D, and the shear under level x, from 0
@@ -28,8 +27,6 @@ use Rattle.limits.specs.declared.ground.GroundValues.{GroundValues}
 use Rattle.limits.specs.declared.ground.GroundValues.TheVariants.{Site as SiteOf}
 use Rattle.limits.specs.declared.judging.Given.{Given}
 use Rattle.limits.specs.declared.class.Class.{Class}
-use Rattle.limits.specs.declared.profile.Profile.{Profile}
-use Rattle.limits.specs.declared.profile.Profile.TheVariants.{Ours}
 use Rattle.limits.specs.declared.site.SiteValues.{SiteValues}
 use Rattle.site.specs.declared.hazard.Hazards.{Hazards}
 use Rattle.response.specs.Period.{period_of}
@@ -50,27 +47,20 @@ pub record Job : Type 0 where
 
 abbrev pub site_line : ℕ → ℕ → ℕ → ℕ → ℕ → ℕ → ℕ → SiteValues
 site_line ssd s1d ssm s1m na nv class =
-    record { ssd = ssd; s1d = s1d; ssm = ssm; s1m = s1m; nad = na; nvd = nv; nam = na; nvm = nv; class = class; profile = 1 }
-
-abbrev pub draft_line : ℕ → ℕ → ℕ → ℕ → ℕ → ℕ → ℕ → SiteValues
-draft_line ssd s1d ssm s1m na nv class =
-    record { ssd = ssd; s1d = s1d; ssm = ssm; s1m = s1m; nad = na; nvd = nv; nam = na; nvm = nv; class = class; profile = 2 }
+    record { ssd = ssd; s1d = s1d; ssm = ssm; s1m = s1m; nad = na; nvd = nv; nam = na; nvm = nv; class = class }
 
 abbrev pub frame_line : ℕ → ℕ → ℕ → ℕ → ℕ → FrameValues
 frame_line kind calculated r i alpha = record { kind = kind; calculated = calculated; r = r; i = i; alpha = alpha }
 
-abbrev pub job_by : Profile → SiteValues → Class → FrameValues → Kind → List ℕ → List ℕ → Job
-job_by p s c f k ws hs =
+abbrev pub job_on : SiteValues → Class → FrameValues → Kind → List ℕ → List ℕ → Job
+job_on s c f k ws hs =
     record {
       ground = SiteOf s;
       frame = f;
       weights = ws;
       heights = hs;
-      given = record { ground = OnSite (site_of s c p); frame = frame_of f k };
+      given = record { ground = OnSite (site_of s c); frame = frame_of f k };
     }
-
-abbrev pub job_on : SiteValues → Class → FrameValues → Kind → List ℕ → List ℕ → Job
-job_on s c f k ws hs = job_by Ours s c f k ws hs
 
 abbrev pub IsAccepted : Job → Type 0
 IsAccepted j = judged_job j.ground j.frame j.weights j.heights (length j.weights) ≡ accepted j.given

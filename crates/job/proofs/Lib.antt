@@ -19,16 +19,11 @@ pub mod Calls
 pub mod Storeys
 pub mod Demand3
 pub mod Results
-pub mod OnLine
 pub mod NearFault
-pub mod ByDraft
-pub mod ShareMost
 pub mod WorkedSheet
 pub mod Worked
 pub mod WorkedBasin
 pub mod WorkedNearFault
-pub mod WorkedDraft
-pub mod WrongDrafts
 pub mod WorkedTowers
 pub mod WorkedStar
 pub mod WorkedMoves

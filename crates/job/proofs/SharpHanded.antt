@@ -24,7 +24,6 @@ use Rattle.limits.specs.Judging.{judged_shear_call, judged_distribution}
 use Rattle.limits.specs.Levels.{weighed, raised, judged_levels}
 use Rattle.limits.specs.Ranges.{in_range, within, among, listed}
 use Rattle.limits.specs.Class.{judged_class}
-use Rattle.limits.specs.Profile.{judged_profile}
 use Rattle.limits.specs.Site.{judged_mapped, judged_near_fault, judged_site}
 use Rattle.response.specs.Factor.{factor, lower_factor, upper_factor}
 use Rattle.response.specs.Period.{approximate, in_use}
@@ -42,7 +41,7 @@ use Rattle.job.proofs.SharpMargin.{tall}
 -- what the shear call answers for its 13 kN and 200 m, and so the job
 pub tall_sheared : Sheared tall.ground tall.frame 13 2000
     (Taken (record { v = 1033; vm = 957; star = 774; vd = 1033; t = 3568 }))
-unfolding shear_call_of judged_shear_call judged_building judged_site judged_profile judged_mapped judged_near_fault judged_class judged_frame judged_kind judged_period
+unfolding shear_call_of judged_shear_call judged_building judged_site judged_mapped judged_near_fault judged_class judged_frame judged_kind judged_period
     among listed within in_range between up down largest smallest bits_from lower_root upper_root floor ceiling approximate in_use spectrum
     exact_spectrum factor lower_factor upper_factor ratio modified blended bent newtons shear star base figures_at
 tall_sheared = refl

@@ -21,7 +21,6 @@ use Rattle.limits.specs.Judging.{judged_job}
 use Rattle.limits.specs.Levels.{weighed, raised, judged_levels}
 use Rattle.limits.specs.Ranges.{in_range, within, among, listed}
 use Rattle.limits.specs.Class.{judged_class}
-use Rattle.limits.specs.Profile.{judged_profile}
 use Rattle.limits.specs.Site.{judged_mapped, judged_near_fault, judged_site}
 use Rattle.limits.specs.declared.kind.Kind.TheVariants.{Steel, Concrete}
 use Rattle.limits.specs.declared.class.Class.TheVariants.{Hard, Normal, Soft}
@@ -53,7 +52,7 @@ stiff =
     (100 ∷ 200 ∷ 300 ∷ [])
 
 pub all_accepted : IsAccepted heavy × IsAccepted tall × IsAccepted stiff
-unfolding cells judged_job judged_levels weighed raised within in_range among listed judged_site judged_profile judged_mapped judged_near_fault
+unfolding cells judged_job judged_levels weighed raised within in_range among listed judged_site judged_mapped judged_near_fault
     judged_class judged_frame judged_kind judged_period
 all_accepted = (refl, refl, refl)
 

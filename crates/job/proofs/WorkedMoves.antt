@@ -22,7 +22,6 @@ use Rattle.limits.specs.Levels.{weighed, raised, judged_levels}
 use Rattle.limits.specs.Outcome.{accepted}
 use Rattle.limits.specs.Ranges.{in_range, among, within, listed}
 use Rattle.limits.specs.Class.{judged_class}
-use Rattle.limits.specs.Profile.{judged_profile}
 use Rattle.limits.specs.Site.{judged_mapped, judged_near_fault, judged_site}
 use Rattle.response.specs.Factor.{factor, lower_factor, upper_factor}
 use Rattle.response.specs.Period.{approximate, in_use}
@@ -68,7 +67,7 @@ heavy =
 
 answered : Sheared plain (frame 0 480) 15_000 300 (Taken of30) × Sheared plain (frame 0 480) 16_000 350 (Taken heavier_of35)
     × Sheared plain (frame 0 480) 15_000 350 (Taken of35) × Sheared plain (frame 0 481) 15_000 300 (Taken more_ductile_of30)
-unfolding judged_site judged_profile judged_mapped judged_near_fault judged_class judged_frame judged_kind judged_period shear_call_of judged_shear_call judged_building within
+unfolding judged_site judged_mapped judged_near_fault judged_class judged_frame judged_kind judged_period shear_call_of judged_shear_call judged_building within
     in_range among listed between lower_root upper_root up down largest smallest bits_from factor lower_factor upper_factor approximate in_use bent ratio
     modified blended exact_spectrum spectrum newtons shear star base figures_at floor ceiling
 answered = (refl, refl, refl, refl)
@@ -78,7 +77,7 @@ pub heavier_roof : (job_of plain (frame 1000 480) weights heights 3 ≡ accepted
     × (job_of plain (frame 1000 480) (with_weight weights 2 6000) heights 3 ≡ accepted heavy)
     × (light.figures.vd < heavy.figures.vd)
     × (get_or heavy.columns.forces 0 0 < get_or light.columns.forces 0 0) × (get_or heavy.columns.forces 1 0 < get_or light.columns.forces 1 0)
-unfolding job_of judged_job judged_levels weighed raised within in_range among listed judged_site judged_profile judged_mapped judged_near_fault judged_class
+unfolding job_of judged_job judged_levels weighed raised within in_range among listed judged_site judged_mapped judged_near_fault judged_class
     judged_frame judged_kind judged_period cells sum between lower_root upper_root up down largest smallest bits_from factor lower_factor
     upper_factor approximate in_use bent ratio modified blended exact_spectrum spectrum newtons shear star base figures_at weight_height about floor
     ceiling

@@ -19,7 +19,6 @@ use Rattle.limits.specs.Levels.{weighed, raised, judged_levels}
 use Rattle.limits.specs.Outcome.{Outcome}
 use Rattle.limits.specs.Ranges.{in_range, among, within, listed}
 use Rattle.limits.specs.Class.{judged_class}
-use Rattle.limits.specs.Profile.{judged_profile}
 use Rattle.limits.specs.Site.{judged_mapped, judged_near_fault, judged_site}
 use Rattle.response.specs.Factor.{factor, lower_factor, upper_factor}
 use Rattle.response.specs.Period.{approximate, in_use}
@@ -39,7 +38,7 @@ pub worked_near_fault : (near_fault 112 123 118 136 ≡ resulted (figures 2_116_
     (2_228_842 ∷ 1_857_369 ∷ 1_114_421 ∷ []) (520_063_200 ∷ 297_179_000 ∷ 111_442_100 ∷ []))
     × (near_fault 112 123 112 123 ≡ resulted (figures 2_116_869 2_001_989 1_904_762 2_116_869 500) (352_811 ∷ 705_623 ∷ 1_058_435 ∷ [])
     (2_116_869 ∷ 1_764_058 ∷ 1_058_435 ∷ []) (493_936_200 ∷ 282_249_300 ∷ 105_843_500 ∷ []))
-unfolding job_of judged_job judged_levels weighed raised within in_range among listed judged_site judged_profile judged_mapped judged_near_fault
+unfolding job_of judged_job judged_levels weighed raised within in_range among listed judged_site judged_mapped judged_near_fault
     judged_class judged_frame judged_kind judged_period cells sum between lower_root upper_root up down largest smallest bits_from factor
     lower_factor upper_factor approximate in_use bent ratio modified blended exact_spectrum spectrum newtons shear star base figures_at
     weight_height about floor ceiling

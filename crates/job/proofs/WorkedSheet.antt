@@ -15,7 +15,7 @@ use Rattle.base_shear.specs.declared.Figures.{Figures}
 use Rattle.job.specs.Job.{Results}
 
 abbrev pub site_with : ℕ → ℕ → ℕ → ℕ → GroundValues
-site_with nad nvd nam nvm = Site (record { ssd = 80; s1d = 45; ssm = 100; s1m = 55; nad = nad; nvd = nvd; nam = nam; nvm = nvm; class = 1; profile = 1 })
+site_with nad nvd nam nvm = Site (record { ssd = 80; s1d = 45; ssm = 100; s1m = 55; nad = nad; nvd = nvd; nam = nam; nvm = nvm; class = 1 })
 
 abbrev pub plain : GroundValues
 plain = site_with 100 100 100 100

@@ -20,7 +20,6 @@ use Rattle.limits.specs.Judging.{judged_job}
 use Rattle.limits.specs.Levels.{weighed, raised, judged_levels}
 use Rattle.limits.specs.Ranges.{in_range, among, within, listed}
 use Rattle.limits.specs.Class.{judged_class}
-use Rattle.limits.specs.Profile.{judged_profile}
 use Rattle.limits.specs.Site.{judged_mapped, judged_near_fault, judged_site}
 use Rattle.limits.specs.Zone.{judged_zone}
 use Rattle.response.specs.Factor.{factor, lower_factor, upper_factor}
@@ -71,7 +70,7 @@ answered : Job plain (frame 1000 100) site100 × Job plain (frame 1000 175) site
     × Job near_fault (frame 500 100) near_fault100 × Job near_fault (frame 500 400) near_fault400
     × Job (Basin 3) (frame 1000 100) zone100 × Job (Basin 3) (frame 1000 400) zone400
     × Job plain (frame 1000 480) site480 × Job plain (frame 1000 600) site600
-unfolding job_of judged_job judged_levels weighed raised within in_range among listed judged_site judged_profile judged_mapped judged_near_fault judged_class
+unfolding job_of judged_job judged_levels weighed raised within in_range among listed judged_site judged_mapped judged_near_fault judged_class
     judged_zone judged_frame judged_kind judged_period cells sum between lower_root upper_root up down largest smallest bits_from factor lower_factor
     upper_factor approximate in_use bent ratio modified blended exact_spectrum spectrum newtons shear star base figures_at weight_height about floor
     ceiling

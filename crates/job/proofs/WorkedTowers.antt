@@ -19,7 +19,6 @@ use Rattle.limits.specs.Frame.{judged_period, judged_frame}
 use Rattle.limits.specs.Judging.{judged_shear_call}
 use Rattle.limits.specs.Ranges.{in_range, among, within, listed}
 use Rattle.limits.specs.Class.{judged_class}
-use Rattle.limits.specs.Profile.{judged_profile}
 use Rattle.limits.specs.Site.{judged_mapped, judged_near_fault, judged_site}
 use Rattle.limits.specs.Zone.{judged_zone}
 use Rattle.response.specs.Factor.{factor, lower_factor, upper_factor}
@@ -62,7 +61,7 @@ three = under_third ∷ under_third ∷ tower 5_008 300 303_720 273_255 357_715 
 
 on_site_lem : Called plain (frame 1000 480) whole × Called plain (frame 1000 480) half_of15
     × CalledAt plain (frame 1000 480) 1000 thirds × CalledAt plain (frame 1000 480) 1000 halves × CalledAt plain (frame 1000 480) 1000 three
-unfolding shear_call_of judged_shear_call judged_building judged_site judged_profile judged_mapped judged_near_fault judged_class judged_frame judged_kind judged_period
+unfolding shear_call_of judged_shear_call judged_building judged_site judged_mapped judged_near_fault judged_class judged_frame judged_kind judged_period
     among listed within in_range between up down largest smallest bits_from lower_root upper_root floor ceiling approximate in_use spectrum
     exact_spectrum factor lower_factor upper_factor ratio modified blended bent newtons shear star base figures_at
 on_site_lem =

@@ -19,7 +19,6 @@ use Rattle.limits.specs.Judging.{judged_job}
 use Rattle.limits.specs.Levels.{weighed, raised, judged_levels}
 use Rattle.limits.specs.Ranges.{in_range, within, among, listed}
 use Rattle.limits.specs.Class.{judged_class}
-use Rattle.limits.specs.Profile.{judged_profile}
 use Rattle.limits.specs.Site.{judged_mapped, judged_near_fault, judged_site}
 use Rattle.limits.specs.declared.kind.Kind.TheVariants.{Concrete}
 use Rattle.limits.specs.declared.class.Class.TheVariants.{Hard}
@@ -56,7 +55,7 @@ abbrev light : Job
 light = sheet (1 ∷ 1 ∷ 1 ∷ [])
 
 both_accepted : IsAccepted worked × IsAccepted light
-unfolding judged_job judged_levels weighed raised within in_range among listed judged_site judged_profile judged_mapped judged_near_fault judged_class
+unfolding judged_job judged_levels weighed raised within in_range among listed judged_site judged_mapped judged_near_fault judged_class
     judged_frame judged_kind judged_period
 both_accepted = (refl, refl)
 

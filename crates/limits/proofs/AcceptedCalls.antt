@@ -53,7 +53,7 @@ distribution_allowed v t ws hs room e =
     let l = levels_allowed ws hs room levels.0 in (
       l.0,
       l.1,
-      record { shear = within_passed 1 1_400_000_000 v 19 0 handed.0; period = (within_passed 0 9_999 t 20 0 handed.1).1 },
+      record { shear = within_passed 1 1_200_000_000 v 19 0 handed.0; period = (within_passed 0 9_999 t 20 0 handed.1).1 },
     )
 
 -- ---- the levels of a job as a building: 50 levels of 20,000 kN are 1,000,000 kN
@@ -78,7 +78,7 @@ building_passes W h a = simp (range_passes 1 1_000_000 W 3 0 a.weight, range_pas
 
 handed_passes : (v t : ℕ) → AllowedHanded v t → judged_handed v t ≡ accepted tt
 unfolding judged_handed
-handed_passes v t a = simp (range_passes 1 1_400_000_000 v 19 0 a.shear, range_passes 0 9_999 t 20 0 (omega arith, a.period))
+handed_passes v t a = simp (range_passes 1 1_200_000_000 v 19 0 a.shear, range_passes 0 9_999 t 20 0 (omega arith, a.period))
 
 -- ---- what the judgment of ground and frame says, after that of the levels and after that of the building
 pub judged_job_lem : (G : GroundValues) (f : FrameValues) (ws hs : List ℕ) (room : ℕ) {o : Outcome Done} → o ≡ judged_levels ws hs room

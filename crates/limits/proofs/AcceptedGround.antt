@@ -15,7 +15,6 @@ use Rattle.limits.specs.Ranges.{within, listed}
 use Rattle.limits.proofs.Spread.{spread, listed_accepted}
 use Rattle.limits.proofs.Passed.{one_value, then_passed, bind_passed, within_passed}
 use Rattle.limits.specs.Class.{judged_class}
-use Rattle.limits.specs.Profile.{judged_profile}
 use Rattle.limits.specs.Site.{site_of, judged_mapped, judged_near_fault, judged_site}
 use Rattle.limits.specs.Zone.{judged_zone}
 
@@ -23,17 +22,16 @@ use Rattle.limits.specs.Zone.{judged_zone}
 pub site_allowed : (v : SiteValues) (s : Site) → judged_site v ≡ accepted s → AllowedSite s
 unfolding judged_site judged_mapped judged_near_fault spread
 site_allowed v s e =
-    let profile = bind_passed (judged_profile v.profile) _ e in
-    let mapped = then_passed (judged_mapped v) _ profile.2 in
+    let mapped = then_passed (judged_mapped v) _ e in
     let near = then_passed (judged_near_fault v) _ mapped.1 in
-    let class = bind_passed (judged_class v.class) (λ c. accepted (site_of v c profile.0)) near.1 in
+    let class = bind_passed (judged_class v.class) (λ c. accepted (site_of v c)) near.1 in
     let m1 = then_passed (listed (50 ∷ 60 ∷ 70 ∷ 80 ∷ []) v.ssd 5 1) _ mapped.0 in
     let m2 = then_passed (listed (30 ∷ 35 ∷ 40 ∷ 45 ∷ []) v.s1d 5 2) _ m1.1 in
     let m3 = then_passed (listed (70 ∷ 80 ∷ 90 ∷ 100 ∷ []) v.ssm 5 3) _ m2.1 in
     let n1 = then_passed (within 100 150 v.nad 6 1) _ near.0 in
     let n2 = then_passed (within 100 200 v.nvd 6 2) _ n1.1 in
     let n3 = then_passed (within 100 150 v.nam 6 3) _ n2.1 in
-    let same : site_of v class.0 profile.0 ≡ s = one_value class.2 in
+    let same : site_of v class.0 ≡ s = one_value class.2 in
     subst AllowedSite same
     (record {
       ssd = listed_accepted 50 80 v.ssd 5 1 _ refl m1.0;

@@ -1,6 +1,6 @@
 -- A job, a shear call and a distribution are given the first refusal that applies, in the order in which they are judged (`order`), and so 'the lowest
--- number that applies .., at its lowest place': on a site the first number is the lowest, but for 27, which is given before 5 to 12; in the Basin it is, but for 18, which
--- is given before 8 to 12; of the distribution it is. Where both hazard levels have one pair of near-fault factors, 6 is at place 1 or 2.
+-- number that applies .., at its lowest place': on a site the first number is the lowest; in the Basin it is, but for 18, which is given before 8 to 12; of
+-- the distribution it is. Where both hazard levels have one pair of near-fault factors, 6 is at place 1 or 2.
 -- Assumes nothing.
 use mathlib.Core.Path.{◌≡◌}
 use mathlib.Core.List.{List}
@@ -19,7 +19,7 @@ use Rattle.limits.specs.Handed.{judged_handed}
 use Rattle.limits.specs.Judging.{judged_job, judged_shear_call, judged_distribution}
 use Rattle.limits.specs.Levels.{judged_levels}
 use Rattle.limits.specs.Outcome.{Outcome, refused}
-use Rattle.limits.proofs.Ascending.{zone_between, profile_between, beside_first, lowest_or_zone, lowest_or_profile, lowest_handed}
+use Rattle.limits.proofs.Ascending.{lowest_first, lowest_or_zone, lowest_handed}
 use Rattle.limits.proofs.BuildingStage.{building_up_to, building_stops, building_told}
 use Rattle.limits.proofs.First.{first_refusal}
 use Rattle.limits.proofs.GivenStage.{given_first}
@@ -76,24 +76,16 @@ module _
     (F : ℕ → ℕ → Type 0) (low : (n p : ℕ) → F n p → (1 ≤ n) × (n ≤ 4)) (f : FrameValues)
     {X : Type 0} (o : Outcome X) (n p m q : ℕ) (e : o ≡ refused n p)
   where
-    pub lowest_number : (s : SiteValues) → FirstRefusal (GivenApplies F (Site s) f) o → GivenApplies F (Site s) f m q
-        → (n ≤ m) ⊎ ((n ≡ 27) × (5 ≤ m))
+    pub lowest_number : (s : SiteValues) → FirstRefusal (GivenApplies F (Site s) f) o → GivenApplies F (Site s) f m q → n ≤ m
     lowest_number s h a =
-        lowest_or_profile n m (h.first_number n p m q e a) (numbered F low f (h.refused_applies n p e)) (numbered F low f a)
+        let given = numbered F low f (h.refused_applies n p e) in
+        let other = numbered F low f a in
+        lowest_first n m (omega arith) (omega arith) (h.first_number n p m q e a)
 
     pub lowest_in_basin : (z : ℕ) → FirstRefusal (GivenApplies F (Basin z) f) o → GivenApplies F (Basin z) f m q
         → (n ≤ m) ⊎ ((n ≡ 18) × (8 ≤ m))
     lowest_in_basin z h a =
         lowest_or_zone n m (h.first_number n p m q e a) (numbered_basin F low f (h.refused_applies n p e)) (numbered_basin F low f a)
-
-    -- where 27 applies, no number from 5 on is given; where 18 does, none from 8 on
-    pub profile_foremost : (s : SiteValues) → FirstRefusal (GivenApplies F (Site s) f) o → GivenApplies F (Site s) f 27 q → (n ≤ 4) ⊎ (n ≡ 27)
-    profile_foremost s h a =
-        beside_first 4 27 5 12 (λ k l. profile_between.1 k (omega arith)) n (h.first_number n p 27 q e a) (numbered F low f (h.refused_applies n p e))
-
-    pub zone_foremost : (z : ℕ) → FirstRefusal (GivenApplies F (Basin z) f) o → GivenApplies F (Basin z) f 18 q → (n ≤ 4) ⊎ (n ≡ 18)
-    zone_foremost z h a =
-        beside_first 4 18 8 12 zone_between.1 n (h.first_number n p 18 q e a) (numbered_basin F low f (h.refused_applies n p e))
 
 -- and of the distribution
 pub lowest_distributed : (v t : ℕ) (ws hs : List ℕ) (room : ℕ) {X : Type 0} (o : Outcome X) (n p m q : ℕ) → o ≡ refused n p

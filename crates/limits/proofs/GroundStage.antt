@@ -1,4 +1,4 @@
--- The ground of a job, numbers 27 and 5 to 7 of a site or 18 of a zone: where one of them applies, the judgment of the ground is that refusal or
+-- The ground of a job, numbers 5 to 7 of a site or 18 of a zone: where one of them applies, the judgment of the ground is that refusal or
 -- one that comes no later.
 -- Assumes nothing.
 use mathlib.Core.Path.{refl}

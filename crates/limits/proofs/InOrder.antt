@@ -27,7 +27,7 @@ one_rank n m hn hm e = sym (stands_at order n hn) ∙ ap (λ (k : ℕ). get_or o
 ranked : ℕ → Bool
 ranked n = ltb (rank n) (length order)
 
--- 1 to 27, the numbers of jobs, of the two calls, of logs, of sheets, of districts, of drift, torsion and moments
-pub in_order : (n : ℕ) → (1 ≤ n) × (n ≤ 27) → InOrder n
+-- 1 to 26, the numbers of jobs, of the two calls, of logs, of sheets, of districts, of drift, torsion and moments
+pub in_order : (n : ℕ) → (1 ≤ n) × (n ≤ 26) → InOrder n
 unfolding ranked all_below
-in_order n h = ltb→lt (rank n) (length order) (all_from ranked 1 27 tt n h.0 (omega arith))
+in_order n h = ltb→lt (rank n) (length order) (all_from ranked 1 26 tt n h.0 (omega arith))

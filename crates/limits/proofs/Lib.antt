@@ -24,7 +24,6 @@ pub mod Places
 pub mod NotAllowed
 pub mod EachLevel
 pub mod LevelsStage
-pub mod ProfileStage
 pub mod SiteStage
 pub mod GroundStage
 pub mod FrameStage

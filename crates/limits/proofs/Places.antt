@@ -3,7 +3,7 @@
 -- Assumes nothing.
 use mathlib.Core.Path.{◌≡◌, refl, subst}
 use mathlib.Core.List.{List}
-use mathlib.Core.Logic.{◌⊎◌, inl, inr, ⊎_elim}
+use mathlib.Core.Logic.{◌⊎◌, inl, inr}
 use Prim.Native.Nat.{ℕ, ◌+◌, ◌≤◌, ◌<◌}
 use native.Mathlib.Omega.{arith}
 use Rattle.limits.specs.declared.frame.FrameValues.{FrameValues}
@@ -11,7 +11,7 @@ use Rattle.limits.specs.declared.ground.GroundValues.{GroundValues}
 use Rattle.limits.specs.declared.ground.GroundValues.TheVariants.{Site, Basin}
 use Rattle.limits.specs.declared.site.SiteValues.{SiteValues}
 use Rattle.limits.specs.Applies.{OutOf, count, lists, buffer, weight, height, rising, LevelsApply, of_count, of_lengths, of_weights, of_heights}
-use Rattle.limits.specs.Applies.{SiteApplies, ss_design, s1_design, ss_mce, s1_mce, na_design, nv_design, na_mce, nv_mce, class, profile, zone}
+use Rattle.limits.specs.Applies.{SiteApplies, ss_design, s1_design, ss_mce, s1_mce, na_design, nv_design, na_mce, nv_mce, class, zone}
 use Rattle.limits.specs.Applies.{GroundApplies, FrameApplies, r, i, alpha, kind, period, BuildingApplies, total, top}
 use Rattle.limits.specs.Applies.{base_shear, handed_period, of_first, of_ground, of_frame}
 use Rattle.limits.specs.Applies.{JobApplies, ShearCallApplies, DistributionApplies, of_levels, of_handed}
@@ -45,7 +45,6 @@ named_site (nv_design o) = inl (omega arith)
 named_site (na_mce o) = inl (omega arith)
 named_site (nv_mce o) = inl (omega arith)
 named_site (class o) = inr (inr (omega arith), refl)
-named_site (profile o) = inr (inr (omega arith), refl)
 
 named_ground : (G : GroundValues) {n p : ℕ} → GroundApplies G n p → NamedIn 5 6 n p
 named_ground (Site s) a = named_site a
@@ -65,7 +64,7 @@ from_three n p l (inr (inl h, e)) = absurd (let z : ⊥ = omega arith in z)
 from_three n p l (inr (inr h, e)) = inr (inr h, e)
 
 five_ground : (G : GroundValues) (n p : ℕ) → GroundApplies G n p → 5 ≤ n
-five_ground (Site s) n p a = ⊎_elim (λ e. omega arith) (λ h. h.0) (numbered_site a)
+five_ground (Site s) n p a = (numbered_site a).0
 five_ground (Basin z) n p (zone o) = omega arith
 
 -- ---- of each call
@@ -103,7 +102,6 @@ module _ (s : SiteValues) (na-same : s.nam ≡ s.nad) (nv-same : s.nvm ≡ s.nvd
   site_pair e (na_mce o) = (0, (omega arith, na_design (subst (OutOf 100 150) na-same o)))
   site_pair e (nv_mce o) = (1, (omega arith, nv_design (subst (OutOf 100 200) nv-same o)))
   site_pair e (class o) = absurd (let z : ⊥ = omega arith in z)
-  site_pair e (profile o) = absurd (let z : ⊥ = omega arith in z)
 
   pub one_pair_place : {f : FrameValues} {ws hs : List ℕ} {room p : ℕ} → JobApplies (Site s) f ws hs room 6 p
       → (i : ℕ) × ((i ≤ 1) × JobApplies (Site s) f ws hs room 6 (1 + i))

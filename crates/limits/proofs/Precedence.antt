@@ -82,12 +82,6 @@ module _ (n q : ℕ) where
   value_stops (accepted a) f y g = g a
   value_stops (refused m p) f y g = y
 
-  -- with what is known of the value
-  pub known_stops : {A B : Type 0} (o : Outcome A) (f : A → Outcome B) → Yields n q o → ((a : A) → o ≡ accepted a → Stops n q (f a))
-      → Stops n q (o >>= f)
-  known_stops (accepted a) f y g = g a refl
-  known_stops (refused m p) f y g = y
-
   pub both_yield : {A : Type 0} (o : Outcome Done) (r : Outcome A) → Yields n q o → Yields n q r → Yields n q (o >> r)
   both_yield (accepted u) r y z = z
   both_yield (refused m p) r y z = y

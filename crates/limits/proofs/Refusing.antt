@@ -15,7 +15,7 @@ use Rattle.limits.specs.declared.ground.GroundValues.{GroundValues}
 use Rattle.limits.specs.declared.ground.GroundValues.TheVariants.{Site, Basin}
 use Rattle.limits.specs.declared.site.SiteValues.{SiteValues}
 use Rattle.whole.specs.Cells.{below}
-use Rattle.limits.specs.Applies.{OutOf, NotListed, count, lists, buffer, weight, height, rising, LevelsApply, of_count, of_lengths, of_weights, of_heights, SiteApplies, ss_design, s1_design, ss_mce, s1_mce, na_design, nv_design, na_mce, nv_mce, class, profile, ZoneApplies, zone, GroundApplies, FrameApplies, r, i, alpha, kind, period}
+use Rattle.limits.specs.Applies.{OutOf, NotListed, count, lists, buffer, weight, height, rising, LevelsApply, of_count, of_lengths, of_weights, of_heights, SiteApplies, ss_design, s1_design, ss_mce, s1_mce, na_design, nv_design, na_mce, nv_mce, class, ZoneApplies, zone, GroundApplies, FrameApplies, r, i, alpha, kind, period}
 use Rattle.limits.specs.Kind.{judged_kind}
 use Rattle.limits.specs.Frame.{judged_period, judged_frame}
 use Rattle.limits.specs.Ground.{judged_ground}
@@ -24,11 +24,9 @@ use Rattle.limits.specs.Levels.{counted, judged_weight, weighed, judged_height, 
 use Rattle.limits.specs.Outcome.{require}
 use Rattle.limits.specs.Ranges.{among, within, listed}
 use Rattle.limits.specs.Class.{judged_class}
-use Rattle.limits.specs.Profile.{judged_profile}
 use Rattle.limits.specs.Site.{judged_mapped, judged_near_fault, judged_site}
 use Rattle.limits.specs.Zone.{judged_zone}
 use Rattle.limits.proofs.Passed.{differ}
-use Rattle.limits.proofs.ProfileStage.{profile_told}
 use Rattle.limits.proofs.Told.{Told, then_told, bind_told, require_told, within_told}
 
 -- ---- values that are not listed
@@ -95,8 +93,7 @@ module _ (s : SiteValues) where
   site_told : Told S (judged_site s)
   unfolding judged_site judged_mapped judged_near_fault judged_class
   site_told =
-      bind_told S (judged_profile s.profile) _ (profile_told s.profile S profile)
-      (λ _. then_told S (judged_mapped s) _
+      then_told S (judged_mapped s) _
       (then_told S (listed (50 ∷ 60 ∷ 70 ∷ 80 ∷ []) s.ssd 5 1) _ (listed_told S _ s.ssd 5 1 ss_design)
       (λ _. then_told S (listed (30 ∷ 35 ∷ 40 ∷ 45 ∷ []) s.s1d 5 2) _ (listed_told S _ s.s1d 5 2 s1_design)
       (λ _. then_told S (listed (70 ∷ 80 ∷ 90 ∷ 100 ∷ []) s.ssm 5 3) _ (listed_told S _ s.ssm 5 3 ss_mce)
@@ -111,7 +108,7 @@ module _ (s : SiteValues) where
       (λ e₁. by_test (Told S) (eqb s.class 2) _ _ (λ _. tt)
       (λ e₂. by_test (Told S) (eqb s.class 3) _ _ (λ _. tt)
       (λ e₃. class (eqb-false _ _ e₁, (eqb-false _ _ e₂, (eqb-false _ _ e₃, tt)))))))
-      (λ _. tt))))
+      (λ _. tt)))
 
 -- ---- the zone, and the ground
 pub zone_told : (z : ℕ) → Told (ZoneApplies z) (judged_zone z)

@@ -1,4 +1,4 @@
--- The site of a job, numbers 27 and 5 to 7: where one of them applies, the judgment of the site is that refusal or one that comes no later.
+-- The site of a job, numbers 5 to 7: where one of them applies, the judgment of the site is that refusal or one that comes no later.
 -- Assumes nothing.
 use mathlib.Core.Path.{refl}
 use mathlib.Core.List.{List, [], ◌∷◌}
@@ -9,15 +9,13 @@ use lib.Dec.{eqb}
 use borrow.Author.Tests.{ne_eqb}
 use Rattle.whole.proofs.Choice.{by_test}
 use Rattle.limits.specs.declared.site.SiteValues.{SiteValues}
-use Rattle.limits.specs.Applies.{OutOf, NotListed, SiteApplies, ss_design, s1_design, ss_mce, s1_mce, na_design, nv_design, na_mce, nv_mce, class, profile}
+use Rattle.limits.specs.Applies.{OutOf, NotListed, SiteApplies, ss_design, s1_design, ss_mce, s1_mce, na_design, nv_design, na_mce, nv_mce, class}
 use Rattle.limits.specs.Order.{Before}
 use Rattle.limits.specs.Ranges.{within, listed}
 use Rattle.limits.specs.Class.{judged_class}
-use Rattle.limits.specs.Profile.{judged_profile}
 use Rattle.limits.specs.Site.{judged_mapped, judged_near_fault, judged_site}
-use Rattle.limits.proofs.Precedence.{Stops, Yields, UpTo, up_to_more, up_to_yields, both_up_to, bound_up_to, within_up_to, first_stops, later_stops, bound_stops, value_stops, within_yields}
+use Rattle.limits.proofs.Precedence.{Stops, Yields, UpTo, up_to_more, up_to_yields, both_up_to, bound_up_to, within_up_to, first_stops, later_stops, bound_stops, within_yields}
 use Rattle.limits.proofs.NotAllowed.{range_stops, listed_yields, listed_stops, listed_up_to}
-use Rattle.limits.proofs.ProfileStage.{profile_up_to, profile_stops}
 
 -- a mapped value comes after those before it in sheet order
 mapped_before : (vs : List ℕ) (x q p : ℕ) → 1 ≤ p → p ≤ q → Yields 5 q (listed vs x 5 p)
@@ -46,28 +44,18 @@ module _ (s : SiteValues) where
   pub site_up_to : UpTo 7 (judged_site s)
   unfolding judged_site judged_class
   site_up_to =
-      bound_up_to 7 (judged_profile s.profile) _ (up_to_more 27 7 (judged_profile s.profile) (profile_up_to s.profile) (omega arith))
-      (λ _. both_up_to 7 (judged_mapped s) _ (up_to_more 5 7 (judged_mapped s) mapped_up_to (omega arith))
+      both_up_to 7 (judged_mapped s) _ (up_to_more 5 7 (judged_mapped s) mapped_up_to (omega arith))
       (both_up_to 7 (judged_near_fault s) _ (up_to_more 6 7 (judged_near_fault s) near_fault_up_to (omega arith))
       (bound_up_to 7 (judged_class s.class) _
       (by_test (UpTo 7) (eqb s.class 1) _ _ (λ _. tt)
       (λ _. by_test (UpTo 7) (eqb s.class 2) _ _ (λ _. tt)
       (λ _. by_test (UpTo 7) (eqb s.class 3) _ _ (λ _. tt) (λ _. omega arith))))
-      (λ _. tt))))
-
-  -- ---- the profile, and what is judged after it
-  profile_first : NotListed (1 ∷ 2 ∷ []) s.profile → Stops 27 0 (judged_site s)
-  unfolding judged_site
-  profile_first o = bound_stops 27 0 (judged_profile s.profile) _ (profile_stops s.profile o)
-
-  after_profile : (n q : ℕ) → Before 27 n → Yields n q (judged_profile s.profile)
-  after_profile n q h = up_to_yields 27 n q (judged_profile s.profile) (profile_up_to s.profile) h
+      (λ _. tt)))
 
   -- ---- mapped values
   mapped_stops : (q : ℕ) → Stops 5 q (judged_mapped s) → Stops 5 q (judged_site s)
   unfolding judged_site
-  mapped_stops q t =
-      value_stops 5 q (judged_profile s.profile) _ (after_profile 5 q (omega arith)) (λ _. first_stops 5 q (judged_mapped s) _ t)
+  mapped_stops q t = first_stops 5 q (judged_mapped s) _ t
 
   ss_design_stops : NotListed (50 ∷ 60 ∷ 70 ∷ 80 ∷ []) s.ssd → Stops 5 1 (judged_site s)
   unfolding judged_mapped
@@ -106,9 +94,8 @@ module _ (s : SiteValues) where
   near_fault_stops : (q : ℕ) → Stops 6 q (judged_near_fault s) → Stops 6 q (judged_site s)
   unfolding judged_site
   near_fault_stops q t =
-      value_stops 6 q (judged_profile s.profile) _ (after_profile 6 q (omega arith))
-      (λ _. later_stops 6 q (judged_mapped s) _ (up_to_yields 5 6 q (judged_mapped s) mapped_up_to (omega arith))
-      (λ _. first_stops 6 q (judged_near_fault s) _ t))
+      later_stops 6 q (judged_mapped s) _ (up_to_yields 5 6 q (judged_mapped s) mapped_up_to (omega arith))
+      (λ _. first_stops 6 q (judged_near_fault s) _ t)
 
   na_design_stops : OutOf 100 150 s.nad → Stops 6 1 (judged_site s)
   unfolding judged_near_fault
@@ -144,11 +131,10 @@ module _ (s : SiteValues) where
   class_stops : NotListed (1 ∷ 2 ∷ 3 ∷ []) s.class → Stops 7 0 (judged_site s)
   unfolding judged_site judged_class
   class_stops o =
-      value_stops 7 0 (judged_profile s.profile) _ (after_profile 7 0 (omega arith))
-      (λ _. later_stops 7 0 (judged_mapped s) _ (up_to_yields 5 7 0 (judged_mapped s) mapped_up_to (omega arith))
+      later_stops 7 0 (judged_mapped s) _ (up_to_yields 5 7 0 (judged_mapped s) mapped_up_to (omega arith))
       (λ _. later_stops 7 0 (judged_near_fault s) _ (up_to_yields 6 7 0 (judged_near_fault s) near_fault_up_to (omega arith))
       (λ _. bound_stops 7 0 (judged_class s.class) _
-      (rw (ne_eqb s.class 1 o.0, ne_eqb s.class 2 o.1.0, ne_eqb s.class 3 o.1.1.0) (inr (refl, inl refl))))))
+      (rw (ne_eqb s.class 1 o.0, ne_eqb s.class 2 o.1.0, ne_eqb s.class 3 o.1.1.0) (inr (refl, inl refl)))))
 
   -- where one applies, and which numbers they are
   pub site_stops : (n q : ℕ) → SiteApplies s n q → Stops n q (judged_site s)
@@ -161,7 +147,6 @@ module _ (s : SiteValues) where
   site_stops n q (na_mce o) = na_mce_stops o
   site_stops n q (nv_mce o) = nv_mce_stops o
   site_stops n q (class o) = class_stops o
-  site_stops n q (profile o) = profile_first o
 
   pub site_later : (n q : ℕ) → SiteApplies s n q → Before 4 n
   site_later n q (ss_design o) = omega arith
@@ -173,4 +158,3 @@ module _ (s : SiteValues) where
   site_later n q (na_mce o) = omega arith
   site_later n q (nv_mce o) = omega arith
   site_later n q (class o) = omega arith
-  site_later n q (profile o) = omega arith

@@ -24,11 +24,6 @@ module _ (Applies : ℕ → ℕ → Type 0) where
   bind_told (accepted a) f t g = g a
   bind_told (refused n p) f t g = t
 
-  -- with what is known of the value
-  pub value_told : {A B : Type 0} (o : Outcome A) (f : A → Outcome B) → Told o → ((a : A) → o ≡ accepted a → Told (f a)) → Told (o >>= f)
-  value_told (accepted a) f t g = g a refl
-  value_told (refused n p) f t g = t
-
   pub require_told : (t : Bool) (n p : ℕ) → (t ≡ false → Applies n p) → Told (require t n p)
   require_told true n p f = tt
   require_told false n p f = f refl

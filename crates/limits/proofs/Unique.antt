@@ -22,9 +22,6 @@ use Rattle.limits.specs.declared.refusal.Verdict.TheVariants.{Passed, Refused as
 use Rattle.limits.specs.declared.class.Class.{Class}
 use Rattle.limits.specs.declared.class.ClassAnswer.{ClassAnswer}
 use Rattle.limits.specs.declared.class.ClassAnswer.TheVariants.{Taken as TakenClass, Refused as RefusedClass}
-use Rattle.limits.specs.declared.profile.Profile.{Profile}
-use Rattle.limits.specs.declared.profile.ProfileAnswer.{ProfileAnswer}
-use Rattle.limits.specs.declared.profile.ProfileAnswer.TheVariants.{Taken as TakenProfile, Refused as RefusedProfile}
 use Rattle.limits.specs.declared.site.Site.{Site}
 use Rattle.limits.specs.declared.site.SiteAnswer.{SiteAnswer}
 use Rattle.limits.specs.declared.site.SiteAnswer.TheVariants.{Taken as TakenSite, Refused as RefusedSite}
@@ -38,7 +35,6 @@ use Rattle.limits.specs.Judging.{given_outcome}
 use Rattle.limits.specs.Levels.{level_outcome}
 use Rattle.limits.specs.Outcome.{Outcome, accepted, refused, Done, verdict_outcome}
 use Rattle.limits.specs.Class.{class_outcome}
-use Rattle.limits.specs.Profile.{profile_outcome}
 use Rattle.limits.specs.Site.{site_outcome}
 use Rattle.limits.specs.Zone.{zone_outcome}
 
@@ -58,9 +54,6 @@ verdict_unique = one_answer verdict_outcome (λ _. Passed) RefusedVerdict (λ x.
 
 pub class_unique : {a b : ClassAnswer} {o : Outcome Class} → class_outcome a ≡ o → class_outcome b ≡ o → a ≡ b
 class_unique = one_answer class_outcome TakenClass RefusedClass (λ x. elim x [ TakenClass c ↦ refl | RefusedClass r ↦ refl ])
-
-pub profile_unique : {a b : ProfileAnswer} {o : Outcome Profile} → profile_outcome a ≡ o → profile_outcome b ≡ o → a ≡ b
-profile_unique = one_answer profile_outcome TakenProfile RefusedProfile (λ x. elim x [ TakenProfile p ↦ refl | RefusedProfile r ↦ refl ])
 
 pub site_unique : {a b : SiteAnswer} {o : Outcome Site} → site_outcome a ≡ o → site_outcome b ≡ o → a ≡ b
 site_unique = one_answer site_outcome TakenSite RefusedSite (λ x. elim x [ TakenSite s ↦ refl | RefusedSite r ↦ refl ])

@@ -60,5 +60,5 @@ pub record AllowedShearCall (g : Given) (W h : ℕ) : Type 0 where
   pub building : AllowedBuilding W h
 
 pub record AllowedHanded (v t : ℕ) : Type 0 where
-  pub shear : (1 ≤ v) × (v ≤ 1_400_000_000)
+  pub shear : (1 ≤ v) × (v ≤ 1_200_000_000)
   pub period : t ≤ 9_999

@@ -1,4 +1,4 @@
--- When each refusal of a job, of the shear call, of the distribution and of a district applies: 'What comes back when data is bad', 1 to 12, 18 to 22 and 27,
+-- When each refusal of a job, of the shear call, of the distribution and of a district applies: 'What comes back when data is bad', 1 to 12 and 18 to 22,
 -- part by part, then of each call. Refusal n applies at place p. Level x, from 0, has place 1 + x.
 --   OutOf least most x           x is not from least to most
 --   NotListed vs x               x is none of the values
@@ -7,9 +7,9 @@
 --   WeightApplies ws n p         3: a weight
 --   HeightApplies hs n p         4: a height, or one that does not rise
 --   LevelsApply ws hs room n p   1 to 4: any of these
---   SiteApplies s n p            27 and 5 to 7: of a site
+--   SiteApplies s n p            5 to 7: of a site
 --   ZoneApplies z n p            18: of a zone of the Taipei Basin
---   GroundApplies G n p          of a ground G: 27 and 5 to 7 of a site, 18 of a zone
+--   GroundApplies G n p          of a ground G: 5 to 7 of a site, 18 of a zone
 --   FrameApplies f n p           8 to 12: of a frame
 --   BuildingApplies W h n p      3 and 4 of the shear call: a total weight, a top height
 --   HandedApplies v t n p        19 and 20: a base shear and a period that are handed in
@@ -57,7 +57,6 @@ pub data LevelsApply (ws hs : List ℕ) (room n p : ℕ) : Type 0 where
   of_heights : HeightApplies hs n p → LevelsApply ws hs room n p
 
 pub data SiteApplies (s : SiteValues) : ℕ → ℕ → Type 0 where
-  profile : NotListed (1 ∷ 2 ∷ []) s.profile → SiteApplies s 27 0
   ss_design : NotListed (50 ∷ 60 ∷ 70 ∷ 80 ∷ []) s.ssd → SiteApplies s 5 1
   s1_design : NotListed (30 ∷ 35 ∷ 40 ∷ 45 ∷ []) s.s1d → SiteApplies s 5 2
   ss_mce : NotListed (70 ∷ 80 ∷ 90 ∷ 100 ∷ []) s.ssm → SiteApplies s 5 3
@@ -87,7 +86,7 @@ pub data BuildingApplies (W h : ℕ) : ℕ → ℕ → Type 0 where
   top : OutOf 1 2_000 h → BuildingApplies W h 4 0
 
 pub data HandedApplies (v t : ℕ) : ℕ → ℕ → Type 0 where
-  base_shear : OutOf 1 1_400_000_000 v → HandedApplies v t 19 0
+  base_shear : OutOf 1 1_200_000_000 v → HandedApplies v t 19 0
   handed_period : OutOf 0 9_999 t → HandedApplies v t 20 0
 
 pub data GivenApplies (F : ℕ → ℕ → Type 0) (G : GroundValues) (f : FrameValues) (n p : ℕ) : Type 0 where

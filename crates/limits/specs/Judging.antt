@@ -1,5 +1,5 @@
 -- All that is judged of a job, of the two calls that it is parted into and of a row of a district, in order. room is the length of the shortest result buffer.
---   judged_given o G f                    after a first judgment o: ground (27 and 5 to 7 of a site, 18 of a zone), frame (8 to 12); the judged ones, or
+--   judged_given o G f                    after a first judgment o: ground (5 to 7 of a site, 18 of a zone), frame (8 to 12); the judged ones, or
 --                                        the first refusal
 --   judged_job G f ws hs room             of a job: levels (1 to 4), ground, frame
 --   judged_shear_call G f W h              of the shear call: total weight (3), top height (4), ground, frame

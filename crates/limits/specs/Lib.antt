@@ -11,7 +11,6 @@ pub mod DriftLimit
 pub mod Floor
 pub mod Plan
 pub mod Class
-pub mod Profile
 pub mod Site
 pub mod Zone
 pub mod Ground

@@ -1,23 +1,21 @@
--- Numbers 27 and 5 to 7: the site.
+-- Numbers 5 to 7: the site.
 --   judged_mapped v       5: a mapped value that is not listed, places 1 to 4 in sheet order
 --   judged_near_fault v    6: N_A not 1.00 to 1.50, place 1; N_V not 1.00 to 2.00, place 2; those of the MCE level, places 3 and 4
---   site_of v c p         the judged site of values v, class c and profile p
---   judged_site v         27, 5, 6, 7 in turn
+--   site_of v c           the judged site of values v and class c
+--   judged_site v         5, 6, 7 in turn
 --   site_outcome a        what the code's answer a says
 use Rattle.std.specs.Prelude.{[], ◌∷◌}
 use Rattle.limits.specs.declared.class.Class.{Class}
-use Rattle.limits.specs.declared.profile.Profile.{Profile}
 use Rattle.limits.specs.declared.site.Site.{Site}
 use Rattle.limits.specs.declared.site.SiteAnswer.{SiteAnswer}
 use Rattle.limits.specs.declared.site.SiteAnswer.TheVariants.{Taken, Refused}
 use Rattle.limits.specs.declared.site.SiteValues.{SiteValues}
 use Rattle.limits.specs.Class.{judged_class}
-use Rattle.limits.specs.Profile.{judged_profile}
 use Rattle.limits.specs.Outcome.{Outcome, accepted, refused, Done, ◌>>=◌, ◌>>◌}
 use Rattle.limits.specs.Ranges.{within, listed}
 
-abbrev pub site_of : SiteValues → Class → Profile → Site
-site_of v c p =
+abbrev pub site_of : SiteValues → Class → Site
+site_of v c =
     record {
       ssd = v.ssd;
       s1d = v.s1d;
@@ -28,7 +26,6 @@ site_of v c p =
       nam = v.nam;
       nvm = v.nvm;
       class = c;
-      profile = p;
     }
 
 unfoldable pub judged_mapped : SiteValues → Outcome Done
@@ -47,11 +44,10 @@ judged_near_fault v = do
 
 unfoldable pub judged_site : SiteValues → Outcome Site
 judged_site v = do
-  p ← judged_profile v.profile
   judged_mapped v
   judged_near_fault v
   c ← judged_class v.class
-  accepted (site_of v c p)
+  accepted (site_of v c)
 
 abbrev pub site_outcome : SiteAnswer → Outcome Site
 site_outcome (Taken s) = accepted s

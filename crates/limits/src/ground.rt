@@ -1,4 +1,4 @@
-// The ground of a job: a site, or a zone of the Taipei Basin; 27 and 5 to 7, or 18 in their place.
+// The ground of a job: a site, or a zone of the Taipei Basin; 5 to 7, or 18 in their place.
 ghost use Rattle.std.specs.Prelude.{◌≡◌};
 ghost use Rattle.limits.specs.Ground.{judged_on_site, judged_in_basin, judged_ground, ground_outcome};
 ghost use Rattle.limits.specs.Outcome.{refusal_of};
@@ -40,7 +40,7 @@ impl GroundAnswer {
 }
 
 impl Ground {
-    // 27 and 5 to 7 of a site, 18 of a zone.
+    // 5 to 7 of a site, 18 of a zone.
     pub fn judged(v: GroundValues) -> GroundAnswer
         ensures { ground_outcome result ≡ judged_ground v }
     {

@@ -16,7 +16,7 @@ pub struct Handed {
 impl Handed {
     pub const SHEAR_LEAST: u64 = 1;
 
-    pub const SHEAR_MOST: u64 = 1_400_000_000;
+    pub const SHEAR_MOST: u64 = 1_200_000_000;
 
     pub const PERIOD_LEAST: u64 = 0;
 

@@ -18,7 +18,6 @@ pub mod lengths;
 pub mod level;
 pub mod levels;
 pub mod plan;
-pub mod profile;
 pub mod ranges;
 pub mod refusal;
 pub mod sheet;

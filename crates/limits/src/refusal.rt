@@ -63,8 +63,6 @@ impl Refusal {
     pub const AVERAGE: u64 = 25;
     // a plan dimension out of range
     pub const DIMENSION: u64 = 26;
-    // profile not 1 or 2
-    pub const PROFILE: u64 = 27;
     // the place of a refusal for which none is named
     pub const NOWHERE: u64 = 0;
 

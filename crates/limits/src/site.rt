@@ -1,16 +1,15 @@
-// The site line of a job: mapped values, near-fault factors, class and profile, with their limits and their judgments, 27 and 5 to 7.
+// The site line of a job: mapped values, near-fault factors and class, with their limits and their judgments, 5 to 7.
 ghost use Rattle.std.specs.Prelude.{◌≡◌};
 ghost use Rattle.limits.specs.Site.{judged_mapped, judged_near_fault, judged_site, site_outcome};
 ghost use Rattle.limits.specs.Outcome.{refusal_of, verdict_outcome};
 ghost use Rattle.limits.specs.Ranges.{within, listed};
 
 use crate::class::{Class, ClassAnswer};
-use crate::profile::{Profile, ProfileAnswer};
 use crate::ranges::{listed, within};
 use crate::refusal::{Refusal, Verdict};
 
 // The site line as it comes: S_S and S_1 of the design level, S_S and S_1 of the MCE level, in 0.01 g; N_A and N_V of the
-// design level, N_A and N_V of the MCE level, in 0.01; class; profile.
+// design level, N_A and N_V of the MCE level, in 0.01; class.
 #[derive(Drop)]
 pub struct SiteValues {
     pub ssd: u64,
@@ -22,7 +21,6 @@ pub struct SiteValues {
     pub nam: u64,
     pub nvm: u64,
     pub class: u64,
-    pub profile: u64,
 }
 
 // The site line, judged.
@@ -37,7 +35,6 @@ pub struct Site {
     pub nam: u64,
     pub nvm: u64,
     pub class: Class,
-    pub profile: Profile,
 }
 
 #[derive(Drop)]
@@ -148,14 +145,10 @@ impl Site {
         within(Self::NV_LEAST, Self::NV_MOST, x, Refusal::NEAR_FAULT, place)
     }
 
-    // 27, 5, 6, 7 in turn.
+    // 5, 6, 7 in turn.
     pub fn judged(v: SiteValues) -> SiteAnswer
         ensures { site_outcome result ≡ judged_site v }
     {
-        let p = Profile::judged(v.profile);
-        let ProfileAnswer::Taken(profile) = p else {
-            return SiteAnswer::Refused(p.refusal());
-        };
         let m = Self::judged_mapped(v);
         let Verdict::Passed = m else {
             return SiteAnswer::Refused(m.refusal());
@@ -178,7 +171,6 @@ impl Site {
             nam: v.nam,
             nvm: v.nvm,
             class,
-            profile,
         })
     }
 }

@@ -24,8 +24,7 @@ use Rattle.job.specs.ShearCall.{five, answer_outcome}
 use Rattle.job.proofs.Calls.{answer_of, says_outcome}
 use Rattle.job.proofs.FirstRefusal.{job_first}
 use Rattle.sheet.proofs.Foremost.{applies_in_order, sheet_first}
-use Rattle.sheet.proofs.AlikeLines.{site_sheet}
-use Rattle.sheet.proofs.OnePair.{accepted_repeated}
+use Rattle.sheet.proofs.OnePair.{site_sheet, accepted_repeated}
 use Rattle.sheet.specs.declared.Put.{Put}
 use Rattle.sheet.specs.Laid.{site_line}
 use Rattle.sheet.specs.Layouts.{LaidLine}
@@ -100,9 +99,9 @@ module _ (G : GroundValues) (m ws hs : List ℕ) where
   one_figures_reply p q = replies_unique p q
 
 -- `rukeshomaji_site_class`
-pub one_log_reply : (x : ℕ) (ds ks xs : List ℕ) {n n' : ℕ} {r r' : List ℕ} → LogReplies x ds ks xs n r → LogReplies x ds ks xs n' r'
+pub one_log_reply : (ds ks xs : List ℕ) {n n' : ℕ} {r r' : List ℕ} → LogReplies ds ks xs n r → LogReplies ds ks xs n' r'
     → (n ≡ n') × (r ≡ r')
-one_log_reply x ds ks xs p q = replies_unique p q
+one_log_reply ds ks xs p q = replies_unique p q
 
 -- `rukeshomaji_sheet`
 pub sheet_replies : (s : List ℕ) {old held : List ℕ} (p : Put) → Puts (outcome_of s) old held p

@@ -27,15 +27,15 @@ use Rattle.linked.proofs.Replies.{refused_number}
 
 pub record Behind (h cs : List ℕ) (i : ℕ) (out : List ℕ) : Type 0 where
   pub from : 6 ≤ i
-  pub most : i ≤ 139
-  pub size : length out ≡ 139
+  pub most : i ≤ 119
+  pub size : length out ≡ 119
   pub held : take i out ≡ h ++ take (i - 6) cs
 
-pub behind_none : (h cs out : List ℕ) → length out ≡ 139 → take 6 out ≡ h → Behind h cs 6 out
+pub behind_none : (h cs out : List ℕ) → length out ≡ 119 → take 6 out ≡ h → Behind h cs 6 out
 behind_none h cs out n e =
     record { from = omega arith; most = omega arith; size = n; held = e ∙ sym (append-nil h) }
 
-pub behind_more : (h cs : List ℕ) (i : ℕ) (out : List ℕ) → length cs ≡ 133 → i < 139 → Behind h cs i out
+pub behind_more : (h cs : List ℕ) (i : ℕ) (out : List ℕ) → length cs ≡ 113 → i < 119 → Behind h cs i out
     → Behind h cs (i + 1) (set out i (get_or cs (i - 6) 0))
 behind_more h cs i out n l r =
     let j : suc (i - 6) ≡ i + 1 - 6 = omega (arith, r.from) in
@@ -52,12 +52,12 @@ behind_more h cs i out n l r =
           ∙ ap (λ (k : ℕ). h ++ take k cs) j;
     }
 
-pub behind_all : (h cs : List ℕ) (i : ℕ) (out : List ℕ) → length cs ≡ 133 → 139 ≤ i → Behind h cs i out → out ≡ h ++ cs
+pub behind_all : (h cs : List ℕ) (i : ℕ) (out : List ℕ) → length cs ≡ 113 → 119 ≤ i → Behind h cs i out → out ≡ h ++ cs
 behind_all h cs i out n l r =
     sym (take_all i out (omega (arith, r.size))) ∙ r.held ∙ ap (λ (p : List ℕ). h ++ p) (take_all (i - 6) cs (omega (arith, n)))
 
 -- six numbers stored one after the other
-pub six_set : (a b c d e f : ℕ) (out : List ℕ) → length out ≡ 139
+pub six_set : (a b c d e f : ℕ) (out : List ℕ) → length out ≡ 119
     → take 6 (set (set (set (set (set (set out 0 a) 1 b) 2 c) 3 d) 4 e) 5 f) ≡ a ∷ b ∷ c ∷ d ∷ e ∷ f ∷ []
 six_set a b c d e f [] n = absurd (let z : ⊥ = omega arith in z)
 six_set a b c d e f (_ ∷ []) n = absurd (let z : ⊥ = omega arith in z)

@@ -2,9 +2,9 @@
 --   Replies f k o n r             n is the number of the outcome o; r is its place, then the values f, k zeros where data is refused
 --   FiguresReply o, ClassReply o, TorsionReply o    of figures: V, V_M, V*, V_D and T; of a class: its number; of torsion: its factor
 --   LaidReplies lay o old n p held    n is the number of the outcome o, p its place; held is what is held that held old, where a value x is laid by `lay x`
---   on_site l, in_basin z           the ground of the ten numbers l of a site, and of a zone z
+--   on_site l, in_basin z           the ground of the nine numbers l of a site, and of a zone z
 --   JobReplies g m ws hs b n r b'   so for the job of a ground g and a frame line m; b' is what the buffers hold that held b
---   FiguresReplies, LogReplies    so for the five figures alone, and for a soil log by a profile
+--   FiguresReplies, LogReplies    so for the five figures alone, and for a soil log
 --   ShearCallReplies g m W h n r  so for the shear call of a total weight W and a top height h
 --   DistributionReplies v T ws hs b n p b'    n is the number of the distribution of a base shear v at a period T, p its place; b' is what the buffers
 --                                 hold that held b
@@ -22,7 +22,7 @@ use Rattle.limits.specs.declared.ground.GroundValues.{GroundValues}
 use Rattle.limits.specs.declared.ground.GroundValues.TheVariants.{Site, Basin}
 use Rattle.limits.specs.Outcome.{Outcome, number, place, values}
 use Rattle.base_shear.specs.declared.Figures.{Figures}
-use Rattle.soil.specs.Class.{limits_of, class_number}
+use Rattle.soil.specs.Class.{table3, class_number}
 use Rattle.soil.specs.Log.{site_class}
 use Rattle.job.specs.Distribution.{distribution_of, Buffers, shortest, filled}
 use Rattle.job.specs.Job.{job_of, figures_only, written}
@@ -100,8 +100,8 @@ TorsionReplies l a n r = TorsionReply (torsion_of l a) n r
 abbrev pub MomentsReplies : ℕ → ℕ → List ℕ → List ℕ → ℕ → MomentBuffers → ℕ → ℕ → MomentBuffers → Type 0
 MomentsReplies v T ws hs d b n p b' = LaidReplies laid_each_way (moments_of v T ws hs d (shorter b)) b n p b'
 
-abbrev pub LogReplies : ℕ → List ℕ → List ℕ → List ℕ → ℕ → List ℕ → Type 0
-LogReplies p ds ks xs n r = ClassReply (site_class limits_of p ds ks xs) n r
+abbrev pub LogReplies : List ℕ → List ℕ → List ℕ → ℕ → List ℕ → Type 0
+LogReplies ds ks xs n r = ClassReply (site_class table3 ds ks xs) n r
 
 pub record SheetReplies (s old : List ℕ) (n : ℕ) (held r : List ℕ) : Type 0 where
   pub returned : n ≡ number (outcome_of s)
@@ -109,10 +109,10 @@ pub record SheetReplies (s old : List ℕ) (n : ℕ) (held r : List ℕ) : Type 
   pub listed : held ≡ laid (sheet_listing s) old
 
 abbrev pub version : ℕ
-version = 3_000_000
+version = 2_006_000
 
 abbrev pub edition : ℕ
 edition = 2_005
 
 abbrev pub source : ℕ
-source = 7
+source = 6

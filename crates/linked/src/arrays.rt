@@ -14,12 +14,9 @@ use limits::class::{Class, ClassAnswer};
 use limits::frame::FrameValues;
 use limits::site::SiteValues;
 
-// How many numbers a site has.
-pub const SITE: usize = 10;
-
-// A sheet's site line with a pair for each hazard level and the profile: S_S and S_1 of the design level, S_S and S_1 of the MCE level, in 0.01 g; N_A and
-// N_V of the design level, N_A and N_V of the MCE level, in 0.01; class; profile.
-pub fn site_values(l: &[u64; SITE]) -> SiteValues
+// A sheet's site line with a pair for each hazard level: S_S and S_1 of the design level, S_S and S_1 of the MCE level, in 0.01 g; N_A and N_V of
+// the design level, N_A and N_V of the MCE level, in 0.01; class.
+pub fn site_values(l: &[u64; 9]) -> SiteValues
     ensures { result ≡ site_values l.now }
 {
     SiteValues {
@@ -32,7 +29,6 @@ pub fn site_values(l: &[u64; SITE]) -> SiteValues
         nam: l[6],
         nvm: l[7],
         class: l[8],
-        profile: l[9],
     }
 }
 
@@ -115,7 +111,7 @@ pub const REPORT: usize = TOTALS + CELLS;
 
 // Jobs accepted and refused; the sum of V_D in N; how often V, V_M and V* governed; the cells.
 pub fn put_report(out: &mut [u64], r: Report)
-    requires { (length out.old ≡ 139) × (length r.cells ≡ 133) }
+    requires { (length out.old ≡ 119) × (length r.cells ≡ 113) }
     ensures { out.new ≡ report_numbers r }
 {
     let t = r.totals;

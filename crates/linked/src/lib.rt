@@ -1,9 +1,7 @@
 // The entries as a program in C, or in any language that calls C, sees them: pointers and 64-bit numbers alone. Each returns the number
 // of its refusal, 0 on success, and answers through an array that the caller lends, whose every cell is written; the distribution, drift and
 // the accidental moments through a cell for the place.
-use arrays::{
-    REPORT, SITE, frame_values, put_class, put_figures, put_report, put_torsion, site_values,
-};
+use arrays::{REPORT, frame_values, put_class, put_figures, put_report, put_torsion, site_values};
 use district_call::district;
 use district_call::entered::JOB;
 use district_call::row::ROW;
@@ -19,18 +17,18 @@ ghost use Rattle.std.specs.Prelude.{◌≡◌};
 ghost use Rattle.linked.specs.Linked.{on_site, in_basin, JobReplies, FiguresReplies, ShearCallReplies, DistributionReplies, DistrictReplies, DriftReplies, TorsionReplies, MomentsReplies, LogReplies, SheetReplies, version, edition, source};
 
 // The version of the library: 1,000,000 times the major number, 1,000 times the minor one, and the last.
-pub const VERSION: u64 = 3_000_000;
+pub const VERSION: u64 = 2_006_000;
 
 // The edition of the code: Taiwan's of 2005.
 pub const EDITION: u64 = 2_005;
 
 // The state of the rules (CHANGELOG.md says what each number has). A change of what any call answers takes the next number.
-pub const SOURCE: u64 = 7;
+pub const SOURCE: u64 = 6;
 
 // The job on a site: a force, a shear and an overturning moment of each level in the lent buffers, place and figures in `figures`.
 #[unsafe(no_mangle)]
 pub extern "C" fn rukeshomaji_job(
-    site: &[u64; SITE],
+    site: &[u64; 9],
     frame: &[u64; 5],
     weights: &[u64],
     heights: &[u64],
@@ -50,7 +48,7 @@ pub extern "C" fn rukeshomaji_job(
 // The five figures of a job on a site, with no buffer to write to.
 #[unsafe(no_mangle)]
 pub extern "C" fn rukeshomaji_figures(
-    site: &[u64; SITE],
+    site: &[u64; 9],
     frame: &[u64; 5],
     weights: &[u64],
     heights: &[u64],
@@ -110,7 +108,7 @@ pub extern "C" fn rukeshomaji_basin_figures(
 // The shear call on a site: V, V_M, V*, V_D and T of a total weight in kN and a top height in dm.
 #[unsafe(no_mangle)]
 pub extern "C" fn rukeshomaji_shear_call(
-    site: &[u64; SITE],
+    site: &[u64; 9],
     frame: &[u64; 5],
     weight: u64,
     height: u64,
@@ -238,18 +236,17 @@ pub extern "C" fn rukeshomaji_accidental_moments(
     refused.number
 }
 
-// The site class of a soil log by a profile: place and class.
+// The site class of a soil log: place and class.
 #[unsafe(no_mangle)]
 pub extern "C" fn rukeshomaji_site_class(
-    profile: u64,
     thicknesses: &[u64],
     kinds: &[u64],
     values: &[u64],
     reply: &mut [u64; 2],
 ) -> u64
-    ensures { LogReplies profile thicknesses.now kinds.now values.now result reply.new }
+    ensures { LogReplies thicknesses.now kinds.now values.now result reply.new }
 {
-    let a = soil::log::site_class(profile, thicknesses, kinds, values);
+    let a = soil::log::site_class(thicknesses, kinds, values);
     put_class(reply, a)
 }
 

@@ -1,6 +1,6 @@
 -- V_D beside the exact one, over any unit, hazards within reach and lines that meet.
 -- Assumes nothing.
-use Prim.Native.Nat.{ℕ, ◌*◌, ◌≤◌, ◌<◌}
+use Prim.Native.Nat.{ℕ, ◌≤◌, ◌<◌}
 use native.Mathlib.Nat.{le_refl}
 use native.Mathlib.Omega.{arith}
 use Rattle.whole.specs.Fraction.{over, AtMost}
@@ -11,7 +11,6 @@ use Rattle.response.specs.Reach.{Meeting}
 use Rattle.base_shear.specs.Exact.{Roots, exact_base}
 use Rattle.base_shear.specs.Ready.{Shearing}
 use Rattle.base_shear.specs.Shears.{base}
-use Rattle.base_shear.proofs.Bounds.{counted_within}
 use Rattle.margin.specs.Demand3.{Number, AtLeast, LessBy, margin_of, Numbers}
 use Rattle.margin.specs.Roots.{Lowering, Raising}
 use Rattle.margin.proofs.Bound.{less_by_margin, margin_positive, margin_grows, larger_at_least, larger_less_by}
@@ -61,8 +60,8 @@ module _ (s : ℕ) (k : Hazards) (T : ℕ) (g : Shearing s k T) (m : Meeting k.l
       let sv = shear_sound s k T g m f pa W k.design g.design r.v w.v.sound w.v.one in
       let sm = shear_sound s k T g m f pa W k.mce g.mce r.vm w.vm.sound w.vm.one in
       let ss = star_sound s k T g m f pa W r.star w.star.sound in
-      let of-shear = margin_grows 6 e s k.divisor k.divisor f W W six (le_refl k.divisor) (le_refl W) in
-      let of-star = margin_grows 3 e s k.divisor k.stardivisor f W (k.starcount * W) (omega arith) more (counted_within k.starcount W g.starcount) in
+      let of-shear = margin_grows 6 e s k.divisor k.divisor f W six (le_refl k.divisor) in
+      let of-star = margin_grows 3 e s k.divisor k.stardivisor f W (omega arith) more in
       larger_less_by _ _ _ _ z (larger_positive _ _ sv sm) ss
       (larger_less_by _ _ _ _ z sv sm
       (less_by_margin _ _ _ z pz of-shear (shear_over s k T g m f pa W k.design g.design r.v w.v))

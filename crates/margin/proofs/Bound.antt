@@ -1,7 +1,7 @@
 -- Printed newtons beside exact ones: at least them, or above them by less than a margin.
 -- Assumes nothing.
 use Prim.Native.Nat.{ℕ, ◌+◌, ◌*◌, ◌≤◌, ◌<◌, max}
-use native.Mathlib.Nat.{mul-le-mul, mul-le-mul_left, mul-le-mul_right, mul-pos, mul-lt-mul_of_pos_right, le_of_mul-le-mul_right, lt_of_mul-lt-mul_right, le-max_left, le-max_right, max-eq_left, max-eq_right}
+use native.Mathlib.Nat.{mul-le-mul, mul-le-mul_right, mul-pos, mul-lt-mul_of_pos_right, le_of_mul-le-mul_right, lt_of_mul-lt-mul_right, le-max_left, le-max_right, max-eq_left, max-eq_right}
 use native.Mathlib.Decide.{dec_le}
 use native.Mathlib.Omega.{arith}
 use Rattle.whole.specs.declared.Fraction.{Fraction}
@@ -55,15 +55,14 @@ less_by_margin v x y z p h k =
 pub margin_positive : (e s n : ℕ) (f : Frame) (W : ℕ) → 0 < s → 0 < n → 0 < f.alpha → 0 < (margin_of e s n f W).den
 margin_positive e s n f W ps pn pa = mul-pos (mul-pos (mul-pos pn pa) ps) (omega arith)
 
--- fewer parts of a larger divisor and of less weight
-pub margin_grows : (e e' s n n' : ℕ) (f : Frame) (W W' : ℕ) → e ≤ e' → n ≤ n' → W' ≤ W
-    → AtMost (margin_of e s n' f W') (margin_of e' s n f W)
-margin_grows e e' s n n' f W W' h k l =
-    grows (10_000 * (f.i * W)) (10_000 * (f.i * W')) (n * f.alpha) (n' * f.alpha) (mul-le-mul_left 10_000 (mul-le-mul_left f.i l)) (mul-le-mul_right f.alpha k)
+-- fewer parts of a larger divisor
+pub margin_grows : (e e' s n n' : ℕ) (f : Frame) (W : ℕ) → e ≤ e' → n ≤ n'
+    → AtMost (margin_of e s n' f W) (margin_of e' s n f W)
+margin_grows e e' s n n' f W h k = grows (10_000 * (f.i * W)) (n * f.alpha) (n' * f.alpha) (mul-le-mul_right f.alpha k)
   where
-    grows : (C C' D D' : ℕ) → C' ≤ C → D ≤ D'
-        → AtMost (plus (times (over C' D') (over e s)) (over 1 1)) (plus (times (over C D) (over e' s)) (over 1 1))
-    grows C C' D D' c g = omega (arith, mul-le-mul_right s (mul-le-mul c (mul-le-mul h g)))
+    grows : (C D D' : ℕ) → D ≤ D'
+        → AtMost (plus (times (over C D') (over e s)) (over 1 1)) (plus (times (over C D) (over e' s)) (over 1 1))
+    grows C D D' g = omega (arith, mul-le-mul_right (C * s) (mul-le-mul h g))
 
 -- ---- the larger of two
 pub larger_at_least : (v w : ℕ) (x y : Fraction) → AtLeast v x → AtLeast w y → AtLeast (max v w) (larger x y)

@@ -69,7 +69,7 @@ module _ (e s : ℕ) (k : Hazards) (T : ℕ) (g : Shearing (e * s) k T) (m : Mee
   unfolding star
   finer_star_never_above =
       let h = k.star in
-      newtons_finer e s k.stardivisor f (k.starcount * W) _ _ times_positive coarser_positive g.stardivisor.0 pa
+      newtons_finer e s k.stardivisor f W _ _ times_positive coarser_positive g.stardivisor.0 pa
       (blended_finer k.lines m e _ _ _ _
       (spectrum_finer e s h.a h.b T g.star.shape.b_positive)
       (upper_at_finer h g.star))

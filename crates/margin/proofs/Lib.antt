@@ -8,7 +8,6 @@ pub mod Base
 pub mod Storey
 pub mod Demand3
 pub mod Reached
-pub mod NoStar
 pub mod MovesWithRoot
 pub mod RootFractions
 pub mod Literal

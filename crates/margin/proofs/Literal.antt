@@ -1,4 +1,4 @@
--- The exact chain in the documents' own numbers: m by ours and by the draft, the newtons, the margin, which stands in document 02's too, the storeys. The spectrum and the
+-- The exact chain in document 01's own numbers: m, the newtons, the margin, which stands in document 02's too, the storeys. The spectrum and the
 -- factor stand so in their definitions. That the factor's sign is never a minus is `factor_natural`, that p is the factor times m of the spectrum
 -- over the factor `blended_is_modified`, both of response/proofs/Exact.antt.
 -- Assumes nothing.
@@ -7,46 +7,54 @@ use Prim.Native.Nat.{ℕ, ◌+◌, ◌*◌, ◌-◌, ◌≤◌}
 use native.Mathlib.Omega.{arith}
 use Rattle.whole.specs.declared.Fraction.{Fraction}
 use Rattle.whole.specs.Fraction.{over, plus, times, quotient, Same, AtMost, Less}
+use Rattle.whole.proofs.Choice.{by_leb}
 use Rattle.limits.specs.declared.frame.Frame.{Frame}
 use Rattle.limits.specs.declared.ground.Ground.{Ground}
 use Rattle.limits.specs.declared.ground.Ground.TheVariants.{Site, Basin}
 use Rattle.site.specs.Basin.{basin_hazards}
 use Rattle.site.specs.Ground.{ground_hazards}
-use Rattle.site.specs.Lines.{lines, draft_lines}
+use Rattle.site.specs.Lines.{lines}
 use Rattle.site.specs.SiteHazards.{site_hazards}
 use Rattle.site.specs.declared.hazard.Hazards.{Hazards}
-use Rattle.response.specs.Ratio.{exact_modified}
+use Rattle.response.specs.Ratio.{bent, exact_modified}
 use Rattle.response.specs.Unit.{unit}
-use Rattle.response.proofs.Bent.{bent_first, bent_second, bent_third}
 use Rattle.base_shear.specs.Exact.{exact_newtons}
 use Rattle.storeys.specs.Exact.{exact_roof_force, rest}
 use Rattle.storeys.specs.Storeys.{RoofAtMostOne, roof_part}
 use Rattle.margin.specs.Demand3.{base_margin}
 
--- ---- ours
 -- 'Up to 300,000: q.', of 10⁶
 pub exact_modified_first : (q : Fraction) → AtMost q (over 3 10) → Same (exact_modified lines q) q
-exact_modified_first q h = omega (arith, ap (λ (z : ℕ). z * q.den) (bent_first lines q.num q.den (omega arith)))
+unfolding bent
+exact_modified_first q h =
+    by_leb (λ (z : ℕ). z * q.den ≡ q.num * (1000 * q.den)) (1000 * q.num) (300 * q.den) _ _
+    (λ _. omega arith)
+    (λ k. absurd (omega arith))
 
 -- 'Up to 800,000: 0.52·q + 144,000.', of 10⁶
 pub exact_modified_second : (q : Fraction) → Less (over 3 10) q → AtMost q (over 8 10)
     → Same (exact_modified lines q) (plus (times (over 52 100) q) (over 144 1000))
-exact_modified_second q h k = omega (arith, ap (λ (z : ℕ). z * q.den) (bent_second lines q.num q.den (omega arith) (omega arith)))
+unfolding bent
+exact_modified_second q h k =
+    let x = plus (times (over 52 100) q) (over 144 1000) in
+    by_leb (λ (z : ℕ). z * x.den ≡ x.num * (1000 * q.den)) (1000 * q.num) (300 * q.den) _ _
+    (λ a. absurd (omega arith))
+    (λ a.
+    by_leb (λ (z : ℕ). z * x.den ≡ x.num * (1000 * q.den)) (1000 * q.num) (800 * q.den) _ _
+    (λ _. omega arith)
+    (λ b. absurd (omega arith)))
 
 -- 'Above: 0.7·q.'
 pub exact_modified_last : (q : Fraction) → Less (over 8 10) q → Same (exact_modified lines q) (times (over 7 10) q)
-exact_modified_last q h = omega (arith, ap (λ (z : ℕ). z * q.den) (bent_third lines q.num q.den (omega arith) (omega arith)))
-
--- ---- the draft's (8), (18)
-pub draft_exact_modified_first : (q : Fraction) → AtMost q (over 4 10) → Same (exact_modified draft_lines q) q
-draft_exact_modified_first q h = omega (arith, ap (λ (z : ℕ). z * q.den) (bent_first draft_lines q.num q.den (omega arith)))
-
-pub draft_exact_modified_second : (q : Fraction) → Less (over 4 10) q → AtMost q (over 9 10)
-    → Same (exact_modified draft_lines q) (plus (times (over 55 100) q) (over 18 100))
-draft_exact_modified_second q h k = omega (arith, ap (λ (z : ℕ). z * q.den) (bent_second draft_lines q.num q.den (omega arith) (omega arith)))
-
-pub draft_exact_modified_last : (q : Fraction) → Less (over 9 10) q → Same (exact_modified draft_lines q) (times (over 75 100) q)
-draft_exact_modified_last q h = omega (arith, ap (λ (z : ℕ). z * q.den) (bent_third draft_lines q.num q.den (omega arith) (omega arith)))
+unfolding bent
+exact_modified_last q h =
+    let x = times (over 7 10) q in
+    by_leb (λ (z : ℕ). z * x.den ≡ x.num * (1000 * q.den)) (1000 * q.num) (300 * q.den) _ _
+    (λ a. absurd (omega arith))
+    (λ a.
+    by_leb (λ (z : ℕ). z * x.den ≡ x.num * (1000 * q.den)) (1000 * q.num) (800 * q.den) _ _
+    (λ b. absurd (omega arith))
+    (λ _. omega arith))
 
 -- I·x·W over n/10·alpha-y: I and alpha-y in hundredths, W in kN of 1000 N
 pub newtons_are : (n : ℕ) (f : Frame) (W : ℕ) (x : Fraction)

@@ -41,7 +41,7 @@ module _ (k : Hazards) (f : Frame) (W T : ℕ) (m : Meeting k.lines) where
   pub exact_star_rises : 0 < k.star.a → 0 < k.star.b → 0 < k.star.capacity.den → (r r' : Fraction) → 0 < r.den → 0 < r'.den
       → AtMost r r' → AtMost (exact_star k f W T r) (exact_star k f W T r')
   exact_star_rises pa pb pc r r' p p' a =
-      times_rises (over (10_000 * (f.i * (k.starcount * W))) (k.stardivisor * f.alpha)) _ _
+      times_rises (over (10_000 * (f.i * W)) (k.stardivisor * f.alpha)) _ _
       (exact_blended_rises k.lines m (exact_spectrum k.star.a k.star.b T) _ _
       (factor_rises k.star pa pb pc r r' p p' a))
 

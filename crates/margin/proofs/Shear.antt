@@ -87,7 +87,7 @@ module _ (s : ℕ) (k : Hazards) (T : ℕ) (g : Shearing s k T) (m : Meeting k.l
         g.unit.positive g.divisor.0 pa 6
         (mul-pos {m = 1000} (omega arith) sound)
         (modified_over k.lines m s q (exact_ratio x F) sound
-        (omega (arith, mul-le-mul (spectrum_within 2 1 h.a h.b T (omega (arith, y.shape.a_most_lem))) grown))
+        (omega (arith, mul-le-mul (spectrum_within 2 1 h.a h.b T (omega (arith, y.shape.a_most))) grown))
         (ratio_over s (spectrum_at s h T) (lower_at s h T) x F spectrum_sound
         (factor_positive s h T g.unit y r lo.sound) some least grown spectrum_over
         (lower_short s h T g.unit y r lo)))
@@ -107,12 +107,12 @@ module _ (s : ℕ) (k : Hazards) (T : ℕ) (g : Shearing s k T) (m : Meeting k.l
         let h = k.star in
         let x = exact_spectrum_at h T in
         let F = factor_at h T r in
-        newtons_above s k.stardivisor f (k.starcount * W) (blended k.lines (spectrum_at s h T) (upper_at s h T)) (exact_blended k.lines x F)
+        newtons_above s k.stardivisor f W (blended k.lines (spectrum_at s h T) (upper_at s h T)) (exact_blended k.lines x F)
         g.unit.positive g.stardivisor.0 pa
         (blended_above k.lines m s (spectrum_at s h T) (upper_at s h T) x F (spectrum_above h g.star r)
         (upper_above s h T g.unit g.star r lo))
 
-    pub star_over : High k.star.square r → LessBy (star s k f W T) (exact_star k f W T r) (margin_of 3 s k.stardivisor f (k.starcount * W))
+    pub star_over : High k.star.square r → LessBy (star s k f W T) (exact_star k f W T r) (margin_of 3 s k.stardivisor f W)
     unfolding star
     star_over hi =
         let h = k.star in
@@ -120,7 +120,7 @@ module _ (s : ℕ) (k : Hazards) (T : ℕ) (g : Shearing s k T) (m : Meeting k.l
         let F = factor_at h T r in
         let px = spectrum_sound h g.star r in
         let pf = factor_positive s h T g.unit g.star r hi.sound in
-        newtons_over s k.stardivisor f (k.starcount * W) (blended k.lines (spectrum_at s h T) (upper_at s h T)) (exact_blended k.lines x F)
+        newtons_over s k.stardivisor f W (blended k.lines (spectrum_at s h T) (upper_at s h T)) (exact_blended k.lines x F)
         g.unit.positive g.stardivisor.0 pa 3
         (mul-pos {m = 1000} (omega arith) (mul-pos px pf))
         (blended_over k.lines m s (spectrum_at s h T) (upper_at s h T) x F px pf (spectrum_over h g.star r)

@@ -7,14 +7,11 @@ use native.Mathlib.Decide.{dec_le}
 use native.Mathlib.Omega.{arith}
 use Rattle.whole.proofs.Choice.{by_leb}
 use Rattle.site.specs.declared.lines.Lines.{Lines}
-use Rattle.limits.specs.declared.profile.Profile.{Profile}
-use Rattle.limits.specs.declared.profile.Profile.TheVariants.{Ours, Draft}
-use Rattle.site.specs.Lines.{lines, draft_lines}
-use Rattle.site.specs.Profile.{lines_of}
+use Rattle.site.specs.Lines.{lines}
 use Rattle.response.specs.Ratio.{bent}
 use Rattle.response.specs.Reach.{Meeting}
 
--- (8), (18) of document 000, and of document 001
+-- (8), (18)
 pub lines_meet : Meeting lines
 lines_meet =
     record {
@@ -27,23 +24,6 @@ lines_meet =
       meet_first = refl;
       meet_second = refl;
     }
-
-pub draft_lines_meet : Meeting draft_lines
-draft_lines_meet =
-    record {
-      order = omega arith;
-      soon = omega arith;
-      rising = omega arith;
-      steeper = omega arith;
-      gentle = omega arith;
-      half = omega arith;
-      meet_first = refl;
-      meet_second = refl;
-    }
-
-pub profile_lines_meet : (p : Profile) → Meeting (lines_of p)
-profile_lines_meet Ours = lines_meet
-profile_lines_meet Draft = draft_lines_meet
 
 -- the lines a·x + b·y and c·x meet at x = t/1000·y: which is the higher on each side
 cross : (a b c t x y : ℕ) → a ≤ c → a * t + 1000 * b ≡ c * t
@@ -59,19 +39,6 @@ cross a b c t x y h e =
 pub bent_first : (l : Lines) (x y : ℕ) → 1000 * x ≤ l.first * y → bent l x y ≡ 1000 * x
 unfolding bent
 bent_first l x y h = by_leb (λ (z : ℕ). z ≡ 1000 * x) (1000 * x) (l.first * y) _ _ (λ _. refl) (λ k. absurd (omega arith))
-
-pub bent_second : (l : Lines) (x y : ℕ) → l.first * y < 1000 * x → 1000 * x ≤ l.second * y → bent l x y ≡ l.slope * x + l.add * y
-unfolding bent
-bent_second l x y h k =
-    let goal = l.slope * x + l.add * y in
-    by_leb (λ (z : ℕ). z ≡ goal) (1000 * x) (l.first * y) _ _ (λ a. absurd (omega arith))
-    (λ a. by_leb (λ (z : ℕ). z ≡ goal) (1000 * x) (l.second * y) _ _ (λ b. refl) (λ b. absurd (omega arith)))
-
-pub bent_third : (l : Lines) (x y : ℕ) → l.first * y < 1000 * x → l.second * y < 1000 * x → bent l x y ≡ l.last * x
-unfolding bent
-bent_third l x y h k =
-    by_leb (λ (z : ℕ). z ≡ l.last * x) (1000 * x) (l.first * y) _ _ (λ a. absurd (omega arith))
-    (λ a. by_leb (λ (z : ℕ). z ≡ l.last * x) (1000 * x) (l.second * y) _ _ (λ b. absurd (omega arith)) (λ b. refl))
 
 module _ (l : Lines) (m : Meeting l) where
   -- the line that the tests pick, with what they show of the three

@@ -45,7 +45,7 @@ ductile_of s n d m e h t r =
 
 -- ---- T-as-A
 pub ta_most : (a b t : ℕ) → Shape a b t → t * a ≤ 101_800_000_000_000
-ta_most a b t h = mul-le-mul h.t_most h.a_most_lem
+ta_most a b t h = mul-le-mul h.t_most h.a_most
 
 -- ---- capacity and roots
 module _ (s : ℕ) (c ρ : Fraction) (u : FineUnit s) (d : Ductile s c ρ) where

@@ -8,7 +8,6 @@ use Rattle.whole.specs.Rounding.{up, down}
 use Rattle.whole.specs.Search.{largest, bits_from}
 use Rattle.whole.specs.Line.{between}
 use Rattle.limits.specs.declared.class.Class.TheVariants.{Hard, Normal, Soft}
-use Rattle.limits.specs.declared.profile.Profile.TheVariants.{Ours}
 use Rattle.limits.specs.declared.kind.Kind.TheVariants.{Steel, Concrete, Other}
 use Rattle.site.specs.Coefficients.{factored, fa, fv, acceleration_a, acceleration_b}
 use Rattle.site.specs.Capacity.{design_square, mce_square}
@@ -20,7 +19,7 @@ use Rattle.whole.specs.Root.{lower_root}
 use Rattle.response.specs.Ratio.{modified, bent}
 
 abbrev hard_spectrum : ℕ → ℕ
-hard_spectrum T = spectrum unit (acceleration_a Ours Hard (factored 80 100)) (acceleration_b Ours Hard (factored 45 100)) T
+hard_spectrum T = spectrum unit (acceleration_a Hard (factored 80 100)) (acceleration_b Hard (factored 45 100)) T
 
 abbrev computed : List ℕ
 computed =
@@ -68,7 +67,7 @@ figures_hold = refl
 
 -- The definitions at the figures that are run: the periods of kind 4 at 1 dm and of kind 1 at 2,000 dm; normal F_a at 6500; soft
 -- F_v at 3200.
-pub run_figures_hold : (approximate Other 1 ∷ approximate Steel 2000 ∷ fa Ours Normal 6500 ∷ fv Ours Soft 3200 ∷ [])
+pub run_figures_hold : (approximate Other 1 ∷ approximate Steel 2000 ∷ fa Normal 6500 ∷ fv Soft 3200 ∷ [])
     ≡ (8 ∷ 4520 ∷ 10_500 ∷ 17_600 ∷ [])
 unfolding approximate largest bits_from down between
 run_figures_hold = refl

@@ -18,7 +18,7 @@ pub record FineUnit (s : ℕ) : Type 0 where
 
 pub record Shape (a b t : ℕ) : Type 0 where
   pub a_positive : 0 < a
-  pub a_most_lem : a ≤ 200_000_000
+  pub a_most : a ≤ 200_000_000
   pub b_positive : 0 < b
   pub b_most : b ≤ 200_000_000
   pub t_most : t ≤ 509_000

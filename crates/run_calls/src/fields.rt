@@ -6,13 +6,13 @@ pub const IN_BASIN: u64 = 1;
 // Of a shear call. In the Basin the zone stands where a site's first number does.
 pub const SITE: usize = 0;
 
-pub const FRAME: usize = 10;
+pub const FRAME: usize = 9;
 
-pub const WEIGHT: usize = 15;
+pub const WEIGHT: usize = 14;
 
-pub const HEIGHT: usize = 16;
+pub const HEIGHT: usize = 15;
 // How many these are.
-pub const SHEAR_HEAD: usize = 17;
+pub const SHEAR_HEAD: usize = 16;
 
 // Of a distribution. The weights follow these numbers, then the heights.
 pub const BASE_SHEAR: usize = 0;

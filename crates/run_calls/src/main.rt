@@ -79,7 +79,6 @@ fn site(head: [u64; 140]) -> SiteValues {
         nam: head[SITE + 6],
         nvm: head[SITE + 7],
         class: head[SITE + 8],
-        profile: head[SITE + 9],
     }
 }
 

@@ -1,6 +1,6 @@
 // What is finite, exhausted: roots and capacities of every R, on a site and in the Taipei Basin, in ten-millionths and in millionths, the period of
 // every height and kind, both coefficients of every product of a mapped value and a near-fault factor. (`run_logs` runs the velocity of every
-// N and q.) Then the roots of R = 4.80 place by place, as they are found on paper; last, both coefficients by the draft.
+// N and q.) Last, the roots of R = 4.80 place by place, as they are found on paper.
 ghost use Rattle.std.specs.Prelude.{◌*◌, ◌≤◌, ◌<◌};
 
 use libc::STDOUT_FILENO;
@@ -8,7 +8,6 @@ use limits::class::Class;
 use limits::frame::Frame;
 use limits::kind::Kind;
 use limits::level::Level;
-use limits::profile::Profile;
 use limits::site::Site;
 use response::UNIT;
 use response::period::approximate;
@@ -128,75 +127,57 @@ fn heights() {
     }
 }
 
-// By the draft each line begins with this.
-fn by(profile: Profile) {
-    match profile {
-        Profile::Ours => {}
-        Profile::Draft => {
-            io::write_all(STDOUT_FILENO, b"draft ");
-        }
-    }
-}
-
 // F_a of a mapped S_S with every N_A.
-fn short_periods(profile: Profile, mapped: u64)
+fn short_periods(mapped: u64)
     requires { mapped ≤ 100 }
 {
     let mut n = Site::NA_LEAST;
     while n <= Site::NA_MOST {
         let s = mapped * n;
-        by(profile);
         io::write_all(STDOUT_FILENO, b"S_S");
         number(s);
-        number(fa(profile, Class::Hard, s));
-        number(fa(profile, Class::Normal, s));
-        number(fa(profile, Class::Soft, s));
+        number(fa(Class::Hard, s));
+        number(fa(Class::Normal, s));
+        number(fa(Class::Soft, s));
         io::write_all(STDOUT_FILENO, b"\n");
         n += 1;
     }
 }
 
 // F_v of a mapped S_1 with every N_V.
-fn long_periods(profile: Profile, mapped: u64)
+fn long_periods(mapped: u64)
     requires { mapped ≤ 100 }
 {
     let mut n = Site::NV_LEAST;
     while n <= Site::NV_MOST {
         let s = mapped * n;
-        by(profile);
         io::write_all(STDOUT_FILENO, b"S_1");
         number(s);
-        number(fv(profile, Class::Hard, s));
-        number(fv(profile, Class::Normal, s));
-        number(fv(profile, Class::Soft, s));
+        number(fv(Class::Hard, s));
+        number(fv(Class::Normal, s));
+        number(fv(Class::Soft, s));
         io::write_all(STDOUT_FILENO, b"\n");
         n += 1;
     }
 }
 
-// Both coefficients of every product, by a profile.
-fn coefficients(profile: Profile) {
-    short_periods(profile, 50);
-    short_periods(profile, 60);
-    short_periods(profile, 70);
-    short_periods(profile, 80);
-    short_periods(profile, 90);
-    short_periods(profile, 100);
-    long_periods(profile, 30);
-    long_periods(profile, 35);
-    long_periods(profile, 40);
-    long_periods(profile, 45);
-    long_periods(profile, 50);
-    long_periods(profile, 55);
-}
-
 fn main() {
     ductilities(UNIT);
     heights();
-    coefficients(Profile::Ours);
+    short_periods(50);
+    short_periods(60);
+    short_periods(70);
+    short_periods(80);
+    short_periods(90);
+    short_periods(100);
+    long_periods(30);
+    long_periods(35);
+    long_periods(40);
+    long_periods(45);
+    long_periods(50);
+    long_periods(55);
     basin_ductilities(UNIT);
     ductilities(MILLIONTHS);
     basin_ductilities(MILLIONTHS);
     on_paper(480);
-    coefficients(Profile::Draft);
 }

@@ -8,16 +8,14 @@ use limits::frame::FrameValues;
 use limits::ground::GroundValues;
 use limits::kind::Kind;
 use limits::layer::Layer;
-use limits::profile::Profile;
 use limits::site::SiteValues;
 use response::UNIT;
 use response::period::approximate;
 use response::ratio::modified;
 use response::spectrum::spectrum;
 use site::capacity::{design_square, mce_square};
-use site::coefficients::{fa, fv};
+use site::coefficients::{acceleration_a, acceleration_b, fa, fv};
 use site::lines::LINES;
-use site::site_hazards::our_accelerations;
 use soil::velocity::VelocityAnswer;
 use whole::roots::lower_root;
 
@@ -39,8 +37,9 @@ fn hold(name: &[u8], got: u64, stated: u64) {
 fn hard_spectrum(t: u64) -> u64
     requires { t ≤ 509_000 }
 {
-    let mce = our_accelerations(Class::Hard, 80, 45, 100, 100);
-    spectrum(UNIT, mce.a, mce.b, t)
+    let a = acceleration_a(Class::Hard, 8000);
+    let b = acceleration_b(Class::Hard, 4500);
+    spectrum(UNIT, a, b, t)
 }
 
 fn spectra() {
@@ -193,16 +192,8 @@ fn velocities() {
 }
 
 fn coefficients() {
-    hold(
-        b"F_a, normal, 6500",
-        fa(Profile::Ours, Class::Normal, 6500),
-        10_500,
-    );
-    hold(
-        b"F_v, soft, 3200",
-        fv(Profile::Ours, Class::Soft, 3200),
-        17_600,
-    );
+    hold(b"F_a, normal, 6500", fa(Class::Normal, 6500), 10_500);
+    hold(b"F_v, soft, 3200", fv(Class::Soft, 3200), 17_600);
 }
 
 fn cell(name: &[u8], cells: &[u64], x: usize, stated: u64) {
@@ -242,7 +233,6 @@ fn sheet(
         nam: 100,
         nvm: 100,
         class: Class::HARD,
-        profile: Profile::OURS,
     };
     let frame = FrameValues {
         kind: Kind::CONCRETE,

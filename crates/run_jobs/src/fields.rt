@@ -5,18 +5,18 @@ pub const GROUND: usize = 0;
 
 pub const SITE: usize = 1;
 
-pub const FRAME: usize = 11;
+pub const FRAME: usize = 10;
 
-pub const WEIGHT_COUNT: usize = 16;
+pub const WEIGHT_COUNT: usize = 15;
 
-pub const HEIGHT_COUNT: usize = 17;
+pub const HEIGHT_COUNT: usize = 16;
 // The lengths of the buffers of forces, shears and overturning moments.
-pub const BUFFERS: usize = 18;
+pub const BUFFERS: usize = 17;
 
 // What each cell of the three buffers holds before the call.
-pub const OLD: usize = 21;
+pub const OLD: usize = 20;
 
 // How many these are.
-pub const HEAD: usize = 24;
+pub const HEAD: usize = 23;
 // The most weights, heights and cells of a buffer that a case has.
 pub const LISTED: usize = 60;

@@ -11,9 +11,6 @@ mod fields;
 
 ghost use Rattle.std.specs.Prelude.{◌≤◌, length};
 
-// More bytes than the cases have.
-const ROOM: usize = 131_072;
-
 fn site(head: [u64; 140]) -> SiteValues {
     SiteValues {
         ssd: head[SITE],
@@ -25,7 +22,6 @@ fn site(head: [u64; 140]) -> SiteValues {
         nam: head[SITE + 6],
         nvm: head[SITE + 7],
         class: head[SITE + 8],
-        profile: head[SITE + 9],
     }
 }
 
@@ -178,7 +174,7 @@ fn run(s: &[u8]) {
 }
 
 fn main() {
-    let mut input = [0; ROOM];
+    let mut input = io::large_buffer();
     let n = io::read_full(STDIN_FILENO, &mut input);
     run(&input[..n]);
 }

@@ -6,8 +6,6 @@ pub const KIND_COUNT: usize = 1;
 
 pub const VALUE_COUNT: usize = 2;
 
-pub const PROFILE: usize = 3;
-
 pub const THICKNESSES: usize = 10;
 
 pub const KINDS: usize = 60;

@@ -1,12 +1,11 @@
-// Runs the entry on changed copies of plain logs, by our profile where none is given, as standard input gives them, and says what comes back of each; then the
+// Runs the entry on changed copies of plain logs, as standard input gives them, and says what comes back of each; then the
 // velocity of every N and of every q.
 use fields::{
-    FIELDS, KIND_COUNT, KINDS, LISTED, PROFILE, THICKNESS_COUNT, THICKNESSES, VALUE_COUNT, VALUES,
+    FIELDS, KIND_COUNT, KINDS, LISTED, THICKNESS_COUNT, THICKNESSES, VALUE_COUNT, VALUES,
 };
 use libc::{STDIN_FILENO, STDOUT_FILENO};
 use limits::class::{Class, ClassAnswer};
 use limits::layer::Layer;
-use limits::profile::Profile;
 use limits::refusal::Refusal;
 use rows::{number, row};
 use soil::velocity::{VelocityAnswer, velocity};
@@ -25,7 +24,6 @@ fn plain(layers: u64, thickness: u64, velocity: u64) -> [u64; 160] {
     log[THICKNESS_COUNT] = layers;
     log[KIND_COUNT] = layers;
     log[VALUE_COUNT] = layers;
-    log[PROFILE] = Profile::OURS;
     let mut i = 0;
     while i < LISTED {
         log[THICKNESSES + i] = thickness;
@@ -44,8 +42,6 @@ fn say_field(at: usize, value: u64) {
         io::write_all(STDOUT_FILENO, b"kinds ");
     } else if at == VALUE_COUNT {
         io::write_all(STDOUT_FILENO, b"values ");
-    } else if at == PROFILE {
-        io::write_all(STDOUT_FILENO, b"profile ");
     } else if at < KINDS {
         io::write_all(STDOUT_FILENO, b"thickness ");
         say_layer(at, THICKNESSES);
@@ -84,7 +80,7 @@ fn answer(log: [u64; 160]) -> ClassAnswer {
     let thicknesses = least(log[THICKNESS_COUNT]);
     let kinds = least(log[KIND_COUNT]);
     let values = least(log[VALUE_COUNT]);
-    classed(log[PROFILE], &log, thicknesses, kinds, values)
+    classed(&log, thicknesses, kinds, values)
 }
 
 // So many layers, or as many as the array has.
@@ -98,20 +94,13 @@ fn least(count: u64) -> usize
     LISTED
 }
 
-fn classed(
-    profile: u64,
-    log: &[u64],
-    thicknesses: usize,
-    kinds: usize,
-    values: usize,
-) -> ClassAnswer
+fn classed(log: &[u64], thicknesses: usize, kinds: usize, values: usize) -> ClassAnswer
     requires { (thicknesses ≤ 41) × (kinds ≤ 41) × (values ≤ 41) × (151 ≤ length log.now) }
 {
     let thicknesses_end = THICKNESSES + thicknesses;
     let kinds_end = KINDS + kinds;
     let values_end = VALUES + values;
     soil::log::site_class(
-        profile,
         &log[THICKNESSES..thicknesses_end],
         &log[KINDS..kinds_end],
         &log[VALUES..values_end],

@@ -21,7 +21,7 @@ const CHANGES: usize = 8;
 fn say_field(at: usize, value: u64) {
     if at <= ZONE {
         say_name(
-            b"S_S D   S_1 D   S_S M   S_1 M   N_A     N_V     N_A M   N_V M   class   profile kind    period  R       I       alpha-y weights heights room    ground  zone    ",
+            b"S_S D   S_1 D   S_S M   S_1 M   N_A     N_V     N_A M   N_V M   class   kind    period  R       I       alpha-y weights heights room    ground  zone    ",
             at,
         );
     } else if at < HEIGHTS {
@@ -79,7 +79,6 @@ fn ground(job: [u64; 140]) -> GroundValues {
         nam: job[SITE + 6],
         nvm: job[SITE + 7],
         class: job[SITE + 8],
-        profile: job[SITE + 9],
     })
 }
 

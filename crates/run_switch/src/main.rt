@@ -7,7 +7,6 @@ use limits::class::Class;
 use limits::frame::FrameValues;
 use limits::ground::GroundValues;
 use limits::kind::Kind;
-use limits::profile::Profile;
 use limits::site::SiteValues;
 
 fn run(class: u64) -> Figures {
@@ -21,7 +20,6 @@ fn run(class: u64) -> Figures {
         nam: 112,
         nvm: 123,
         class,
-        profile: Profile::OURS,
     };
     let frame = FrameValues {
         kind: Kind::CONCRETE,

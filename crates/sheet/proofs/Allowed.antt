@@ -15,10 +15,8 @@ use Rattle.limits.specs.declared.kind.Kind.{Kind}
 use Rattle.limits.specs.declared.ground.Ground.{Ground}
 use Rattle.limits.specs.declared.ground.Ground.TheVariants.{Site as OnSite, Basin as InBasin}
 use Rattle.limits.specs.declared.ground.GroundValues.{GroundValues}
-use Rattle.limits.specs.declared.ground.GroundValues.TheVariants.{Site as SiteOf}
 use Rattle.limits.specs.declared.judging.Given.{Given}
 use Rattle.limits.specs.declared.class.Class.{Class}
-use Rattle.limits.specs.declared.profile.Profile.{Profile}
 use Rattle.limits.specs.declared.site.Site.{Site}
 use Rattle.limits.specs.declared.site.SiteValues.{SiteValues}
 use Rattle.limits.specs.declared.zone.Zone.{Zone}
@@ -31,7 +29,6 @@ use Rattle.limits.specs.Levels.{judged_levels}
 use Rattle.limits.specs.Outcome.{Outcome, accepted, ◌>>◌}
 use Rattle.limits.specs.Ranges.{within, listed}
 use Rattle.limits.specs.Class.{judged_class}
-use Rattle.limits.specs.Profile.{judged_profile}
 use Rattle.limits.specs.Site.{site_of, judged_mapped, judged_near_fault, judged_site}
 use Rattle.limits.specs.Zone.{judged_zone}
 use Rattle.limits.proofs.AcceptedGround.{site_allowed}
@@ -41,7 +38,7 @@ use Rattle.limits.proofs.Passed.{never, one_value, then_passed, bind_passed}
 use Rattle.text.specs.Bytes.{bytes}
 use Rattle.text.specs.Writing.{AllShort}
 use Rattle.text.proofs.Trip.{line_short}
-use Rattle.sheet.specs.Laid.{two_pairs_numbers, two_pairs_profile_numbers, one_pair_numbers, one_pair_profile_numbers, frame_numbers, GroundLine, two_pairs, one_pair, two_pairs_profile, one_pair_profile, zone, level_lines_of, sheet_laid, Laid}
+use Rattle.sheet.specs.Laid.{site_numbers, one_pair_numbers, frame_numbers, GroundLine, two_pairs, one_pair, zone, level_lines_of, sheet_laid, Laid}
 use Rattle.sheet.specs.Layouts.{Line, line_laid, lines_laid}
 use Rattle.sheet.specs.Sheet.{Sheet}
 
@@ -59,10 +56,6 @@ unfolding judged_class
 class_small n c =
     chosen 3 1 n _ c _ (omega arith) (chosen 3 2 n _ c _ (omega arith) (chosen 3 3 n _ c _ (omega arith) (λ e. absurd (never e))))
 
-profile_small : (n : ℕ) (p : Profile) → judged_profile n ≡ accepted p → n ≤ 2
-unfolding judged_profile
-profile_small n p = chosen 2 1 n _ p _ (omega arith) (chosen 2 2 n _ p _ (omega arith) (λ e. absurd (never e)))
-
 zone_small : (n : ℕ) (z : Zone) → judged_zone n ≡ accepted z → n ≤ 4
 unfolding judged_zone
 zone_small n z =
@@ -77,16 +70,14 @@ kind_small n k =
     (chosen 4 2 n _ k _ (omega arith)
     (chosen 4 3 n _ k _ (omega arith) (chosen 4 4 n _ k _ (omega arith) (λ e. absurd (never e)))))
 
-site_short : (v : SiteValues) (s : Site) → judged_site v ≡ accepted s → AllShort (two_pairs_profile_numbers v)
+site_short : (v : SiteValues) (s : Site) → judged_site v ≡ accepted s → AllShort (site_numbers v)
 unfolding judged_site
 site_short v s e =
-    let profile = bind_passed (judged_profile v.profile) _ e in
-    let mapped = then_passed (judged_mapped v) _ profile.2 in
+    let mapped = then_passed (judged_mapped v) _ e in
     let near = then_passed (judged_near_fault v) _ mapped.1 in
-    let class = bind_passed (judged_class v.class) (λ c. accepted (site_of v c profile.0)) near.1 in
+    let class = bind_passed (judged_class v.class) (λ c. accepted (site_of v c)) near.1 in
     let a = subst AllowedSite (sym (one_value class.2)) (site_allowed v s e) in
-    let c = class_small v.class class.0 class.1 in
-    let p = profile_small v.profile profile.0 profile.1 in (
+    let c = class_small v.class class.0 class.1 in (
       omega (arith, a.ssd),
       (
         omega (arith, a.s1d),
@@ -96,51 +87,33 @@ site_short v s e =
             omega (arith, a.s1m),
             (
               omega (arith, a.nad),
-              (omega (arith, a.nvd), (omega (arith, a.nam), (omega (arith, a.nvm), (omega arith, (omega arith, tt))))),
+              (omega (arith, a.nvd), (omega (arith, a.nam), (omega (arith, a.nvm), (omega arith, tt)))),
             ),
           ),
         ),
       ),
     )
 
--- so are the numbers of the shorter site lines
-module _ (v : SiteValues) (s : AllShort (two_pairs_profile_numbers v)) where
-  abbrev near : AllShort (v.nad ∷ v.nvd ∷ v.nam ∷ v.nvm ∷ v.class ∷ v.profile ∷ [])
-  near = s.1.1.1.1
-
-  abbrev last : AllShort (v.class ∷ v.profile ∷ [])
-  last = near.1.1.1.1
-
-  two_pairs_short : AllShort (two_pairs_numbers v)
-  two_pairs_short =
-      (s.0, (s.1.0, (s.1.1.0, (s.1.1.1.0, (near.0, (near.1.0, (near.1.1.0, (near.1.1.1.0, (last.0, tt)))))))))
-
-  one_pair_short : AllShort (one_pair_numbers v)
-  one_pair_short = (s.0, (s.1.0, (s.1.1.0, (s.1.1.1.0, (near.0, (near.1.0, (last.0, tt)))))))
-
-  one_pair_profile_short : AllShort (one_pair_profile_numbers v)
-  one_pair_profile_short = (s.0, (s.1.0, (s.1.1.0, (s.1.1.1.0, (near.0, (near.1.0, last))))))
-
-taken_short : (v : SiteValues) (g : Ground) → judged_ground (SiteOf v) ≡ accepted g → AllShort (two_pairs_profile_numbers v)
-taken_short v g e =
-    let site = bind_passed (judged_site v) (λ s. accepted (OnSite s)) e in
-    site_short v site.0 site.1
+one_pair_short : (v : SiteValues) → AllShort (site_numbers v) → AllShort (one_pair_numbers v)
+one_pair_short v s =
+    let near = s.1.1.1.1 in
+    (s.0, (s.1.0, (s.1.1.0, (s.1.1.1.0, (near.0, (near.1.0, (near.1.1.1.1.0, tt)))))))
 
 ground_short : (v : GroundValues) (l : Line) (g : Ground) → GroundLine v l → judged_ground v ≡ accepted g → AllShort l.numbers
-ground_short g' l g (two_pairs v o) e = two_pairs_short v (taken_short v g e)
-ground_short g' l g (one_pair v o a b) e = one_pair_short v (taken_short v g e)
-ground_short g' l g (two_pairs_profile v) e = taken_short v g e
-ground_short g' l g (one_pair_profile v a b) e = one_pair_profile_short v (taken_short v g e)
+ground_short g' l g (two_pairs v) e =
+    let site = bind_passed (judged_site v) (λ s. accepted (OnSite s)) e in
+    site_short v site.0 site.1
+ground_short g' l g (one_pair v a b) e =
+    let site = bind_passed (judged_site v) (λ s. accepted (OnSite s)) e in
+    one_pair_short v (site_short v site.0 site.1)
 ground_short g' l g (zone n) e =
     let zone = bind_passed (judged_zone n) (λ z. accepted (InBasin z)) e in
     let small = zone_small n zone.0 zone.1 in
     (omega arith, tt)
 
-ground_length : (v : GroundValues) (l : Line) → GroundLine v l → AllShort l.numbers → length (line_laid l) ≤ 105
-ground_length g l (two_pairs v o) s = omega (arith, line_short (bytes "site") (two_pairs_numbers v) s)
-ground_length g l (one_pair v o a b) s = omega (arith, line_short (bytes "site") (one_pair_numbers v) s)
-ground_length g l (two_pairs_profile v) s = omega (arith, line_short (bytes "site") (two_pairs_profile_numbers v) s)
-ground_length g l (one_pair_profile v a b) s = omega (arith, line_short (bytes "site") (one_pair_profile_numbers v) s)
+ground_length : (v : GroundValues) (l : Line) → GroundLine v l → AllShort l.numbers → length (line_laid l) ≤ 95
+ground_length g l (two_pairs v) s = omega (arith, line_short (bytes "site") (site_numbers v) s)
+ground_length g l (one_pair v a b) s = omega (arith, line_short (bytes "site") (one_pair_numbers v) s)
 ground_length g l (zone n) s = omega (arith, line_short (bytes "basin") (n ∷ []) s)
 
 frame_short : (v : FrameValues) (f : Frame) → judged_frame v ≡ accepted f → AllShort (frame_numbers v)

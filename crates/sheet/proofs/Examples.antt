@@ -1,4 +1,4 @@
--- The definitions, run on document 01's sheet and on the same in zone 1 of the Taipei Basin, on a sheet by the draft, on some that are otherwise, and on the figures
+-- The definitions, run on document 01's sheet and on the same in zone 1 of the Taipei Basin, on some that are otherwise, and on the figures
 -- of their listings.
 -- Assumes nothing.
 use mathlib.Core.Path.{◌≡◌, refl, ap, ◌∙◌}
@@ -6,22 +6,16 @@ use mathlib.Core.List.{List, [], ◌∷◌, ◌++◌}
 use Prim.Native.Nat.{ℕ}
 use Rattle.limits.specs.declared.ground.GroundValues.TheVariants.{Site, Basin}
 use Rattle.limits.specs.Outcome.{Outcome, accepted, refused, ◌>>=◌}
-use Rattle.limits.specs.Judging.{judged_job}
-use Rattle.limits.specs.Levels.{weighed, raised, judged_levels}
-use Rattle.limits.specs.Profile.{judged_profile}
-use Rattle.limits.specs.Ranges.{in_range, within}
-use Rattle.limits.specs.Site.{judged_site}
+use Rattle.limits.specs.Ranges.{in_range}
 use Rattle.text.specs.Bytes.{bytes}
 use Rattle.text.specs.Line.{field, fields, line}
 use Rattle.text.specs.Number.{digits, value_from, well_made, number}
 use Rattle.text.specs.Reading.{starts, word}
 use Rattle.text.specs.Writing.{digits_of, decimal, field_of, fields_of, laid_out}
 use Rattle.job.proofs.Worked.{worked}
-use Rattle.job.specs.Job.{job_of}
 use Rattle.job.proofs.WorkedBasin.{worked_basin}
-use Rattle.job.proofs.WorkedDraft.{worked_draft}
 use Rattle.job.proofs.WorkedNearFault.{worked_near_fault}
-use Rattle.sheet.specs.Listing.{roof_first, results_listing, refusal, listing, job_of_sheet, outcome_of, sheet_listing}
+use Rattle.sheet.specs.Listing.{roof_first, results_listing, refusal, listing, job_of_sheet, sheet_listing}
 use Rattle.sheet.specs.Lines.{line_in, lines_from}
 use Rattle.sheet.specs.Reading.{sheet_lines, read_sheet}
 use Rattle.sheet.specs.Sheet.{Sheet}
@@ -39,16 +33,11 @@ abbrev near_fault : List ℕ
 near_fault =
     bytes "site\t80\t45\t100\t55\t112\t123\t118\t136\t1\n" ++ (bytes "frame\t2\t500\t480\t100\t150\n" ++ levels)
 
-abbrev school : List ℕ
-school =
-    bytes "site\t60\t35\t80\t45\t100\t112\t2\t2\n" ++ (bytes "frame\t2\t0\t280\t125\t150\n"
-    ++ (bytes "level\t3200\t42\n" ++ (bytes "level\t3200\t78\n" ++ bytes "level\t2600\t114\n")))
-
 abbrev basin : List ℕ
 basin = bytes "basin\t1\n" ++ building
 
 office_read : read_sheet office ≡ accepted (record {
-  ground = Site (record { ssd = 80; s1d = 45; ssm = 100; s1m = 55; nad = 100; nvd = 100; nam = 100; nvm = 100; class = 1; profile = 1 });
+  ground = Site (record { ssd = 80; s1d = 45; ssm = 100; s1m = 55; nad = 100; nvd = 100; nam = 100; nvm = 100; class = 1 });
   frame = record { kind = 2; calculated = 1_000; r = 480; i = 100; alpha = 150 };
   levels = record { weights = 5_000 ∷ 5_000 ∷ 5_000 ∷ []; heights = 100 ∷ 200 ∷ 300 ∷ [] };
 })
@@ -56,34 +45,18 @@ unfolding read_sheet sheet_lines line_in lines_from line fields field word start
 office_read = refl
 
 pub near_fault_read : read_sheet near_fault ≡ accepted (record {
-  ground = Site (record { ssd = 80; s1d = 45; ssm = 100; s1m = 55; nad = 112; nvd = 123; nam = 118; nvm = 136; class = 1; profile = 1 });
+  ground = Site (record { ssd = 80; s1d = 45; ssm = 100; s1m = 55; nad = 112; nvd = 123; nam = 118; nvm = 136; class = 1 });
   frame = record { kind = 2; calculated = 500; r = 480; i = 100; alpha = 150 };
   levels = record { weights = 5_000 ∷ 5_000 ∷ 5_000 ∷ []; heights = 100 ∷ 200 ∷ 300 ∷ [] };
 })
 unfolding read_sheet sheet_lines line_in lines_from line fields field word starts number digits well_made in_range value_from
 near_fault_read = refl
 
--- six numbers, and eleven
-pub site_otherwise : (read_sheet (bytes "site\t80\t45\t100\t55\t112\t123\n" ++ building) ≡ refused 16 1)
-    × (read_sheet (bytes "site\t80\t45\t100\t55\t112\t123\t118\t136\t1\t1\t1\n" ++ building) ≡ refused 16 1)
+-- eight numbers, and ten
+pub site_otherwise : (read_sheet (bytes "site\t80\t45\t100\t55\t112\t123\t118\t1\n" ++ building) ≡ refused 16 1)
+    × (read_sheet (bytes "site\t80\t45\t100\t55\t112\t123\t118\t136\t1\t1\n" ++ building) ≡ refused 16 1)
 unfolding read_sheet sheet_lines line_in lines_from line fields field word starts number digits well_made in_range value_from
 site_otherwise = (refl, refl)
-
--- eight numbers: the profile last
-pub draft_read : read_sheet school ≡ accepted (record {
-  ground = Site (record { ssd = 60; s1d = 35; ssm = 80; s1m = 45; nad = 100; nvd = 112; nam = 100; nvm = 112; class = 2; profile = 2 });
-  frame = record { kind = 2; calculated = 0; r = 280; i = 125; alpha = 150 };
-  levels = record { weights = 3_200 ∷ 3_200 ∷ 2_600 ∷ []; heights = 42 ∷ 78 ∷ 114 ∷ [] };
-})
-unfolding read_sheet sheet_lines line_in lines_from line fields field word starts number digits well_made in_range value_from
-draft_read = refl
-
--- an eighth number of 3, and a tenth: read, and refused with 27, also where a mapped value is not listed
-pub third_profile : (outcome_of (bytes "site\t80\t45\t100\t55\t100\t100\t1\t3\n" ++ building) ≡ refused 27 0)
-    × (outcome_of (bytes "site\t81\t45\t100\t55\t112\t123\t118\t136\t1\t3\n" ++ building) ≡ refused 27 0)
-unfolding read_sheet sheet_lines line_in lines_from line fields field word starts number digits well_made in_range value_from
-    job_of judged_job judged_levels weighed raised within judged_site judged_profile
-third_profile = (refl, refl)
 
 pub basin_read : read_sheet basin ≡ accepted (record {
   ground = Basin 1;
@@ -117,13 +90,6 @@ pub near_fault_listed : results_listing (record { v = 2_116_869; vm = 2_177_765;
     ++ (bytes "level\t2\t725922\t1814805\t290368800\n" ++ bytes "level\t1\t362960\t2177765\t508145300\n"))
 unfolding results_listing roof_first laid_out fields_of field_of decimal digits_of
 near_fault_listed = refl
-
-pub draft_listed : results_listing (record { v = 2_086_058; vm = 2_144_827; star = 0; vd = 2_144_827; t = 434 })
-    (423_669 ∷ 786_815 ∷ 934_343 ∷ []) (2_144_827 ∷ 1_721_158 ∷ 934_343 ∷ []) (185_680_770 ∷ 95_598_036 ∷ 33_636_348 ∷ [])
-    ≡ bytes "base\t2086058\t2144827\t0\t2144827\t434\n" ++ (bytes "level\t3\t934343\t934343\t33636348\n"
-    ++ (bytes "level\t2\t786815\t1721158\t95598036\n" ++ bytes "level\t1\t423669\t2144827\t185680770\n"))
-unfolding results_listing roof_first laid_out fields_of field_of decimal digits_of
-draft_listed = refl
 
 pub basin_listed : results_listing (record { v = 1_917_367; vm = 1_873_973; star = 1_714_286; vd = 1_917_367; t = 1_000 })
     (297_191 ∷ 594_384 ∷ 1_025_792 ∷ []) (1_917_367 ∷ 1_620_176 ∷ 1_025_792 ∷ []) (456_333_500 ∷ 264_596_800 ∷ 102_579_200 ∷ [])
@@ -159,11 +125,3 @@ pub basin_answered : sheet_listing basin ≡ bytes "base\t1917367\t1873973\t1714
 unfolding sheet_listing listing
 basin_answered =
     ap (λ (o : Outcome Sheet). listing (o >>= job_of_sheet)) basin_read ∙ ap listing worked_basin.0 ∙ basin_listed
-
--- and by the draft, whose V* is printed as 0, this one
-pub draft_answered : sheet_listing school ≡ bytes "base\t2086058\t2144827\t0\t2144827\t434\n"
-    ++ (bytes "level\t3\t934343\t934343\t33636348\n"
-    ++ (bytes "level\t2\t786815\t1721158\t95598036\n" ++ bytes "level\t1\t423669\t2144827\t185680770\n"))
-unfolding sheet_listing listing
-draft_answered =
-    ap (λ (o : Outcome Sheet). listing (o >>= job_of_sheet)) draft_read ∙ ap listing worked_draft.3 ∙ draft_listed

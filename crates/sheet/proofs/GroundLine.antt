@@ -22,12 +22,12 @@ use Rattle.text.proofs.Back.{line_back}
 use Rattle.text.proofs.Readings.{LineWent}
 use Rattle.text.proofs.Stored.{in_cells}
 use Rattle.text.proofs.Trip.{line_read_lem}
-use Rattle.sheet.specs.declared.ground_line.GroundLineAnswer.{GroundLineAnswer}
-use Rattle.sheet.specs.declared.ground_line.GroundLineAnswer.TheVariants.{Found, Otherwise}
+use Rattle.sheet.specs.declared.reader.GroundLineAnswer.{GroundLineAnswer}
+use Rattle.sheet.specs.declared.reader.GroundLineAnswer.TheVariants.{Found, Otherwise}
 use Rattle.sheet.specs.Layouts.{Layout, Line, line_laid}
 use Rattle.sheet.specs.Lines.{Front, line_in}
 use Rattle.sheet.specs.Reading.{ground_line_answer}
-use Rattle.sheet.specs.Sheet.{one_pair_layout, two_pairs_layout, one_pair_profile_layout, two_pairs_profile_layout, basin_layout, site_by, site_values, pair_twice, ground_of}
+use Rattle.sheet.specs.Sheet.{one_pair_layout, two_pairs_layout, basin_layout, site_values, pair_twice, ground_of}
 use Rattle.limits.specs.Outcome.{Outcome, accepted, refused}
 use Rattle.sheet.proofs.OneLine.{taken_line, stopped_line}
 use Rattle.sheet.proofs.Fitting.{front, line_fits, line_not, no_more}
@@ -104,61 +104,41 @@ module _ (ks : List Layout) (s : List ℕ) where
       go (refused n p) q t = let r = stopped_line 1 ks s n p q in rw (r.0, r.1)
 
 -- ---- what a line of each layout holds, by the cells that the code reads it into
-one_held : (p : ℕ) (ns : List ℕ) → site_by p (pair_twice (laid ns blank)) ≡ site_by p (pair_twice ns)
-one_held p ns =
-    rw (in_cells ns 0, in_cells ns 1, in_cells ns 2, in_cells ns 3, in_cells ns 4, in_cells ns 5, in_cells ns 6)
-
-two_held : (p : ℕ) (ns : List ℕ) → site_by p (laid ns blank) ≡ site_by p ns
-two_held p ns =
-    rw (
-      in_cells ns 0,
-      in_cells ns 1,
-      in_cells ns 2,
-      in_cells ns 3,
-      in_cells ns 4,
-      in_cells ns 5,
-      in_cells ns 6,
-      in_cells ns 7,
-      in_cells ns 8,
-    )
-
-module _ (s : List ℕ) {second : Cursor} {held : List ℕ} {v : SiteValues} (ks : List Layout) where
-  pub one_pair_found : (went : LineWent start second (line one_pair_layout.word 7 s) held) → v ≡ site_by 1 (pair_twice held)
-      → Found (Site v) second ≡ ground_line_answer (line_in 1 (one_pair_layout ∷ ks) s)
-  unfolding starts
-  one_pair_found went e =
-      first_fits one_pair_layout ks s went
-      (rw (count_is one_pair_layout s went)
-      (ap Site (e ∙ ap (λ (l : List ℕ). site_by 1 (pair_twice l)) went.held_is ∙ one_held 1 went.numbers)))
-
-  pub two_pairs_found : (went : LineWent start second (line two_pairs_layout.word 9 s) held) → v ≡ site_by 1 held
-      → Found (Site v) second ≡ ground_line_answer (line_in 1 (two_pairs_layout ∷ ks) s)
-  unfolding starts
-  two_pairs_found went e =
-      first_fits two_pairs_layout ks s went
-      (rw (count_is two_pairs_layout s went) (ap Site (e ∙ ap (site_by 1) went.held_is ∙ two_held 1 went.numbers)))
-
-  pub one_pair_profile_found : (went : LineWent start second (line one_pair_profile_layout.word 8 s) held)
-      → v ≡ site_by (get_or held 7 0) (pair_twice held) → Found (Site v) second ≡ ground_line_answer (line_in 1 (one_pair_profile_layout ∷ ks) s)
-  unfolding starts
-  one_pair_profile_found went e =
-      let ns = went.numbers in
-      first_fits one_pair_profile_layout ks s went
-      (rw (count_is one_pair_profile_layout s went)
-      (ap Site
-      (e ∙ ap (λ (l : List ℕ). site_by (get_or l 7 0) (pair_twice l)) went.held_is ∙ ap (λ (p : ℕ). site_by p (pair_twice (laid ns blank))) (in_cells ns 7)
-      ∙ one_held (get_or ns 7 0) ns)))
-
-  pub two_pairs_profile_found : (went : LineWent start second (line two_pairs_profile_layout.word 10 s) held) → v ≡ site_values held
-      → Found (Site v) second ≡ ground_line_answer (line_in 1 (two_pairs_profile_layout ∷ ks) s)
-  unfolding starts
-  two_pairs_profile_found went e =
-      let ns = went.numbers in
-      first_fits two_pairs_profile_layout ks s went
-      (rw (count_is two_pairs_profile_layout s went)
-      (ap Site (e ∙ ap site_values went.held_is ∙ ap (λ (p : ℕ). site_by p (laid ns blank)) (in_cells ns 9) ∙ two_held (get_or ns 9 0) ns)))
-
 module _ (s : List ℕ) {second : Cursor} {held : List ℕ} where
+  pub one_pair_found : (ks : List Layout) (went : LineWent start second (line one_pair_layout.word 7 s) held) {v : SiteValues}
+      → v ≡ site_values (pair_twice held) → Found (Site v) second ≡ ground_line_answer (line_in 1 (one_pair_layout ∷ ks) s)
+  unfolding starts
+  one_pair_found ks went {v} e =
+      let ns = went.numbers in
+      first_fits one_pair_layout ks s went
+      (rw (count_is one_pair_layout s went) (ap Site (e ∙ ap (λ (l : List ℕ). site_values (pair_twice l)) went.held_is ∙ one_held ns)))
+    where
+      one_held : (ns : List ℕ) → site_values (pair_twice (laid ns blank)) ≡ site_values (pair_twice ns)
+      one_held ns =
+          rw (in_cells ns 0, in_cells ns 1, in_cells ns 2, in_cells ns 3, in_cells ns 4, in_cells ns 5, in_cells ns 6)
+
+  pub two_pairs_found : (ks : List Layout) (went : LineWent start second (line two_pairs_layout.word 9 s) held) {v : SiteValues}
+      → v ≡ site_values held → Found (Site v) second ≡ ground_line_answer (line_in 1 (two_pairs_layout ∷ ks) s)
+  unfolding starts
+  two_pairs_found ks went {v} e =
+      let ns = went.numbers in
+      first_fits two_pairs_layout ks s went
+      (rw (count_is two_pairs_layout s went) (ap Site (e ∙ ap site_values went.held_is ∙ two_held ns)))
+    where
+      two_held : (ns : List ℕ) → site_values (laid ns blank) ≡ site_values ns
+      two_held ns =
+          rw (
+            in_cells ns 0,
+            in_cells ns 1,
+            in_cells ns 2,
+            in_cells ns 3,
+            in_cells ns 4,
+            in_cells ns 5,
+            in_cells ns 6,
+            in_cells ns 7,
+            in_cells ns 8,
+          )
+
   pub basin_found : (ks : List Layout) (went : LineWent start second (line basin_layout.word 1 s) held)
       → Found (Basin (get_or held 0 0)) second ≡ ground_line_answer (line_in 1 (basin_layout ∷ ks) s)
   unfolding starts

@@ -9,16 +9,15 @@ use lib.ListN.{length}
 use borrow.Author.Tests.{le-leb, lt-leb}
 use Rattle.limits.specs.declared.ground.GroundValues.{GroundValues}
 use Rattle.limits.specs.declared.ground.GroundValues.TheVariants.{Site}
-use Rattle.limits.specs.declared.site.SiteValues.{SiteValues}
 use Rattle.limits.specs.Outcome.{Outcome, accepted, refused, ◌>>=◌}
 use Rattle.text.specs.Reading.{starts}
 use Rattle.text.specs.Writing.{AllShort}
 use Rattle.sheet.proofs.Lines.{WordedForm, laid_lines_read}
 use Rattle.sheet.proofs.OneLine.{no_word, and_word}
-use Rattle.sheet.specs.Laid.{GroundLine, two_pairs, one_pair, two_pairs_profile, one_pair_profile, zone, level_lines_of, lines_of, sheet_laid, Laid}
+use Rattle.sheet.specs.Laid.{GroundLine, two_pairs, one_pair, zone, level_lines_of, lines_of, sheet_laid, Laid}
 use Rattle.sheet.specs.Layouts.{Line, layout_of, first_of, past, lines_laid, LaidLines}
 use Rattle.sheet.specs.Reading.{sheet_lines, read_sheet}
-use Rattle.sheet.specs.Sheet.{sheet_form, level_form, one_pair_layout, two_pairs_layout, one_pair_profile_layout, two_pairs_profile_layout, basin_layout, frame_layout, level_layout, ground_of, Levels, levels_of, Sheet, sheet_of}
+use Rattle.sheet.specs.Sheet.{sheet_form, level_form, one_pair_layout, two_pairs_layout, basin_layout, frame_layout, level_layout, ground_of, Levels, levels_of, Sheet, sheet_of}
 
 -- ---- 17 before everything
 module _ (s : List ℕ) where
@@ -40,10 +39,7 @@ frame_worded (suc i) = level_worded i
 
 pub sheet_worded : WordedForm sheet_form
 sheet_worded zero =
-    and_word one_pair_layout (omega arith)
-    (and_word two_pairs_layout (omega arith)
-    (and_word one_pair_profile_layout (omega arith)
-    (and_word two_pairs_profile_layout (omega arith) (and_word basin_layout (omega arith) no_word))))
+    and_word one_pair_layout (omega arith) (and_word two_pairs_layout (omega arith) (and_word basin_layout (omega arith) no_word))
 sheet_worded (suc i) = frame_worded i
 
 -- ---- the lines of what a sheet holds
@@ -62,34 +58,25 @@ levels_back (w ∷ ws) (h ∷ hs) e =
 
 -- ---- line 1
 ground_laid : (g : GroundValues) (l : Line) → GroundLine g l → Memᴰ (layout_of l) (first_of sheet_form)
-ground_laid g l (one_pair v o a b) = Memᴰ.head refl
-ground_laid g l (two_pairs v o) = Memᴰ.tail (Memᴰ.head refl)
-ground_laid g l (one_pair_profile v a b) = Memᴰ.tail (Memᴰ.tail (Memᴰ.head refl))
-ground_laid g l (two_pairs_profile v) = Memᴰ.tail (Memᴰ.tail (Memᴰ.tail (Memᴰ.head refl)))
-ground_laid g l (zone z) = Memᴰ.tail (Memᴰ.tail (Memᴰ.tail (Memᴰ.tail (Memᴰ.head refl))))
+ground_laid g l (one_pair v a b) = Memᴰ.head refl
+ground_laid g l (two_pairs v) = Memᴰ.tail (Memᴰ.head refl)
+ground_laid g l (zone z) = Memᴰ.tail (Memᴰ.tail (Memᴰ.head refl))
 
--- a site with another pair of the MCE level and another profile
-abbrev pair_and_profile : SiteValues → ℕ → ℕ → ℕ → SiteValues
-pair_and_profile v nam nvm profile =
-    record {
+ground_same : (g : GroundValues) (l : Line) → GroundLine g l → ground_of l ≡ g
+unfolding starts
+ground_same g l (one_pair v a b) =
+    λ i. Site (record {
       ssd = v.ssd;
       s1d = v.s1d;
       ssm = v.ssm;
       s1m = v.s1m;
       nad = v.nad;
       nvd = v.nvd;
-      nam = nam;
-      nvm = nvm;
+      nam = sym a i;
+      nvm = sym b i;
       class = v.class;
-      profile = profile;
-    }
-
-ground_same : (g : GroundValues) (l : Line) → GroundLine g l → ground_of l ≡ g
-unfolding starts
-ground_same g l (one_pair v o a b) = λ i. Site (pair_and_profile v (sym a i) (sym b i) (sym o i))
-ground_same g l (two_pairs v o) = λ i. Site (pair_and_profile v v.nam v.nvm (sym o i))
-ground_same g l (one_pair_profile v a b) = λ i. Site (pair_and_profile v (sym a i) (sym b i) v.profile)
-ground_same g l (two_pairs_profile v) = refl
+    })
+ground_same g l (two_pairs v) = refl
 ground_same g l (zone z) = refl
 
 -- lines that are laid out are read, and hold what they hold

@@ -22,8 +22,6 @@ pub mod Listable
 pub mod Cut
 pub mod Examples
 pub mod Demands
-pub mod AlikeLines
 pub mod OnePair
-pub mod ProfileNamed
 pub mod OtherCounts
 pub mod EitherLine

@@ -19,11 +19,11 @@ use Rattle.limits.proofs.Passed.{differ, one_value, bind_passed, then_passed, re
 use Rattle.text.specs.Reading.{starts}
 use Rattle.text.specs.Writing.{AllShort}
 use Rattle.sheet.proofs.Lines.{read_lines_laid}
-use Rattle.sheet.specs.Laid.{GroundLine, two_pairs, one_pair, two_pairs_profile, one_pair_profile, zone, level_lines_of, lines_of, sheet_laid, Laid}
+use Rattle.sheet.specs.Laid.{GroundLine, two_pairs, one_pair, zone, level_lines_of, lines_of, sheet_laid, Laid}
 use Rattle.sheet.specs.Layouts.{Layout, Line, layout_of, first_of, lines_laid, LaidLine, LaidLines}
 use Rattle.sheet.specs.Lines.{read_from}
 use Rattle.sheet.specs.Reading.{sheet_lines, read_sheet}
-use Rattle.sheet.specs.Sheet.{one_pair_layout, two_pairs_layout, one_pair_profile_layout, two_pairs_profile_layout, basin_layout, frame_layout, level_layout, sheet_form, level_form, site_by, site_values, pair_twice, ground_of}
+use Rattle.sheet.specs.Sheet.{one_pair_layout, two_pairs_layout, basin_layout, frame_layout, level_layout, sheet_form, level_form, site_values, pair_twice, ground_of}
 use Rattle.sheet.specs.Sheet.{levels_of, line_at, Sheet, sheet_of}
 
 -- ---- the lines of a sheet that is read
@@ -81,29 +81,15 @@ module _ (l : Line) where
   with_one_pair : layout_of l ≡ one_pair_layout → GroundLine (ground_of l) l
   unfolding cells starts
   with_one_pair e =
-      let v = site_by 1 (pair_twice l.numbers) in
-      known (Site v) (rw (ap (λ (k : Layout). k.word) e, ap (λ (k : Layout). k.numbers) e)) (one_pair v refl refl refl)
+      let v = site_values (pair_twice l.numbers) in
+      known (Site v) (rw (ap (λ (k : Layout). k.word) e, ap (λ (k : Layout). k.numbers) e)) (one_pair v refl refl)
       (line_back one_pair_layout l e)
 
   with_two_pairs : layout_of l ≡ two_pairs_layout → GroundLine (ground_of l) l
   unfolding cells starts
   with_two_pairs e =
-      let v = site_by 1 l.numbers in
-      known (Site v) (rw (ap (λ (k : Layout). k.word) e, ap (λ (k : Layout). k.numbers) e)) (two_pairs v refl) (line_back two_pairs_layout l e)
-
-  with_one_pair_profile : layout_of l ≡ one_pair_profile_layout → GroundLine (ground_of l) l
-  unfolding cells starts
-  with_one_pair_profile e =
-      let v = site_by (get_or l.numbers 7 0) (pair_twice l.numbers) in
-      known (Site v) (rw (ap (λ (k : Layout). k.word) e, ap (λ (k : Layout). k.numbers) e)) (one_pair_profile v refl refl)
-      (line_back one_pair_profile_layout l e)
-
-  with_two_pairs_profile : layout_of l ≡ two_pairs_profile_layout → GroundLine (ground_of l) l
-  unfolding cells starts
-  with_two_pairs_profile e =
       let v = site_values l.numbers in
-      known (Site v) (rw (ap (λ (k : Layout). k.word) e, ap (λ (k : Layout). k.numbers) e)) (two_pairs_profile v)
-      (line_back two_pairs_profile_layout l e)
+      known (Site v) (rw (ap (λ (k : Layout). k.word) e, ap (λ (k : Layout). k.numbers) e)) (two_pairs v) (line_back two_pairs_layout l e)
 
   in_basin_lem : layout_of l ≡ basin_layout → GroundLine (ground_of l) l
   unfolding cells starts
@@ -114,11 +100,7 @@ module _ (l : Line) where
   ground_back : LaidLine (first_of sheet_form) l → GroundLine (ground_of l) l
   ground_back t =
       ⊎_elim with_one_pair
-      (λ m. ⊎_elim with_two_pairs
-      (λ m. ⊎_elim with_one_pair_profile
-      (λ m. ⊎_elim with_two_pairs_profile (λ m. in_basin_lem (Memᴰ.eq_of_singleton m)) (Memᴰ.cases_cons m))
-      (Memᴰ.cases_cons m))
-      (Memᴰ.cases_cons m))
+      (λ m. ⊎_elim with_two_pairs (λ m'. in_basin_lem (Memᴰ.eq_of_singleton m')) (Memᴰ.cases_cons m))
       (Memᴰ.cases_cons t.layout)
 
 -- ---- the level lines

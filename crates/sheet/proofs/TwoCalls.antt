@@ -3,13 +3,11 @@
 -- Assumes nothing.
 use mathlib.Core.Path.{◌≡◌, refl}
 use mathlib.Core.List.{List}
-use mathlib.Core.Logic.{inl}
-use Prim.Native.Nat.{ℕ}
+use Prim.Native.Nat.{ℕ, ◌≤◌}
 use native.Mathlib.Omega.{arith}
 use lib.ListN.{length}
 use Rattle.limits.specs.Outcome.{Outcome, accepted, refused, ◌>>=◌}
-use Rattle.limits.proofs.Numbers.{OfJob, numbered_levels}
-use Rattle.limits.proofs.Numbers as numbers
+use Rattle.limits.proofs.Numbers.{numbered_levels, at_most_18}
 use Rattle.job.specs.InTurn.{in_turn}
 use Rattle.job.specs.Job.{Results}
 use Rattle.job.proofs.InTurn.{job_in_turn}
@@ -30,11 +28,11 @@ sheet_in_turn_lem s = go (read_sheet s)
     go (accepted r) = job_in_turn r.ground r.frame r.levels.weights r.levels.heights (length r.levels.weights)
     go (refused n p) = refl
 
--- ---- the numbers of a sheet are 1 to 18 and 27, as those of a job are
-of_sheets : (s : List ℕ) (n p : ℕ) → SheetApplies s n p → OfJob n
-of_sheets s n p (long h) = inl (omega arith)
-of_sheets s n p (line f) = inl (omega arith)
-of_sheets s n p (of_job ls t is a) = numbers.of_job _ (λ n p. numbered_levels) _ _ a
+-- ---- the numbers of a sheet end at 18, as those of a job do
+of_sheets : (s : List ℕ) (n p : ℕ) → SheetApplies s n p → n ≤ 18
+of_sheets s n p (long h) = omega arith
+of_sheets s n p (line f) = omega arith
+of_sheets s n p (of_job ls t is a) = (at_most_18 _ (λ n p. numbered_levels) _ _ a).1
 
-pub never_19_nor_20 : (s : List ℕ) (n p : ℕ) → outcome_of s ≡ refused n p → OfJob n
+pub never_19_nor_20 : (s : List ℕ) (n p : ℕ) → outcome_of s ≡ refused n p → n ≤ 18
 never_19_nor_20 s n p e = of_sheets s n p ((sheet_first s).refused_applies n p e)

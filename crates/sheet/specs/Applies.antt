@@ -1,4 +1,4 @@
--- When each refusal of a sheet applies: 'What comes back when data is bad', 17 and 16, and 1 to 12, 18 and 27 of the job of what it holds.
+-- When each refusal of a sheet applies: 'What comes back when data is bad', 17 and 16, and 1 to 12 and 18 of the job of what it holds.
 --   HeldApplies r n p     refusal n applies at place p to the job of what a sheet holds
 --   SheetApplies s n p    refusal n applies at place p to the bytes s: 17 where they are over 4,096; 16 at the first line that is
 --                         otherwise; and where the lines are as they may be, what applies to their job

@@ -1,10 +1,10 @@
 -- A sheet laid out as 'Sheet and listing' says: the lines and the bytes of a sheet that holds given numbers.
---   two_pairs_numbers v                the numbers of a site line with a pair for each hazard level, in order;  two_pairs_profile_numbers v    the same with the profile last
---   one_pair_numbers v                 of one with one pair for both hazard levels;  one_pair_profile_numbers v    with the profile last
+--   site_numbers v                    the numbers of a site line with a pair for each hazard level, in order
+--   one_pair_numbers v                 of one with one pair for both hazard levels
 --   frame_numbers v                   of line 2
 --   site_line ns                      the line `site` with the numbers ns
---   GroundLine g l                   l is a line 1 that holds the ground g: of a site by ten numbers, or by eight where both hazard levels have the same
---                                    pair; where the profile is ours, by nine or seven; or of a zone
+--   GroundLine g l                   l is a line 1 that holds the ground g: of a site by nine numbers, or by seven where both hazard levels
+--                                    have the same pair; or of a zone
 --   level_lines_of ws hs               a level line for each weight and height, lowest first
 --   lines_of l r, sheet_laid l r       the lines of what r holds, l being line 1, and their bytes
 --   Laid l r                         l holds the ground, each number has at most 9 digits, there are as many heights as weights, and
@@ -19,17 +19,11 @@ use Rattle.text.specs.Writing.{AllShort}
 use Rattle.sheet.specs.Layouts.{Line, lines_laid}
 use Rattle.sheet.specs.Sheet.{Sheet}
 
-abbrev pub two_pairs_numbers : SiteValues → List ℕ
-two_pairs_numbers v = v.ssd ∷ v.s1d ∷ v.ssm ∷ v.s1m ∷ v.nad ∷ v.nvd ∷ v.nam ∷ v.nvm ∷ v.class ∷ []
-
-abbrev pub two_pairs_profile_numbers : SiteValues → List ℕ
-two_pairs_profile_numbers v = v.ssd ∷ v.s1d ∷ v.ssm ∷ v.s1m ∷ v.nad ∷ v.nvd ∷ v.nam ∷ v.nvm ∷ v.class ∷ v.profile ∷ []
+abbrev pub site_numbers : SiteValues → List ℕ
+site_numbers v = v.ssd ∷ v.s1d ∷ v.ssm ∷ v.s1m ∷ v.nad ∷ v.nvd ∷ v.nam ∷ v.nvm ∷ v.class ∷ []
 
 abbrev pub one_pair_numbers : SiteValues → List ℕ
 one_pair_numbers v = v.ssd ∷ v.s1d ∷ v.ssm ∷ v.s1m ∷ v.nad ∷ v.nvd ∷ v.class ∷ []
-
-abbrev pub one_pair_profile_numbers : SiteValues → List ℕ
-one_pair_profile_numbers v = v.ssd ∷ v.s1d ∷ v.ssm ∷ v.s1m ∷ v.nad ∷ v.nvd ∷ v.class ∷ v.profile ∷ []
 
 abbrev pub frame_numbers : FrameValues → List ℕ
 frame_numbers v = v.kind ∷ v.calculated ∷ v.r ∷ v.i ∷ v.alpha ∷ []
@@ -38,10 +32,8 @@ abbrev pub site_line : List ℕ → Line
 site_line ns = record { word = bytes "site"; numbers = ns }
 
 pub data GroundLine : GroundValues → Line → Type 0 where
-  two_pairs : (v : SiteValues) → v.profile ≡ 1 → GroundLine (Site v) (site_line (two_pairs_numbers v))
-  one_pair : (v : SiteValues) → v.profile ≡ 1 → v.nam ≡ v.nad → v.nvm ≡ v.nvd → GroundLine (Site v) (site_line (one_pair_numbers v))
-  two_pairs_profile : (v : SiteValues) → GroundLine (Site v) (site_line (two_pairs_profile_numbers v))
-  one_pair_profile : (v : SiteValues) → v.nam ≡ v.nad → v.nvm ≡ v.nvd → GroundLine (Site v) (site_line (one_pair_profile_numbers v))
+  two_pairs : (v : SiteValues) → GroundLine (Site v) (site_line (site_numbers v))
+  one_pair : (v : SiteValues) → v.nam ≡ v.nad → v.nvm ≡ v.nvd → GroundLine (Site v) (site_line (one_pair_numbers v))
   zone : (z : ℕ) → GroundLine (Basin z) (record { word = bytes "basin"; numbers = z ∷ [] })
 
 abbrev pub level_lines_of : List ℕ → List ℕ → List Line

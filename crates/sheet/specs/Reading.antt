@@ -17,8 +17,8 @@ use Rattle.limits.specs.declared.ground.GroundValues.{GroundValues}
 use Rattle.limits.specs.Outcome.{Outcome, accepted, refused, zeros, require, ◌>>=◌, ◌>>◌}
 use Rattle.text.specs.Reading.{Reading, found, otherwise, after}
 use Rattle.text.specs.declared.reading.Cursor.{Cursor}
-use Rattle.sheet.specs.declared.ground_line.GroundLineAnswer.{GroundLineAnswer}
-use Rattle.sheet.specs.declared.ground_line.GroundLineAnswer.TheVariants.{Found as FoundGround, Otherwise as NoGround}
+use Rattle.sheet.specs.declared.reader.GroundLineAnswer.{GroundLineAnswer}
+use Rattle.sheet.specs.declared.reader.GroundLineAnswer.TheVariants.{Found as FoundGround, Otherwise as NoGround}
 use Rattle.sheet.specs.declared.levels.LevelLineAnswer.{LevelLineAnswer}
 use Rattle.sheet.specs.declared.levels.LevelLineAnswer.TheVariants.{Found, Otherwise}
 use Rattle.sheet.specs.declared.levels.LevelsAnswer.{LevelsAnswer}

@@ -1,14 +1,12 @@
 -- 'Sheet and listing': the lines of a sheet, and what they hold.
 --   one_pair_layout, two_pairs_layout    the layouts of a site line: one pair of near-fault factors for both hazard levels, or one for each
---   one_pair_profile_layout, two_pairs_profile_layout    the same with the profile last
 --   basin_layout, frame_layout, level_layout    of the other lines
---   sheet_form          'Line 1 is `site`', with seven numbers or nine, with the profile eight or ten, or `basin` with the zone in its place; 'Line 2 is `frame`', 'All
+--   sheet_form          'Line 1 is `site`', with seven numbers or nine, or `basin` with the zone in its place; 'Line 2 is `frame`', 'All
 --                      later lines are `level`'
 --   level_form          the form of the lines after these two
---   site_by p ns        S_S D, S_1 D, S_S M, S_1 M, N_A, N_V, N_A M, N_V M, class; profile p
---   site_values ns      these nine, and the profile as the tenth
+--   site_values ns      S_S D, S_1 D, S_S M, S_1 M, N_A, N_V, N_A M, N_V M, class
 --   pair_twice ns       the nine numbers that seven stand for: 'A sheet with the old seven fields still means one pair for both'
---   held_site ns        what the numbers of a site line hold: seven or nine with our profile, 'without it, 1'; eight or ten with that of the 'last field'
+--   held_site ns        what the numbers of a site line hold, be they seven or nine
 --   is_word w v         v is the word w
 --   ground_of l         what line 1 holds: the zone where its word is `basin`, else the site
 --   frame_values ns     kind, calculated period, R, I, alpha-y
@@ -33,12 +31,6 @@ one_pair_layout = record { word = bytes "site"; numbers = 7 }
 abbrev pub two_pairs_layout : Layout
 two_pairs_layout = record { word = bytes "site"; numbers = 9 }
 
-abbrev pub one_pair_profile_layout : Layout
-one_pair_profile_layout = record { word = bytes "site"; numbers = 8 }
-
-abbrev pub two_pairs_profile_layout : Layout
-two_pairs_profile_layout = record { word = bytes "site"; numbers = 10 }
-
 abbrev pub basin_layout : Layout
 basin_layout = record { word = bytes "basin"; numbers = 1 }
 
@@ -50,16 +42,13 @@ level_layout = record { word = bytes "level"; numbers = 2 }
 
 abbrev pub sheet_form : Form
 sheet_form =
-    record {
-      heads = (one_pair_layout ∷ two_pairs_layout ∷ one_pair_profile_layout ∷ two_pairs_profile_layout ∷ basin_layout ∷ []) ∷ (frame_layout ∷ []) ∷ [];
-      later = level_layout ∷ [];
-    }
+    record { heads = (one_pair_layout ∷ two_pairs_layout ∷ basin_layout ∷ []) ∷ (frame_layout ∷ []) ∷ []; later = level_layout ∷ [] }
 
 abbrev pub level_form : Form
 level_form = record { heads = []; later = level_layout ∷ [] }
 
-abbrev pub site_by : ℕ → List ℕ → SiteValues
-site_by p ns =
+abbrev pub site_values : List ℕ → SiteValues
+site_values ns =
     record {
       ssd = get_or ns 0 0;
       s1d = get_or ns 1 0;
@@ -70,11 +59,7 @@ site_by p ns =
       nam = get_or ns 6 0;
       nvm = get_or ns 7 0;
       class = get_or ns 8 0;
-      profile = p;
     }
-
-abbrev pub site_values : List ℕ → SiteValues
-site_values ns = site_by (get_or ns 9 0) ns
 
 abbrev pub pair_twice : List ℕ → List ℕ
 pair_twice ns =
@@ -90,11 +75,7 @@ pair_twice ns =
     ∷ []
 
 abbrev pub held_site : List ℕ → SiteValues
-held_site ns =
-    pick (eqb (length ns) one_pair_layout.numbers) (site_by 1 (pair_twice ns))
-    (pick (eqb (length ns) two_pairs_layout.numbers) (site_by 1 ns)
-    (pick (eqb (length ns) one_pair_profile_layout.numbers) (site_by (get_or ns 7 0) (pair_twice ns))
-    (site_values ns)))
+held_site ns = site_values (pick (eqb (length ns) one_pair_layout.numbers) (pair_twice ns) ns)
 
 abbrev pub is_word : List ℕ → List ℕ → Bool
 is_word w v = starts w v && starts v w

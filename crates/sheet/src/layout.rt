@@ -1,15 +1,10 @@
 // The lines of a sheet: which line is which, and how many numbers follow its word.
-// Line 1 is `site`, with one pair of near-fault factors for both hazard levels or with a pair for each, and with the profile last or without it; or `basin` in
-// its place.
+// Line 1 is `site`, with one pair of near-fault factors for both hazard levels or with a pair for each; or `basin` in its place.
 pub const GROUND_LINE: u64 = 1;
 
 pub const ONE_PAIR_NUMBERS: usize = 7;
 
 pub const TWO_PAIRS_NUMBERS: usize = 9;
-
-pub const ONE_PAIR_PROFILE_NUMBERS: usize = 8;
-
-pub const TWO_PAIRS_PROFILE_NUMBERS: usize = 10;
 
 pub const BASIN_NUMBERS: usize = 1;
 // Line 2 is `frame`.

@@ -7,7 +7,6 @@ use limits::refusal::Refusal;
 use listing::{LONGEST, Listing, put_refusal, put_results};
 use reader::{SheetAnswer, read_sheet};
 
-pub mod ground_line;
 pub mod layout;
 pub mod levels;
 pub mod listing;

@@ -1,18 +1,29 @@
 // How a sheet is read: line 1, line 2 and the level lines, or 17, then 16.
-ghost use Rattle.std.specs.Prelude.{◌≡◌};
+ghost use Rattle.std.specs.Prelude.{◌≡◌, [], ◌∷◌};
 ghost use Rattle.limits.specs.Outcome.{refused, refusal_of};
-ghost use Rattle.sheet.specs.Reading.{sheet_lines, read_sheet, sheet_read, sheet_outcome};
-ghost use Rattle.sheet.specs.Sheet.{frame_values};
+ghost use Rattle.sheet.specs.Layouts.{first_of};
+ghost use Rattle.sheet.specs.Lines.{line_in};
+ghost use Rattle.sheet.specs.Reading.{ground_line_answer, sheet_lines, read_sheet, sheet_read, sheet_outcome};
+ghost use Rattle.sheet.specs.Sheet.{two_pairs_layout, basin_layout, sheet_form, site_values, pair_twice, frame_values};
 
-use crate::ground_line::{GroundLineAnswer, ground_line};
-use crate::layout::{FRAME_LINE, FRAME_NUMBERS, GROUND_LINE};
+use crate::layout::{
+    BASIN_NUMBERS, FRAME_LINE, FRAME_NUMBERS, GROUND_LINE, ONE_PAIR_NUMBERS, TWO_PAIRS_NUMBERS,
+};
 use crate::levels::{KEPT, LevelsAnswer, level_lines};
 use limits::frame::FrameValues;
 use limits::ground::GroundValues;
 use limits::refusal::Refusal;
 use limits::sheet::Sheet;
+use limits::site::SiteValues;
 use text::line::line;
-use text::reading::ReadAnswer;
+use text::reading::{Cursor, ReadAnswer};
+
+// What line 1 holds, and where line 2 begins; or it is otherwise.
+#[derive(Drop)]
+pub enum GroundLineAnswer {
+    Found(GroundValues, Cursor),
+    Otherwise,
+}
 
 // What line 1 and line 2 hold, ground and frame, and how many levels are kept; or the refusal.
 #[derive(Drop)]
@@ -53,6 +64,40 @@ impl SheetRead {
     }
 }
 
+// A pair for each hazard level.
+fn two_pairs(n: [u64; 10]) -> SiteValues
+    ensures { result ≡ site_values n }
+{
+    SiteValues {
+        ssd: n[0],
+        s1d: n[1],
+        ssm: n[2],
+        s1m: n[3],
+        nad: n[4],
+        nvd: n[5],
+        nam: n[6],
+        nvm: n[7],
+        class: n[8],
+    }
+}
+
+// One pair for both hazard levels.
+fn one_pair(n: [u64; 10]) -> SiteValues
+    ensures { result ≡ site_values (pair_twice n) }
+{
+    SiteValues {
+        ssd: n[0],
+        s1d: n[1],
+        ssm: n[2],
+        s1m: n[3],
+        nad: n[4],
+        nvd: n[5],
+        nam: n[4],
+        nvm: n[5],
+        class: n[6],
+    }
+}
+
 fn frame_values(n: [u64; 10]) -> FrameValues
     ensures { result ≡ frame_values n }
 {
@@ -63,6 +108,48 @@ fn frame_values(n: [u64; 10]) -> FrameValues
         i: n[3],
         alpha: n[4],
     }
+}
+
+// Line 1, by the first of its layouts that it fits.
+fn ground_line(s: &[u8]) -> GroundLineAnswer
+    ensures { result ≡ ground_line_answer (line_in 1 (first_of sheet_form) s.now) }
+{
+    let front = Cursor { at: 0 };
+    let site = line(s, front, b"site", ONE_PAIR_NUMBERS);
+    let a = site.answer;
+    let ReadAnswer::Found(second) = a else {
+        return two_pairs_line(s);
+    };
+    let numbers = site.numbers;
+    GroundLineAnswer::Found(GroundValues::Site(one_pair(numbers)), second)
+}
+
+// Line 1, where it is no site line with one pair.
+fn two_pairs_line(s: &[u8]) -> GroundLineAnswer
+    ensures { result ≡ ground_line_answer (line_in 1 (two_pairs_layout ∷ basin_layout ∷ []) s.now) }
+{
+    let front = Cursor { at: 0 };
+    let site = line(s, front, b"site", TWO_PAIRS_NUMBERS);
+    let a = site.answer;
+    let ReadAnswer::Found(second) = a else {
+        return basin_line(s);
+    };
+    let numbers = site.numbers;
+    GroundLineAnswer::Found(GroundValues::Site(two_pairs(numbers)), second)
+}
+
+// Line 1, where it is no site line.
+fn basin_line(s: &[u8]) -> GroundLineAnswer
+    ensures { result ≡ ground_line_answer (line_in 1 (basin_layout ∷ []) s.now) }
+{
+    let front = Cursor { at: 0 };
+    let basin = line(s, front, b"basin", BASIN_NUMBERS);
+    let a = basin.answer;
+    let ReadAnswer::Found(second) = a else {
+        return GroundLineAnswer::Otherwise;
+    };
+    let numbers = basin.numbers;
+    GroundLineAnswer::Found(GroundValues::Basin(numbers[0]), second)
 }
 
 // Line 1, line 2, and all later lines, each from where the one before it ended.

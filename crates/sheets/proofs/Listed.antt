@@ -1,4 +1,4 @@
--- What is printed for a file once it is judged; no listing has over 53,209 bytes, whatever the file.
+-- What is printed for a file once it is judged; no listing has over 51,849 bytes, whatever the file.
 -- Assumes nothing.
 use mathlib.Core.Path.{◌≡◌, refl, sym, ap, subst, ◌∙◌}
 use mathlib.Core.List.{List}

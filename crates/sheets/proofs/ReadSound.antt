@@ -24,7 +24,7 @@ use Rattle.text.proofs.Fields.{line_length}
 use Rattle.text.proofs.Printed.{printed_digits}
 use Rattle.sheet.specs.Layouts.{Layout, Line, layout_of, first_of, past, line_laid, lines_laid, LaidLine, LaidLines}
 use Rattle.sheet.specs.Reading.{read_sheet}
-use Rattle.sheet.specs.Sheet.{sheet_form, level_form, one_pair_layout, two_pairs_layout, one_pair_profile_layout, two_pairs_profile_layout, basin_layout, frame_layout, level_layout, Sheet}
+use Rattle.sheet.specs.Sheet.{sheet_form, level_form, one_pair_layout, two_pairs_layout, basin_layout, frame_layout, level_layout, Sheet}
 use Rattle.sheet.proofs.ReadLaid.{read_lines}
 use Rattle.sheets.proofs.Joined.{come_apart}
 use Rattle.sheets.specs.Joined.{no_empty_line, closed, joined, Sound, AllSound}
@@ -107,10 +107,7 @@ of_frame = and_more frame_layout (refl, (refl, (refl, (refl, (refl, tt))))) no_m
 of_ground : Words (first_of sheet_form)
 of_ground =
     and_more one_pair_layout (refl, (refl, (refl, (refl, tt))))
-    (and_more two_pairs_layout (refl, (refl, (refl, (refl, tt))))
-    (and_more one_pair_profile_layout (refl, (refl, (refl, (refl, tt))))
-    (and_more two_pairs_profile_layout (refl, (refl, (refl, (refl, tt))))
-    (and_more basin_layout (refl, (refl, (refl, (refl, (refl, tt))))) no_more))))
+    (and_more two_pairs_layout (refl, (refl, (refl, (refl, tt)))) (and_more basin_layout (refl, (refl, (refl, (refl, (refl, tt))))) no_more))
 
 levels_over : (ls : List Line) → LaidLines level_form ls → Same true (lines_laid ls) true []
 levels_over [] t = record { line = refl; end = refl }

@@ -7,7 +7,7 @@
 --   file_of s             the answers to the sheets of the file s; or 22 for the whole
 --   listing o            what is printed for it: rows and report, or the one line of a refusal
 --   district_listing s    what is printed for the file s
---   longest              as many bytes as the longest listing may have: 20 digits a number, 256 rows, 133 cells
+--   longest              as many bytes as the longest listing may have: 20 digits a number, 256 rows, 113 cells
 --   PutsFile s old held p    a buffer that held old holds `held`, with what is printed for s over its first cells and the rest as it was; p says its
 --                        length and what is refused
 use Rattle.std.specs.Prelude.{◌≡◌, List, [], ◌∷◌, ◌++◌, ℕ, ◌+◌, ◌*◌}
@@ -56,7 +56,7 @@ unfoldable pub district_listing : List ℕ → List ℕ
 district_listing s = listing (file_of s)
 
 abbrev pub longest : ℕ
-longest = 53_209
+longest = 51_849
 
 pub record PutsFile (s old held : List ℕ) (p : Put) : Type 0 where
   pub listed : Written (district_listing s) old held p.length

@@ -10,8 +10,8 @@ use district_call::row::row_of;
 use district_call::weighed::WeighedAnswer;
 use text::writing::put_line;
 
-// With 20 digits a number a row has 172 bytes, the totals 133 and a cell 68: there is room for 256 rows and 133 cells.
-pub const LONGEST: usize = 53_209;
+// With 20 digits a number a row has 172 bytes, the totals 133 and a cell 68: there is room for 256 rows and 113 cells.
+pub const LONGEST: usize = 51_849;
 
 // Writes the row of a sheet from `at` on, and returns the place after it.
 pub fn put_row(out: &mut [u8], at: usize, number: u64, a: WeighedAnswer) -> usize

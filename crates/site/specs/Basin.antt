@@ -3,7 +3,7 @@
 --                           its square q. Its corner is T0: `design_corner`, `mce_corner` (proofs/Corners.antt)
 --   basin_design z R         S_DS = 0.6 g, T0 of the zone, the Basin's allowable capacity
 --   basin_mce z R            S_MS = 0.8 g, the same T0, R itself
---   basin_hazards z R        V's, V_M's, and V*'s, which is V's and counts W once; our lines; the divisors 1.4 of (7), (17) and 3.5 of (19), in tenths
+--   basin_hazards z R        V's, V_M's, and V*'s, which is V's; the divisors 1.4 of (7), (17) and 3.5 of (19), in tenths
 use Rattle.std.specs.Prelude.{ℕ, ◌*◌}
 use Rattle.whole.specs.declared.Fraction.{Fraction}
 use Rattle.limits.specs.declared.zone.Zone.{Zone}
@@ -31,5 +31,4 @@ basin_hazards z R =
       lines = lines;
       divisor = 14;
       stardivisor = 35;
-      starcount = 1;
     }

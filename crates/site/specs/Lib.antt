@@ -1,9 +1,7 @@
 pub mod Table2
-pub mod DraftTables
-pub mod Lines
-pub mod Profile
 pub mod Coefficients
 pub mod Capacity
+pub mod Lines
 pub mod SiteHazards
 pub mod Table4
 pub mod Basin

@@ -4,7 +4,7 @@ ghost use Rattle.site.specs.Basin.{basin_hazard, basin_hazards};
 
 use crate::capacity::{basin_capacity, basin_square, mce_capacity, mce_square};
 use crate::hazard::{Hazard, Hazards};
-use crate::lines::{DIVISOR, LINES, ONCE};
+use crate::lines::{DIVISOR, LINES};
 use crate::table4::corner_period;
 use limits::zone::Zone;
 use whole::Fraction;
@@ -48,6 +48,5 @@ pub fn basin_hazards(zone: Zone, r: u64) -> Hazards
         lines: LINES,
         divisor: DIVISOR,
         stardivisor: STAR_DIVISOR,
-        starcount: ONCE,
     }
 }

@@ -1,26 +1,14 @@
-// Site coefficients: functions of the profile, of the class and of S in the same call, and of nothing else.
-ghost use Rattle.std.specs.Prelude.{◌≡◌};
-ghost use Rattle.limits.specs.declared.profile.Profile.TheVariants.{Ours, Draft};
-ghost use Rattle.site.specs.Coefficients.{fa, fv};
+// Site coefficients, and A and B: functions of the class and of S in the same call, and of nothing else.
+ghost use Rattle.std.specs.Prelude.{◌≡◌, ◌≤◌};
+ghost use Rattle.site.specs.Coefficients.{fa, fv, acceleration_a, acceleration_b};
 
-use crate::{draft_tables, table2};
+use crate::table2;
 use limits::class::Class;
-use limits::profile::Profile;
 use whole::columns::between;
 
 // F_a in ten-thousandths.
-pub fn fa(profile: Profile, class: Class, s: u64) -> u64
-    ensures { result ≡ fa profile class s }
-{
-    match profile {
-        Profile::Ours => our_fa(class, s),
-        Profile::Draft => draft_fa(class, s),
-    }
-}
-
-// By Table 2.
-pub fn our_fa(class: Class, s: u64) -> u64
-    ensures { result ≡ fa Ours class s }
+pub fn fa(class: Class, s: u64) -> u64
+    ensures { result ≡ fa class s }
 {
     match class {
         Class::Hard => between(table2::HARD_A, s),
@@ -29,30 +17,9 @@ pub fn our_fa(class: Class, s: u64) -> u64
     }
 }
 
-// By Table 1 of the draft.
-pub fn draft_fa(class: Class, s: u64) -> u64
-    ensures { result ≡ fa Draft class s }
-{
-    match class {
-        Class::Hard => between(draft_tables::HARD_A, s),
-        Class::Normal => between(draft_tables::NORMAL_A, s),
-        Class::Soft => between(draft_tables::SOFT_A, s),
-    }
-}
-
 // F_v in ten-thousandths.
-pub fn fv(profile: Profile, class: Class, s: u64) -> u64
-    ensures { result ≡ fv profile class s }
-{
-    match profile {
-        Profile::Ours => our_fv(class, s),
-        Profile::Draft => draft_fv(class, s),
-    }
-}
-
-// By Table 2.
-pub fn our_fv(class: Class, s: u64) -> u64
-    ensures { result ≡ fv Ours class s }
+pub fn fv(class: Class, s: u64) -> u64
+    ensures { result ≡ fv class s }
 {
     match class {
         Class::Hard => between(table2::HARD_V, s),
@@ -61,13 +28,18 @@ pub fn our_fv(class: Class, s: u64) -> u64
     }
 }
 
-// By Table 2 of the draft.
-pub fn draft_fv(class: Class, s: u64) -> u64
-    ensures { result ≡ fv Draft class s }
+// A = F_a S_S in 10⁻⁸ g.
+pub fn acceleration_a(class: Class, s: u64) -> u64
+    requires { (5000 ≤ s) × (s ≤ 15_000) }
+    ensures { result ≡ acceleration_a class s }
 {
-    match class {
-        Class::Hard => between(draft_tables::HARD_V, s),
-        Class::Normal => between(draft_tables::NORMAL_V, s),
-        Class::Soft => between(draft_tables::SOFT_V, s),
-    }
+    fa(class, s) * s
+}
+
+// B = F_v S_1 in 10⁻⁸ g.
+pub fn acceleration_b(class: Class, s: u64) -> u64
+    requires { (3000 ≤ s) × (s ≤ 11_000) }
+    ensures { result ≡ acceleration_b class s }
+{
+    fv(class, s) * s
 }

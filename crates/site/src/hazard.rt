@@ -11,8 +11,7 @@ pub struct Hazard {
     pub square: Fraction,
 }
 
-// The hazards of V, V_M and V*, the lines, the divisors in tenths: 1.4 of V and V_M, 4.2 of V*, 3.5 in the Taipei Basin; and how often W counts in V*:
-// once, or not at all where there is no V*.
+// The hazards of V, V_M and V*, the lines, and the divisors in tenths: 1.4 of V and V_M, 4.2 of V*, 3.5 in the Taipei Basin.
 #[derive(Drop)]
 pub struct Hazards {
     pub design: Hazard,
@@ -21,5 +20,4 @@ pub struct Hazards {
     pub lines: Lines,
     pub divisor: u64,
     pub stardivisor: u64,
-    pub starcount: u64,
 }

@@ -3,7 +3,6 @@
 pub mod basin;
 pub mod capacity;
 pub mod coefficients;
-pub mod draft_tables;
 pub mod ground;
 pub mod hazard;
 pub mod lines;

@@ -2,7 +2,7 @@
 -- not above the hard one.
 -- Assumes nothing.
 use mathlib.Core.Path.{◌≡◌, refl, ap}
-use Prim.Native.Nat.{◌*◌, ◌^◌, ◌≤◌, ◌<◌}
+use Prim.Native.Nat.{◌*◌, ◌≤◌, ◌<◌}
 use native.Mathlib.Nat.{mul-le-mul}
 use native.Mathlib.Omega.{arith}
 use lib.Dec.{ltb}
@@ -12,11 +12,9 @@ use Rattle.limits.specs.declared.class.Class.{Class}
 use Rattle.limits.specs.declared.class.Class.TheVariants.{Hard, Normal, Soft}
 use Rattle.limits.specs.Outcome.{accepted}
 use Rattle.limits.specs.Class.{judged_class}
-use Rattle.limits.specs.declared.profile.Profile.{Profile}
-use Rattle.limits.specs.declared.profile.Profile.TheVariants.{Ours, Draft}
 use Rattle.soil.specs.declared.class.ClassLimits.{ClassLimits}
 use Rattle.soil.specs.declared.times.Times.{Times}
-use Rattle.soil.specs.Class.{limits_of, depth_time, class_of, class_number}
+use Rattle.soil.specs.Class.{depth_time, class_of, class_number}
 
 -- the class's number is the one that a site line gives it by
 pub class_number_lem : (c : Class) → judged_class (class_number c) ≡ accepted c
@@ -24,12 +22,6 @@ unfolding judged_class
 class_number_lem Hard = refl
 class_number_lem Normal = refl
 class_number_lem Soft = refl
-
--- both limits of a profile, of times of a log, fit 64 bits
-pub limits_most : (p : Profile) (t : Times) → (t.up ≤ 300_000_000_000) × (t.down ≤ 300_000_000_000)
-    → ((limits_of p).hard * t.up < 2 ^ 64) × ((limits_of p).soft * t.down < 2 ^ 64)
-limits_most Ours t h = (omega arith, omega arith)
-limits_most Draft t h = (omega arith, omega arith)
 
 module _ (l : ClassLimits) (t : Times) where
   pub hard_where : l.hard * t.up < depth_time → class_of l t ≡ Hard

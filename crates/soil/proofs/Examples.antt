@@ -1,7 +1,6 @@
 -- Document 01's figures of velocities. Of soft clay those of q = 1 and 400, and of 1 kgf/cm², 1200 dm/s exactly; that q of 0 and 401, kind
 -- 5 and cohesive soil of N = 1 are refused. Two logs of three layers of 10 m, measured, that come out normal though their averages are above
--- 270 m/s (270.0000033) and below 180 m/s (179.9999980): their exact times lie within 2 ns of the limits. Logs of one layer at
--- 180, 270 and 360 m/s and one step beside, by ours and by the draft; and 27, after 2 and before 13.
+-- 270 m/s (270.0000033) and below 180 m/s (179.9999980): their exact times lie within 2 ns of the limits.
 -- Assumes nothing.
 use mathlib.Core.Path.{◌≡◌, refl}
 use mathlib.Core.List.{List, [], ◌∷◌}
@@ -11,14 +10,12 @@ use Rattle.whole.specs.Cells.{sum}
 use Rattle.whole.specs.Fraction.{over, Less}
 use Rattle.whole.specs.Rounding.{up, down}
 use Rattle.whole.specs.Search.{bits_from, largest}
-use Rattle.limits.specs.declared.class.Class.{Class}
-use Rattle.limits.specs.declared.class.Class.TheVariants.{Hard, Normal, Soft}
-use Rattle.limits.specs.Outcome.{Outcome, accepted, refused}
-use Rattle.limits.specs.Profile.{judged_profile}
+use Rattle.limits.specs.declared.class.Class.TheVariants.{Normal}
+use Rattle.limits.specs.Outcome.{accepted, refused}
 use Rattle.limits.specs.Ranges.{in_range, within}
-use Rattle.soil.specs.Class.{limits_of, class_of}
+use Rattle.soil.specs.Class.{table3, class_of}
 use Rattle.soil.specs.Exact.{slowness, average}
-use Rattle.soil.specs.Log.{thick, deep, judged_lists, judged_thicknesses, judged_log, site_class}
+use Rattle.soil.specs.Log.{thick, deep, judged_log, site_class}
 use Rattle.soil.specs.Times.{added, judged_times}
 use Rattle.soil.specs.Velocity.{cube_root, strength_root, measured, by_rule, velocity, velocities}
 
@@ -47,32 +44,12 @@ fast = 1_190 ∷ 7_340 ∷ 7_433 ∷ []
 abbrev slow : List ℕ
 slow = 700 ∷ 5_030 ∷ 25_453 ∷ []
 
-pub above_270_yet_normal : (velocities 1 kinds fast ≡ accepted fast) × (site_class limits_of 1 thicknesses kinds fast ≡ accepted Normal)
+pub above_270_yet_normal : (velocities 1 kinds fast ≡ accepted fast) × (site_class table3 thicknesses kinds fast ≡ accepted Normal)
     × Less (over 2_700 1) (average thicknesses fast)
-unfolding site_class judged_log judged_lists judged_profile judged_thicknesses thick deep judged_times velocities velocity measured within in_range sum added up down class_of slowness
+unfolding site_class judged_log thick deep judged_times velocities velocity measured within in_range sum added up down class_of slowness
 above_270_yet_normal = (refl, refl, lit< tt)
 
-pub below_180_yet_normal : (velocities 1 kinds slow ≡ accepted slow) × (site_class limits_of 1 thicknesses kinds slow ≡ accepted Normal)
+pub below_180_yet_normal : (velocities 1 kinds slow ≡ accepted slow) × (site_class table3 thicknesses kinds slow ≡ accepted Normal)
     × Less (average thicknesses slow) (over 1_800 1)
-unfolding site_class judged_log judged_lists judged_profile judged_thicknesses thick deep judged_times velocities velocity measured within in_range sum added up down class_of slowness
+unfolding site_class judged_log thick deep judged_times velocities velocity measured within in_range sum added up down class_of slowness
 below_180_yet_normal = (refl, refl, lit< tt)
-
--- one layer of 30 m, by a profile and its velocity in dm/s
-abbrev one_layer : ℕ → ℕ → Outcome Class
-one_layer p v = site_class limits_of p (3_000 ∷ []) (1 ∷ []) (v ∷ [])
-
-pub ours_at_limits : (one_layer 1 1_799 ≡ accepted Soft) × (one_layer 1 1_800 ≡ accepted Normal) × (one_layer 1 2_700 ≡ accepted Normal)
-    × (one_layer 1 2_701 ≡ accepted Hard)
-unfolding site_class judged_log judged_lists judged_profile judged_thicknesses thick deep judged_times velocities velocity measured within in_range sum added up down class_of
-ours_at_limits = (refl, refl, refl, refl)
-
-pub draft_at_limits : (one_layer 2 1_799 ≡ accepted Soft) × (one_layer 2 1_800 ≡ accepted Normal) × (one_layer 2 2_701 ≡ accepted Normal)
-    × (one_layer 2 3_600 ≡ accepted Normal) × (one_layer 2 3_601 ≡ accepted Hard)
-unfolding site_class judged_log judged_lists judged_profile judged_thicknesses thick deep judged_times velocities velocity measured within in_range sum added up down class_of
-draft_at_limits = (refl, refl, refl, refl, refl)
-
--- no layer, and a kind too many: 2; no layer: 27, then 13
-pub profile_after_lists : (site_class limits_of 3 [] (1 ∷ []) [] ≡ refused 2 0) × (site_class limits_of 3 [] [] [] ≡ refused 27 0)
-    × (site_class limits_of 2 [] [] [] ≡ refused 13 0)
-unfolding site_class judged_log judged_lists judged_profile judged_thicknesses within in_range
-profile_after_lists = (refl, refl, refl)

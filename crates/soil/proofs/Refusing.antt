@@ -14,15 +14,12 @@ use Rattle.whole.proofs.Choice.{by_test}
 use Rattle.limits.specs.Lengths.{same_length}
 use Rattle.limits.specs.Outcome.{accepted, require, ◌>>=◌, ◌>>◌}
 use Rattle.limits.specs.Ranges.{within}
-use Rattle.limits.specs.Profile.{judged_profile}
-use Rattle.limits.specs.declared.profile.Profile.{Profile}
 use Rattle.soil.specs.declared.class.ClassLimits.{ClassLimits}
-use Rattle.soil.specs.Applies.{Allowed, measured, cohesive, cohesionless, soft_clay, Applies, lists, profile, layers, thickness, depth, layer}
-use Rattle.soil.specs.Log.{counted, thick, deep, judged_lists, judged_thicknesses, judged_log, site_class}
+use Rattle.soil.specs.Applies.{Allowed, measured, cohesive, cohesionless, soft_clay, Applies, lists, layers, thickness, depth, layer}
+use Rattle.soil.specs.Log.{counted, thick, deep, judged_log, site_class}
 use Rattle.soil.specs.Times.{judged_times, times}
 use Rattle.soil.specs.Velocity.{measured as measuredAt, by_rule, velocity, velocities}
-use Rattle.limits.proofs.ProfileStage.{profile_told}
-use Rattle.limits.proofs.Told.{Told, then_told, bind_told, value_told, require_told, within_told}
+use Rattle.limits.proofs.Told.{Told, then_told, bind_told, require_told, within_told}
 use Rattle.soil.proofs.Sound.{log_sound}
 
 -- a kind and value that miss each range of their kind are not allowed
@@ -33,9 +30,9 @@ wrong k x f g h i (cohesive e lo hi) = ⊎_elim (λ l. omega arith) (λ l. omega
 wrong k x f g h i (cohesionless e lo hi) = ⊎_elim (λ l. omega arith) (λ l. omega arith) (h e)
 wrong k x f g h i (soft_clay e lo hi) = ⊎_elim (λ l. omega arith) (λ l. omega arith) (i e)
 
-module _ (n : ℕ) (ds ks xs : List ℕ) where
+module _ (ds ks xs : List ℕ) where
   abbrev A : ℕ → ℕ → Type 0
-  A = Applies n ds ks xs
+  A = Applies ds ks xs
 
   thick_told : (p : ℕ) (es : List ℕ) → ((j : ℕ) → j < length es → get_or es j 0 ≡ 0 → A 14 (p + j))
       → Told A (thick p es)
@@ -89,31 +86,20 @@ module _ (n : ℕ) (ds ks xs : List ℕ) where
       next j = omega arith
 
   -- ---- all stages
-  lists_told : Told A (judged_lists (length ds) (length ks) (length xs))
-  unfolding judged_lists
-  lists_told =
-      then_told A (same_length (length ds) (length ks)) _ (require_told A _ 2 0 (λ e. lists (λ s. eqb-false _ _ e s.0)))
-      (λ _. require_told A _ 2 0 (λ e. lists (λ s. eqb-false _ _ e s.1)))
-
-  thicknesses_told : Told A (judged_thicknesses ds)
-  unfolding judged_thicknesses deep
-  thicknesses_told =
-      then_told A (counted (length ds)) _ (within_told A 1 40 (length ds) 13 0 (λ o. layers (⊎_elim (λ l. inl (omega arith)) inr o)))
-      (λ _. then_told A (thick 1 ds) _ (thick_told 1 ds thickness)
-      (λ _. require_told A _ 14 0 (λ e. depth (eqb-false _ _ e))))
-
-  log_told : Told A (judged_log n ds (length ks) (length xs))
-  unfolding judged_log
+  log_told : Told A (judged_log ds (length ks) (length xs))
+  unfolding judged_log deep
   log_told =
-      then_told A (judged_lists (length ds) (length ks) (length xs)) _ lists_told
-      (λ _. bind_told A (judged_profile n) _ (profile_told n A profile)
-      (λ p. then_told A (judged_thicknesses ds) _ thicknesses_told (λ _. tt)))
+      then_told A (same_length (length ds) (length ks)) _ (require_told A _ 2 0 (λ e. lists (λ s. eqb-false _ _ e s.0)))
+      (λ _. then_told A (same_length (length ds) (length xs)) _ (require_told A _ 2 0 (λ e. lists (λ s. eqb-false _ _ e s.1)))
+      (λ _. then_told A (counted (length ds)) _ (within_told A 1 40 (length ds) 13 0 (λ o. layers (⊎_elim (λ l. inl (omega arith)) inr o)))
+      (λ _. then_told A (thick 1 ds) _ (thick_told 1 ds thickness)
+      (λ _. require_told A _ 14 0 (λ e. depth (eqb-false _ _ e))))))
 
-  pub class_told : (l : Profile → ClassLimits) → Told A (site_class l n ds ks xs)
+  pub class_told : (l : ClassLimits) → Told A (site_class l ds ks xs)
   unfolding site_class judged_times
   class_told l =
-      value_told A (judged_log n ds (length ks) (length xs)) _ log_told
-      (λ p e. let s = log_sound n ds (length ks) (length xs) p e in
+      then_told A (judged_log ds (length ks) (length xs)) _ log_told
+      (λ e. let s = log_sound ds (length ks) (length xs) e in
       bind_told A (velocities 1 ks xs >>= λ vs. accepted (times ds vs)) _
       (bind_told A (velocities 1 ks xs) _ (velocities_told 1 ks xs (λ j h. layer j (omega arith))) (λ vs. tt))
       (λ t. tt))

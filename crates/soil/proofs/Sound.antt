@@ -9,13 +9,11 @@ use Rattle.whole.specs.Cells.{sum}
 use Rattle.whole.specs.Rounding.{up, down}
 use Rattle.limits.specs.Lengths.{same_length}
 use Rattle.limits.specs.Outcome.{accepted}
-use Rattle.limits.specs.Profile.{judged_profile}
 use Rattle.limits.specs.declared.class.Class.{Class}
-use Rattle.limits.specs.declared.profile.Profile.{Profile}
 use Rattle.soil.specs.declared.class.ClassLimits.{ClassLimits}
 use Rattle.soil.specs.declared.times.Times.{Times}
 use Rattle.soil.specs.Class.{class_of}
-use Rattle.soil.specs.Log.{counted, thick, deep, judged_lists, judged_thicknesses, judged_log, site_class}
+use Rattle.soil.specs.Log.{counted, thick, deep, judged_log, site_class}
 use Rattle.soil.specs.Times.{ns_at_unit, times, judged_times}
 use Rattle.soil.specs.Velocity.{velocities}
 use Rattle.soil.proofs.Adding.{up_most, down_most, added_most}
@@ -30,27 +28,17 @@ pub record Sound (ds : List ℕ) (k x : ℕ) : Type 0 where
   pub thick : thick 1 ds ≡ accepted tt
   pub depth : sum ds ≡ 3_000
 
--- 2, 27, and 13 with 14, each passed
-pub log_passed : (n : ℕ) (ds : List ℕ) (k x : ℕ) (p : Profile) → judged_log n ds k x ≡ accepted p
-    → (judged_lists (length ds) k x ≡ accepted tt) × (judged_profile n ≡ accepted p) × (judged_thicknesses ds ≡ accepted tt)
-unfolding judged_log
-log_passed n ds k x p e =
-    let a = then_passed (judged_lists (length ds) k x) _ e in
-    let b = bind_passed (judged_profile n) _ a.1 in
-    let c = then_passed (judged_thicknesses ds) (accepted b.0) b.2 in
-    (a.0, b.1 ∙ c.1, c.0)
-
-pub log_sound : (n : ℕ) (ds : List ℕ) (k x : ℕ) (p : Profile) → judged_log n ds k x ≡ accepted p → Sound ds k x
-unfolding judged_lists judged_thicknesses deep
-log_sound n ds k x p e =
-    let j = log_passed n ds k x p e in
-    let a = then_passed (same_length (length ds) k) (same_length (length ds) x) j.0 in
-    let c = then_passed (counted (length ds)) _ j.2 in
+pub log_sound : (ds : List ℕ) (k x : ℕ) → judged_log ds k x ≡ accepted tt → Sound ds k x
+unfolding judged_log deep
+log_sound ds k x e =
+    let a = then_passed (same_length (length ds) k) _ e in
+    let b = then_passed (same_length (length ds) x) _ a.1 in
+    let c = then_passed (counted (length ds)) _ b.1 in
     let t = then_passed (thick 1 ds) (deep ds) c.1 in
     let n = within_passed 1 40 (length ds) 13 0 c.0 in
     record {
       kinds = eqb-true k (length ds) (require_passed _ 2 0 a.0);
-      values = eqb-true x (length ds) (require_passed _ 2 0 a.1);
+      values = eqb-true x (length ds) (require_passed _ 2 0 b.0);
       some = n.0;
       few = n.1;
       thick = t.0;
@@ -68,15 +56,15 @@ times_most ds ks xs t e =
     (added_most up up_most ds a.0 p, added_most down down_most ds a.0 p)
 
 -- ---- the class of a log with velocities vs
-module _ (l : Profile → ClassLimits) (n : ℕ) (ds ks xs vs : List ℕ) (given : velocities 1 ks xs ≡ accepted vs) where
-  pub class_given : (p : Profile) → judged_log n ds (length ks) (length xs) ≡ accepted p
-      → site_class l n ds ks xs ≡ accepted (class_of (l p) (times ds vs))
+module _ (l : ClassLimits) (ds ks xs vs : List ℕ) (given : velocities 1 ks xs ≡ accepted vs) where
+  pub class_given : judged_log ds (length ks) (length xs) ≡ accepted tt
+      → site_class l ds ks xs ≡ accepted (class_of l (times ds vs))
   unfolding site_class judged_times
-  class_given p j = simp (j, given)
+  class_given j = simp (j, given)
 
-  pub class_judged : {c : Class} → site_class l n ds ks xs ≡ accepted c
-      → (p : Profile) × (judged_log n ds (length ks) (length xs) ≡ accepted p) × (class_of (l p) (times ds vs) ≡ c)
+  pub class_judged : {c : Class} → site_class l ds ks xs ≡ accepted c
+      → (judged_log ds (length ks) (length xs) ≡ accepted tt) × (class_of l (times ds vs) ≡ c)
   unfolding site_class
   class_judged e =
-      let j = bind_passed (judged_log n ds (length ks) (length xs)) _ e in
-      (j.0, j.1, one_value (sym (class_given j.0 j.1) ∙ e))
+      let j = (then_passed (judged_log ds (length ks) (length xs)) _ e).0 in
+      (j, one_value (sym (class_given j) ∙ e))

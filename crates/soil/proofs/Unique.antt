@@ -1,5 +1,5 @@
 -- No second answer meets the contract of a function of this crate: `Answers` leaves one, and so do the contracts inside.
--- Those of `ClassLimits::of` and `class_of` say 'the result is what the definition gives', and leave one by `determined` of `whole`;
+-- Those of `table_3` and `class_of` say 'the result is what the definition gives', and leave one by `determined` of `whole`;
 -- those that answer by a verdict leave one by `verdict_unique` of `limits`.
 -- Assumes nothing.
 use mathlib.Core.Path.{◌≡◌, refl}
@@ -18,8 +18,8 @@ use Rattle.soil.specs.Times.{times_outcome}
 use Rattle.soil.specs.Velocity.{velocity_outcome}
 
 -- `site_class`
-pub one_class : (n : ℕ) (ds ks xs : List ℕ) {a b : ClassAnswer} → Answers n ds ks xs a → Answers n ds ks xs b → a ≡ b
-one_class n ds ks xs p q = class_unique p q
+pub one_class : (ds ks xs : List ℕ) {a b : ClassAnswer} → Answers ds ks xs a → Answers ds ks xs b → a ≡ b
+one_class ds ks xs p q = class_unique p q
 
 -- `timed`
 pub times_unique : {a b : TimesAnswer} {o : Outcome Times} → times_outcome a ≡ o → times_outcome b ≡ o → a ≡ b

@@ -1,5 +1,5 @@
--- The site class by the times of a log: Table 3 of document 000, and of document 001, over any class limits.
---   limits_of p       of a profile, in 10 m/s: ours 270 and 180 m/s, the draft's 360 and 180 m/s
+-- The site class by the times of a log: Table 3 of document 000, over any class limits.
+--   table3           270 and 180 m/s, in 10 m/s
 --   depth_time        3·10⁹: the 3,000 cm of a log at h tens of m/s take 3·10⁹/h ns
 --   class_of l t      hard if hard·U < 3·10⁹; else soft if soft·L > 3·10⁹; else normal. No log is both where soft is not above hard:
 --                    proofs/Classes.antt
@@ -8,14 +8,11 @@ use Rattle.std.specs.Prelude.{ℕ, ◌*◌, ltb}
 use Rattle.whole.specs.Choice.{pick}
 use Rattle.limits.specs.declared.class.Class.{Class}
 use Rattle.limits.specs.declared.class.Class.TheVariants.{Hard, Normal, Soft}
-use Rattle.limits.specs.declared.profile.Profile.{Profile}
-use Rattle.limits.specs.declared.profile.Profile.TheVariants.{Ours, Draft}
 use Rattle.soil.specs.declared.class.ClassLimits.{ClassLimits}
 use Rattle.soil.specs.declared.times.Times.{Times}
 
-abbrev pub limits_of : Profile → ClassLimits
-limits_of Ours = record { hard = 27; soft = 18 }
-limits_of Draft = record { hard = 36; soft = 18 }
+abbrev pub table3 : ClassLimits
+table3 = record { hard = 27; soft = 18 }
 
 abbrev pub depth_time : ℕ
 depth_time = 3_000_000_000

@@ -2,23 +2,19 @@
 --   counted n             13: no layer, or over 40, at 0; judged on the thickness list
 --   thick p ds            14: the first layer of thickness 0; the first of the list stands at place p
 --   deep ds               14: thicknesses that do not add up to 3,000, at 0
---   judged_lists m k x     2: k kinds or x values for another number of thicknesses, m, at 0
---   judged_thicknesses ds  13, 14, 14 in turn
---   judged_log n ds k x    2, 27 (of the profile's number n), 13, 14, 14 in turn; the judged profile
---   site_class l n ds ks xs  the class by the class limits l of the profile, or the first refusal: 2, 27, 13, 14, 15
---   Answers n ds ks xs a    the code's answer a says what the limits of the profile's Table 3 give
+--   judged_log ds k x      2 (k kinds or x values for another number of thicknesses, at 0), 13, 14, 14 in turn
+--   site_class l ds ks xs  the class by the class limits l, or the first refusal: 2, 13, 14, 15
+--   Answers ds ks xs a    the code's answer a says what Table 3's limits give
 use Rattle.std.specs.Prelude.{◌≡◌, not, List, [], ◌∷◌, ℕ, ◌+◌, eqb, length}
 use Rattle.whole.specs.Cells.{sum}
 use Rattle.limits.specs.declared.class.Class.{Class}
 use Rattle.limits.specs.declared.class.ClassAnswer.{ClassAnswer}
-use Rattle.limits.specs.declared.profile.Profile.{Profile}
 use Rattle.limits.specs.Lengths.{same_length}
 use Rattle.limits.specs.Outcome.{Outcome, accepted, Done, require, ◌>>=◌, ◌>>◌}
 use Rattle.limits.specs.Ranges.{within}
 use Rattle.limits.specs.Class.{class_outcome}
-use Rattle.limits.specs.Profile.{judged_profile}
 use Rattle.soil.specs.declared.class.ClassLimits.{ClassLimits}
-use Rattle.soil.specs.Class.{limits_of, class_of}
+use Rattle.soil.specs.Class.{table3, class_of}
 use Rattle.soil.specs.Times.{judged_times}
 
 abbrev pub counted : ℕ → Outcome Done
@@ -33,29 +29,19 @@ thick p (d ∷ ds) = do
 unfoldable pub deep : List ℕ → Outcome Done
 deep ds = require (eqb (sum ds) 3_000) 14 0
 
-unfoldable pub judged_lists : ℕ → ℕ → ℕ → Outcome Done
-judged_lists m k x = do
-  same_length m k
-  same_length m x
-
-unfoldable pub judged_thicknesses : List ℕ → Outcome Done
-judged_thicknesses ds = do
+unfoldable pub judged_log : List ℕ → ℕ → ℕ → Outcome Done
+judged_log ds k x = do
+  same_length (length ds) k
+  same_length (length ds) x
   counted (length ds)
   thick 1 ds
   deep ds
 
-unfoldable pub judged_log : ℕ → List ℕ → ℕ → ℕ → Outcome Profile
-judged_log n ds k x = do
-  judged_lists (length ds) k x
-  p ← judged_profile n
-  judged_thicknesses ds
-  accepted p
-
-unfoldable pub site_class : (Profile → ClassLimits) → ℕ → List ℕ → List ℕ → List ℕ → Outcome Class
-site_class l n ds ks xs = do
-  p ← judged_log n ds (length ks) (length xs)
+unfoldable pub site_class : ClassLimits → List ℕ → List ℕ → List ℕ → Outcome Class
+site_class l ds ks xs = do
+  judged_log ds (length ks) (length xs)
   t ← judged_times ds ks xs
-  accepted (class_of (l p) t)
+  accepted (class_of l t)
 
-abbrev pub Answers : ℕ → List ℕ → List ℕ → List ℕ → ClassAnswer → Type 0
-Answers n ds ks xs a = class_outcome a ≡ site_class limits_of n ds ks xs
+abbrev pub Answers : List ℕ → List ℕ → List ℕ → ClassAnswer → Type 0
+Answers ds ks xs a = class_outcome a ≡ site_class table3 ds ks xs

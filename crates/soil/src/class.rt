@@ -1,10 +1,9 @@
-// Table 3, of document 000 and of the draft: the site class of the times U and L.
+// Table 3: the site class of the times U and L.
 ghost use Rattle.std.specs.Prelude.{◌≡◌, ◌*◌, ◌^◌, ◌<◌};
-ghost use Rattle.soil.specs.Class.{limits_of, class_of};
+ghost use Rattle.soil.specs.Class.{table3, class_of};
 
 use crate::times::Times;
 use limits::class::Class;
-use limits::profile::Profile;
 
 // The class limits in 10 m/s: above the first a site is hard, below the second it is soft.
 #[derive(Drop)]
@@ -18,18 +17,17 @@ const DEPTH_TIME: u64 = 3_000_000_000;
 
 impl ClassLimits {
     // 270 and 180 m/s.
-    pub const OURS: ClassLimits = ClassLimits { hard: 27, soft: 18 };
+    pub const HARD: u64 = 27;
 
-    // 360 and 180 m/s.
-    pub const DRAFT: ClassLimits = ClassLimits { hard: 36, soft: 18 };
+    pub const SOFT: u64 = 18;
 
-    // Those of a profile's Table 3.
-    pub fn of(profile: Profile) -> ClassLimits
-        ensures { result ≡ limits_of profile }
+    // Those of Table 3.
+    pub fn table_3() -> ClassLimits
+        ensures { result ≡ table3 }
     {
-        match profile {
-            Profile::Ours => Self::OURS,
-            Profile::Draft => Self::DRAFT,
+        ClassLimits {
+            hard: Self::HARD,
+            soft: Self::SOFT,
         }
     }
 }

@@ -1,4 +1,4 @@
-// The site class of a soil log: layer velocities, times, class, and refusals 2, 27, 13, 14, 15.
+// The site class of a soil log: layer velocities, times, class, and refusals 2, 13, 14, 15.
 
 pub mod class;
 pub mod log;

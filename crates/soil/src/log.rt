@@ -1,15 +1,13 @@
 // The soil log: judged in the order of its refusals, then timed and classed.
 ghost use Rattle.std.specs.Prelude.{◌≡◌};
 ghost use Rattle.limits.specs.Outcome.{verdict_outcome};
-ghost use Rattle.limits.specs.Profile.{profile_outcome};
-ghost use Rattle.soil.specs.Log.{counted, thick, deep, judged_lists, judged_thicknesses, judged_log, Answers};
+ghost use Rattle.soil.specs.Log.{counted, thick, deep, judged_log, Answers};
 
 use crate::class::{ClassLimits, class_of};
 use crate::times::{TimesAnswer, timed};
 use limits::class::ClassAnswer;
 use limits::layer::Layer;
 use limits::lengths::same_length;
-use limits::profile::{Profile, ProfileAnswer};
 use limits::ranges::within;
 use limits::refusal::{Refusal, Verdict};
 
@@ -69,21 +67,18 @@ pub fn deep(thicknesses: &[u64]) -> Verdict
     })
 }
 
-// 2: as many kinds and values as thicknesses.
-pub fn judged_lists(thicknesses: usize, kinds: usize, values: usize) -> Verdict
-    ensures { verdict_outcome result ≡ judged_lists thicknesses kinds values }
+// 2, 13, 14 in turn: all that is judged before the kinds and values.
+pub fn judged_log(thicknesses: &[u64], kinds: usize, values: usize) -> Verdict
+    ensures { verdict_outcome result ≡ judged_log thicknesses.now kinds values }
 {
-    let kind = same_length(thicknesses, kinds);
+    let kind = same_length(thicknesses.len(), kinds);
     let Verdict::Passed = kind else {
         return kind;
     };
-    same_length(thicknesses, values)
-}
-
-// 13, 14 in turn.
-pub fn judged_thicknesses(thicknesses: &[u64]) -> Verdict
-    ensures { verdict_outcome result ≡ judged_thicknesses thicknesses.now }
-{
+    let value = same_length(thicknesses.len(), values);
+    let Verdict::Passed = value else {
+        return value;
+    };
     let count = counted(thicknesses.len());
     let Verdict::Passed = count else {
         return count;
@@ -95,36 +90,17 @@ pub fn judged_thicknesses(thicknesses: &[u64]) -> Verdict
     deep(thicknesses)
 }
 
-// 2, 27, 13, 14 in turn: all that is judged before the kinds and values, and the profile that was judged.
-pub fn judged_log(profile: u64, thicknesses: &[u64], kinds: usize, values: usize) -> ProfileAnswer
-    ensures { profile_outcome result ≡ judged_log profile thicknesses.now kinds values }
+// The site class of a log: thicknesses in cm, kinds and values of its layers.
+pub fn site_class(thicknesses: &[u64], kinds: &[u64], values: &[u64]) -> ClassAnswer
+    ensures { Answers thicknesses.now kinds.now values.now result }
 {
-    let l = judged_lists(thicknesses.len(), kinds, values);
-    let Verdict::Passed = l else {
-        return ProfileAnswer::Refused(l.refusal());
-    };
-    let p = Profile::judged(profile);
-    let ProfileAnswer::Taken(_) = p else {
-        return p;
-    };
-    let t = judged_thicknesses(thicknesses);
-    let Verdict::Passed = t else {
-        return ProfileAnswer::Refused(t.refusal());
-    };
-    p
-}
-
-// The site class of a log by a profile, 1 ours, 2 the draft: thicknesses in cm, kinds and values of its layers.
-pub fn site_class(profile: u64, thicknesses: &[u64], kinds: &[u64], values: &[u64]) -> ClassAnswer
-    ensures { Answers profile thicknesses.now kinds.now values.now result }
-{
-    let v = judged_log(profile, thicknesses, kinds.len(), values.len());
-    let ProfileAnswer::Taken(by) = v else {
+    let v = judged_log(thicknesses, kinds.len(), values.len());
+    let Verdict::Passed = v else {
         return ClassAnswer::Refused(v.refusal());
     };
     let t = timed(thicknesses, kinds, values);
     let TimesAnswer::Taken(times) = t else {
         return ClassAnswer::Refused(t.refusal());
     };
-    ClassAnswer::Taken(class_of(ClassLimits::of(by), times))
+    ClassAnswer::Taken(class_of(ClassLimits::table_3(), times))
 }

@@ -39,8 +39,8 @@ shear_falls T v ws hs x p =
     omega (arith, up_mono (r * a) P (r * b) P p (le_refl P) (mul-le-mul_left r (sum_falls ws hs x)))
 
 -- none is above V
-pub shear_most_lem : (T v : ℕ) (ws hs : List ℕ) (x : ℕ) → 0 < weight_height ws hs → RoofAtMostOne T → shear_under T v ws hs x ≤ v
-shear_most_lem T v ws hs x p h =
+pub shear_most : (T v : ℕ) (ws hs : List ℕ) (x : ℕ) → 0 < weight_height ws hs → RoofAtMostOne T → shear_under T v ws hs x ≤ v
+shear_most T v ws hs x p h =
     let P = weight_height ws hs in
     let a = weight_height (drop x ws) (drop x hs) in
     let r = v - roof_force T v in

@@ -19,7 +19,7 @@ unfoldable pub every : List Vector → Bool
 every [] = true
 every (v ∷ vs) = agrees v && every vs
 
-pub counted : length rows ≡ 902
+pub counted : length rows ≡ 785
 unfolding rows
 counted = refl
 

@@ -14,8 +14,6 @@ use Rattle.limits.specs.Levels.{top_height}
 use Rattle.limits.specs.declared.class.Class.{Class}
 use Rattle.limits.specs.declared.ground.Ground.{Ground}
 use Rattle.limits.specs.declared.ground.Ground.TheVariants.{Site as OnSite, Basin as InBasin}
-use Rattle.limits.specs.declared.profile.Profile.{Profile}
-use Rattle.limits.specs.declared.profile.Profile.TheVariants.{Ours, Draft}
 use Rattle.limits.specs.declared.site.Site.{Site}
 use Rattle.limits.specs.declared.zone.Zone.{Zone}
 use Rattle.limits.specs.declared.kind.Kind.{Kind}
@@ -43,23 +41,13 @@ pub record Vector : Type 0 where
   pub exact : List Fraction
 
 -- a pair of near-fault factors for each level
-abbrev site_by : Profile → ℕ → ℕ → ℕ → ℕ → ℕ → ℕ → ℕ → ℕ → Class → Site
-site_by p ssd s1d ssm s1m nad nvd nam nvm c =
-    record { ssd = ssd; s1d = s1d; ssm = ssm; s1m = s1m; nad = nad; nvd = nvd; nam = nam; nvm = nvm; class = c; profile = p }
-
 abbrev pub site_of_pairs : ℕ → ℕ → ℕ → ℕ → ℕ → ℕ → ℕ → ℕ → Class → Site
-site_of_pairs ssd s1d ssm s1m nad nvd nam nvm c = site_by Ours ssd s1d ssm s1m nad nvd nam nvm c
+site_of_pairs ssd s1d ssm s1m nad nvd nam nvm c =
+    record { ssd = ssd; s1d = s1d; ssm = ssm; s1m = s1m; nad = nad; nvd = nvd; nam = nam; nvm = nvm; class = c }
 
 -- one pair for both
 abbrev pub site_of : ℕ → ℕ → ℕ → ℕ → ℕ → ℕ → Class → Site
 site_of ssd s1d ssm s1m na nv c = site_of_pairs ssd s1d ssm s1m na nv na nv c
-
--- by the draft
-abbrev pub draft_of_pairs : ℕ → ℕ → ℕ → ℕ → ℕ → ℕ → ℕ → ℕ → Class → Site
-draft_of_pairs ssd s1d ssm s1m nad nvd nam nvm c = site_by Draft ssd s1d ssm s1m nad nvd nam nvm c
-
-abbrev pub draft_of : ℕ → ℕ → ℕ → ℕ → ℕ → ℕ → Class → Site
-draft_of ssd s1d ssm s1m na nv c = draft_of_pairs ssd s1d ssm s1m na nv na nv c
 
 abbrev pub frame_of : Kind → ℕ → ℕ → ℕ → ℕ → Frame
 frame_of k calculated r i alpha = record { kind = k; calculated = calculated; r = r; i = i; alpha = alpha }

@@ -1,13 +1,12 @@
-"""Demand 3 on random accepted jobs of sites, of the Basin, with two pairs and by the draft, in either unit, and what ties the storeys together."""
+"""Demand 3 on random accepted jobs of sites, of the Basin and with two pairs, in either unit, and what ties the storeys together."""
 
 from tests.draws.basin import accepted_basin_jobs
-from tests.draws.draft import accepted_draft_jobs
 from tests.draws.pairs import accepted_pair_jobs
 from tests.draws.sample import accepted_jobs
 from tests.model import exact, response
 from tests.model.job import job
 
-SEED, COUNT, BASIN, PAIRS, DRAFT = 20, 300, 200, 250, 250
+SEED, COUNT, BASIN, PAIRS = 20, 300, 200, 250
 MILLIONTHS = 10**6
 FEW_DIGITS = 2
 
@@ -32,7 +31,7 @@ def tied(inputs):
 
 def checks():
     """Demand 3 on the sample."""
-    jobs = (*accepted_jobs(SEED, COUNT), *accepted_basin_jobs(SEED, BASIN), *accepted_pair_jobs(SEED, PAIRS), *accepted_draft_jobs(SEED, DRAFT))
+    jobs = (*accepted_jobs(SEED, COUNT), *accepted_basin_jobs(SEED, BASIN), *accepted_pair_jobs(SEED, PAIRS))
     for number, (name, *inputs) in enumerate(jobs):
         yield f'demand 3, job {number}, {name}', lambda inputs=inputs: held(inputs, response.UNIT), True
         yield f'demand 3 in 10^-6, job {number}, {name}', lambda inputs=inputs: held(inputs, MILLIONTHS), True

@@ -3,8 +3,7 @@
 The worked sheet has 1,071,429 N on 15,000 kN, 71.4 thousandths: cell 7. With an S_1 M of four thirds of S_1 D and an R of 4.00 all three shears are
 I*W/(0.014*alpha-y) N at 1 s: of 15,000 kN, an I of 1.00 and an alpha-y of 1.50 these are 714,285.7 N, 47.6 thousandths: cell 4. On the plateau of an
 S_S M of 1.00 with an N_A M of 1.50 and an R of 1.00 V_M is 0.7*1.5*1.5/1.4 of W with an I of 1.50, 1.125; the smallest V_D is V* with 0.4*0.5 g, an I
-of 1.00 and an alpha-y of 2.00: 0.2/(4.2*2) of W, 0.0238. By the draft V_M is 0.75*1.65*1.5/1.4 of W at most, on soft ground, 1.3258; the smallest V_D is
-V_M with 0.4*0.7 g and an R of 6.00: 0.28/(6*1.4*2) of W, 0.0166.
+of 1.00 and an alpha-y of 2.00: 0.2/(4.2*2) of W, 0.0238.
 """
 
 import itertools
@@ -12,7 +11,7 @@ import random
 
 from tests.compares.checks import calls as worked_calls, refusals
 from tests.compares.checks.refusals import BAD_SITE, FRAME, SITE
-from tests.draws import district_faults, district_jobs as one, districts as drawn, draft_jobs as draft
+from tests.draws import district_faults, district_jobs as one, districts as drawn
 from tests.model import district, limits
 from tests.model.district import Answer, Report, Row
 from tests.model.job import job
@@ -65,7 +64,7 @@ def worked():
     two = worked_calls.figures(job(SITE, FRAME, [5_000] * 2, [200, 300]))
     yield 'the upper two levels', lambda: called(ON_SITE._replace(start=1, count=2))[1], [Row(0, 0, *two)]
     yield 'no job', lambda: called(more_room=2), (0, [], Report())
-    yield 'report of zeros', lambda: (len(Report().cells), set(Report().cells), set(Report()[:-1])), (133, {0}, {0})
+    yield 'report of zeros', lambda: (len(Report().cells), set(Report().cells), set(Report()[:-1])), (113, {0}, {0})
 
 
 def marks():
@@ -83,22 +82,6 @@ def marks():
     for newtons in (0, 1):
         yield f'{newtons} newtons below an edge', lambda n=newtons: edge(job(*one.at_edge(rng, n)), n), True
     yield 'an edge of any weight', lambda: edge(job(*one.at_exact_edge(rng)), 0), True
-
-
-def draft_marks():
-    """By the draft: the largest and the smallest V_D over W, every cell that a job can be in, a tie, edges; 27."""
-    yield 'cells that a job by the draft can be in', lambda: sorted(draft.by_cell()), list(range(1, 133))
-    rng = random.Random(SEED)
-    for draw_one, wanted in ((draft.largest, {1_325, 1_326}), (draft.smallest, {16, 17})):
-        yield f'{draw_one.__name__} by the draft', lambda d=draw_one: {
-            district.thousandths(each.V_D, each.W) for each in (job(*d(rng)) for _ in range(9))} <= wanted, True
-    yield 'a tie by the draft', lambda: largest_of(job(*draft.tied(rng))), ['V', 'V_M']
-    for newtons in (0, 1):
-        yield f'{newtons} newtons below an edge by the draft', lambda n=newtons: edge(job(*draft.at_edge(rng, n)), n), True
-    yield 'an edge of any weight by the draft', lambda: edge(job(*draft.at_exact_edge(rng)), 0), True
-    yield 'a bad profile', lambda: {job(*draft.bad_profile(rng)) for _ in range(9)}, {('refused', 27, 0)}
-    before = {job(*draft.bad_profile_and_another(rng))[:2] for _ in range(200)}
-    yield 'a bad profile and another refusal', lambda: {number for _, number in before if number not in range(8, 13)}, {1, 3, 4, 27}
 
 
 def largest_of(result):
@@ -154,7 +137,7 @@ def held(call):
         if tuple(row) != ((*single[1:], 0, 0, 0, 0, 0) if single[0] == 'refused' else (0, 0, *worked_calls.figures(single))):
             return False
     taken = [row.V_D // sum(call.weights[each.start:each.start + each.count]) for each, row in zip(call.jobs, rows) if not row.number]
-    cells = tuple(sum(10 * place <= each <= 10 * place + 9 for each in taken) for place in range(133))
+    cells = tuple(sum(10 * place <= each <= 10 * place + 9 for each in taken) for place in range(113))
     fewer = district.district(call.jobs[1:], *call[1:])[1]
     return report.cells == cells and district.adds_up(rows, report) and fewer == rows[1:]
 
@@ -176,5 +159,5 @@ def drawn_checks():
 
 def checks():
     """All checks of districts."""
-    for part in (worked, marks, draft_marks, refused_rows, refused_calls, drawn_checks):
+    for part in (worked, marks, refused_rows, refused_calls, drawn_checks):
         yield from part()

@@ -4,13 +4,12 @@ The frame stands on a hard site, A = 0.8 g and T0 = 562.5 ms, R = 4.94: root^2 =
 """
 
 from tests.draws.basin import accepted_basin_jobs
-from tests.draws.draft import accepted_draft_jobs
 from tests.draws.pairs import accepted_pair_jobs
 from tests.draws.sample import accepted_jobs
 from tests.model import limits
 from tests.model.job import job
 
-SEED, COUNT, BASIN, PAIRS, DRAFT = 70, 186, 95, 138, 148
+SEED, COUNT, BASIN, PAIRS = 70, 186, 95, 138
 MILLIONTHS, TEN_MILLIONTHS = 10**6, 10**7
 LIGHT = limits.one_pair(80, 45, 90, 50, 100, 100, 1), limits.Frame(4, 83, 494, 150, 100), [1_500, 1_500], [30, 60]
 # unit, T: Sa, lower root, lower factor, q, m, V
@@ -40,9 +39,9 @@ def larger(inputs):
 
 
 def checks():
-    """The light frame, and jobs of every stratum on sites, in the Basin, with two pairs and by the draft."""
+    """The light frame, and jobs of every stratum on sites, in the Basin and with two pairs."""
     for (s, T), wanted in LIGHT_FIGURES.items():
         yield f'light frame at {T} ms, unit 1/{s}', lambda s=s, T=T: light(s, T), wanted
-    jobs = (*accepted_jobs(SEED, COUNT), *accepted_basin_jobs(SEED, BASIN), *accepted_pair_jobs(SEED, PAIRS), *accepted_draft_jobs(SEED, DRAFT))
+    jobs = (*accepted_jobs(SEED, COUNT), *accepted_basin_jobs(SEED, BASIN), *accepted_pair_jobs(SEED, PAIRS))
     for number, (name, *inputs) in enumerate(jobs):
         yield f'larger in the finer unit, job {number}, {name}', lambda inputs=inputs: larger(inputs), []

@@ -1,17 +1,10 @@
-"""The soil log: velocities, classes at their limits, refusals 2, 27, 13, 14 and 15 in order."""
+"""The soil log: velocities, classes at their limits, refusals 2, 13, 14 and 15 in order."""
 
 from decimal import Decimal, localcontext
 
 from tests.model import soil
 
 CLASSES = {2701: 1, 2700: 2, 1800: 2, 1799: 3, 30_000: 1, 500: 3}
-BY_DRAFT = {3601: 1, 3600: 2, 2701: 2, 2700: 2, 1800: 2, 1799: 3, 30_000: 1, 500: 3}
-# U and L in ns: the class by ours, and by the draft: 30 m in 111,111,111 ns are more than 270 m/s, in 83,333,333 ns more than 360, and in 166,666,667 ns
-# less than 180
-BY_TIMES = {
-    (83_333_333, 83_333_333): (1, 1), (83_333_334, 83_333_333): (1, 2), (111_111_111, 111_111_111): (1, 2), (111_111_112, 111_111_111): (2, 2),
-    (166_666_667, 166_666_666): (2, 2), (166_666_667, 166_666_667): (3, 3), (1, 1): (1, 1),
-}
 VELOCITIES = {
     (1, 500): 500, (2, 2): 1259, (2, 8): 2000, (2, 24): 2884, (3, 1): 800, (3, 8): 1600, (3, 49): 2927, (4, 1): 228, (4, 25): 728,
     (4, 100): 1200, (4, 400): 1976,
@@ -27,7 +20,6 @@ REFUSALS = (
     ([1500, 1501], [9, 1], [500, 500], (14, 0)), ([2**32, 2**32 + 3000], [1, 1], [500, 500], (14, 0)),
     ([1500, 1500], [1, 9], [500, 500], (15, 2)), ([1500, 1500], [2, 9], [1, 500], (15, 1)),
 )
-BAD_PROFILES = (0, 3, 2**16 + 1, 2**32 + 2, 2**63 + 1, 2**64 - 1)
 
 
 def three_layers():
@@ -43,20 +35,6 @@ def by_decimals():
         return [int(10 * 120 * (Decimal(q) / 100) ** Decimal('0.36') + Decimal('1e-40')) for q in soil.VALUE[soil.SOFT_CLAY]]
 
 
-def by_profile():
-    """Classes by the draft, velocities and sums that are ours; 27 after 2 and before 13, 14 and 15."""
-    for v, wanted in BY_DRAFT.items():
-        yield f'class at {v} dm/s by the draft', lambda v=v: soil.log([3000], [1], [v], 2).cls, wanted
-    for times, wanted in BY_TIMES.items():
-        yield f'class of U and L {times}', lambda t=times: (soil.site_class(*t), soil.site_class(*t, 2)), wanted
-    layers = [1000, 1000, 1000], [1, 1, 3], [2700, 2700, 8]
-    yield 'the same but for the class', lambda: soil.log(*layers)[:3] == soil.log(*layers, 2)[:3], True
-    for *log, wanted in REFUSALS:
-        yield f'log {log} by the draft', lambda log=log: soil.judge(*log, 2), wanted
-        for profile in BAD_PROFILES:
-            yield f'log {log} by {profile}', lambda log=log, p=profile: soil.judge(*log, p), wanted if wanted == (2, 0) else (27, 0)
-
-
 def checks():
     """All checks of the soil log."""
     for v, wanted in CLASSES.items():
@@ -69,4 +47,3 @@ def checks():
     for *log, wanted in (*logs, *REFUSALS):
         yield f'log {log}', lambda log=log: soil.judge(*log), wanted
     yield 'U and L of three layers', three_layers, ([2700, 2700, 1600], 136574076, 136574074, 2)
-    yield from by_profile()

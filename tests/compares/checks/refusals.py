@@ -1,4 +1,4 @@
-"""Refusals 1 to 12, 18 and 27 of a job: both sides of every limit, places and order."""
+"""Refusals 1 to 12 and 18 of a job: both sides of every limit, places and order."""
 
 from tests.model import limits
 
@@ -17,7 +17,6 @@ SITE_LIMITS = (
     ('NAM', (100, 101, 149, 150), (0, 99, 151, 160, 200, HUGE), (6, 3)),
     ('NVM', (100, 101, 151, 160, 199, 200), (0, 99, 201, HUGE), (6, 4)),
     ('cls', (1, 2, 3), (0, 4, HUGE), (7, 0)),
-    ('profile', (1, 2), (0, 3, 4, HUGE, 2**16 + 1, 2**32 + 2, 2**63 + 1, 2**64 - 1), (27, 0)),
 )
 FRAME_LIMITS = (
     ('R', (100, 101, 599, 600), (0, 99, 601, HUGE), (8, 0)),
@@ -80,7 +79,7 @@ def site_repairs():
 
 
 def order(ground, ground_repairs):
-    """Order: "The lowest number that applies is given, at its lowest place", 27 "before 5", 18 "where 5 to 7 stand"; repaired one by one."""
+    """Order: "The lowest number that applies is given, at its lowest place", 18 "where 5 to 7 stand"; repaired one by one."""
     frame = [0, 60_001, 0, 0, 0]
     case = {'ground': ground, 'frame': frame, 'weights': [0] * 51, 'heights': [0] * 3, 'buffer_lengths': (1,)}
     repairs = [((1, 0), 'weights', [0, 0]), ((2, 0), 'heights', [0, 0]), ((2, 0), 'buffer_lengths', (2,)),
@@ -100,5 +99,4 @@ def checks():
     yield from limits_of_numbers()
     yield from limits_of_lists()
     yield from order(BAD_SITE, site_repairs())
-    yield from order([*BAD_SITE, 3], [((27, 0), 'ground', BAD_SITE), *site_repairs()])
     yield from order(limits.Basin(0), [((18, 0), 'ground', limits.Basin(4))])

@@ -20,7 +20,7 @@ REFUSED = b'%d\t%d\t0\t0\t0\t0\t0\n'
 
 def cells(**counts):
     """The lines of the cells, by the lowest thousandths of those that have a job."""
-    return b''.join(b'cell\t%d\t%d\t%d\n' % (10 * place, 10 * place + 9, counts.get(f'from_{10 * place}', 0)) for place in range(133))
+    return b''.join(b'cell\t%d\t%d\t%d\n' % (10 * place, 10 * place + 9, counts.get(f'from_{10 * place}', 0)) for place in range(113))
 
 
 # a file: what is printed of it
@@ -53,7 +53,7 @@ def as_single(data):
         said = [b'0', b'0', *first[1:]] if first[0] == b'base' else [*first[1:], *[b'0'] * 5]
         if line != b'\t'.join([b'row', b'%d' % number, *said]):
             return False
-    return len(lines) == len(every) + 1 + 133 and lines[len(every)].startswith(b'report\t')
+    return len(lines) == len(every) + 1 + 113 and lines[len(every)].startswith(b'report\t')
 
 
 def checks():

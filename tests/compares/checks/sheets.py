@@ -1,4 +1,4 @@
-"""The sheet: the listings byte for byte, refusals 16 and 17, and 1 to 12 and 18 through a sheet. Those by a profile: checks/profiles.py."""
+"""The sheet: the listings byte for byte, refusals 16 and 17, and 1 to 12 and 18 through a sheet."""
 
 from tests.model import limits, sheet
 
@@ -17,7 +17,7 @@ BAD_BASINS = (
     b'BASIN\t3\n', b'basins\t3\n', b'basi\t3\n', b'basin3\n', b'basin\tthree\n', b'basin\t1000000000\n', b'basin\t4294967299\n',
     b'basin\t18446744073709551619\n', b'basin\t3\x00\n', b'\xef\xbb\xbfbasin\t3\n', b'basin\t\xd9\xa3\n',
     b'basin\t80\t45\t100\t55\t100\t100\t1\n',
-    b'site\t3\n', b'zone\t3\n', b'frame\t3\n', b'level\t3\n', b'basin\tsite\n', b'basin\t3' + SITE[4:],
+    b'site\t3\n', b'zone\t3\n', b'frame\t3\n', b'level\t3\n', b'basin\tsite\n', SITE[:-1] + b'\t3\n', b'basin\t3' + SITE[4:],
 )
 ZONES = {0: (18, 0), 5: (18, 0), 10: (18, 0), 999_999_999: (18, 0)}
 BASIN_WHOLE = (
@@ -50,7 +50,7 @@ WHOLE = (
     (SITE + b'\n', (16, 2)), (SITE + LEVEL, (16, 2)), (SITE + FRAME[:-1], (16, 2)),
     (SITE + SITE + LEVEL, (16, 2)), (SHEET + b'\n', (16, 6)), (b'\xef\xbb\xbf' + SHEET, (16, 1)),
     (SHEET.replace(b'\n', b'\r\n'), (16, 1)), (SITE * 2 + b'level', (16, 2)),
-    (SITE[:-1] + b'\t3\n' + FRAME + LEVEL, (27, 0)), (SITE + FRAME[:-1] + b'\t1\n' + LEVEL, (16, 2)),
+    (SITE[:-1] + b'\t1\n' + FRAME + LEVEL, (16, 1)), (SITE + FRAME[:-1] + b'\t1\n' + LEVEL, (16, 2)),
 )
 OUT_OF_RANGE = (
     (b'\t80\t', b'\t81\t', (5, 1)), (b'\t45\t', b'\t46\t', (5, 2)), (b'\t100\t55', b'\t60\t55', (5, 3)),

@@ -2,12 +2,11 @@
 
 from fractions import Fraction
 
-from tests.model import basin as basins, profile as profiles, site as sites
+from tests.model import basin as basins, site as sites
 from tests.writes.by_hand.text import comma, decimal, same, table
 from tests.writes.by_hand.worked import BASIN_COLUMNS, COLUMNS
 
 CLASS_NAMES = {1: 'hard', 2: 'normal', 3: 'soft'}
-CORNERS = (2, 6, 25)            # tenths of T0 where branches end
 
 
 def hazards(worked):
@@ -19,7 +18,7 @@ def hazards(worked):
 
 
 def between(columns, coefficients, S):
-    """A coefficient of a table, with the line between two columns where S stands between them; text and number."""
+    """A coefficient of Table 2, with the line between two columns where S stands between them; text and number."""
     number = sites.interpolate(columns, coefficients, S)
     if S in columns or S < columns[0] or S > columns[-1]:
         return comma(number), number
@@ -32,30 +31,21 @@ def between(columns, coefficients, S):
             f'{same(got, number)}'), number
 
 
-def site_rows(F_a_by='Table 2', F_v_by='Table 2', corners=CORNERS):
-    """What the rows from S to T0 are, by the tables that they name; the last one has these tenths of T0."""
-    return [[name] for name in ('S_S = mapped · N_A, in 0.0001 g', 'S_1 = mapped · N_V, in 0.0001 g', f'F_a by {F_a_by}, in 0.0001',
-                                f'F_v by {F_v_by}, in 0.0001', 'A = F_a · S_S, in 10⁻⁸ g', 'B = F_v · S_1, in 10⁻⁸ g',
-                                'T0 = 1000 · B / A, in ms', f'{", ".join(f"{decimal(Fraction(part, 10))} · T0" for part in corners)}, in ms')]
-
-
-def site_cells(site, S_S, S_1, NA, NV, figures, corners=CORNERS):
-    """S, F_a, F_v, A, B and T0 of one shear, by the site's class and profile."""
-    tables = profiles.of(site.profile)
-    a_text, a = between(sites.S_S_COLUMNS, tables.F_A[site.cls], S_S * NA)
-    v_text, v = between(sites.S_1_COLUMNS, tables.F_V[site.cls], S_1 * NV)
-    T0 = Fraction(1000 * figures.B, figures.A)
-    return (f'{S_S} · {NA} = {comma(S_S * NA)}', f'{S_1} · {NV} = {comma(S_1 * NV)}', a_text, v_text,
-            f'{comma(a)} · {comma(S_S * NA)} = **{same(a * S_S * NA, figures.A)}**',
-            f'{comma(v)} · {comma(S_1 * NV)} = **{same(v * S_1 * NV, figures.B)}**',
-            f'**{decimal(T0, 2)}**', ', '.join(decimal(T0 * part / 10, 2) for part in corners))
-
-
 def site_table(worked):
     """S, F_a, F_v, A, B and T0 of the three shears."""
-    rows = site_rows()
-    for hazard in hazards(worked):
-        for row, cell in zip(rows, site_cells(worked.ground, *hazard)):
+    rows = [[f'{name}'] for name in ('S_S = mapped · N_A, in 0.0001 g', 'S_1 = mapped · N_V, in 0.0001 g', 'F_a by Table 2, in 0.0001',
+                                     'F_v by Table 2, in 0.0001', 'A = F_a · S_S, in 10⁻⁸ g', 'B = F_v · S_1, in 10⁻⁸ g',
+                                     'T0 = 1000 · B / A, in ms', '0.2 · T0, 0.6 · T0, 2.5 · T0, in ms')]
+    for S_S, S_1, NA, NV, figures in hazards(worked):
+        cls = worked.ground.cls
+        a_text, a = between(sites.S_S_COLUMNS, sites.F_A[cls], S_S * NA)
+        v_text, v = between(sites.S_1_COLUMNS, sites.F_V[cls], S_1 * NV)
+        T0 = Fraction(1000 * figures.B, figures.A)
+        cells = (f'{S_S} · {NA} = {comma(S_S * NA)}', f'{S_1} · {NV} = {comma(S_1 * NV)}', a_text, v_text,
+                 f'{comma(a)} · {comma(S_S * NA)} = **{same(a * S_S * NA, figures.A)}**',
+                 f'{comma(v)} · {comma(S_1 * NV)} = **{same(v * S_1 * NV, figures.B)}**',
+                 f'**{decimal(T0, 2)}**', ', '.join(decimal(T0 * part / 10, 2) for part in (2, 6, 25)))
+        for row, cell in zip(rows, cells):
             row.append(cell)
     return table(('', *COLUMNS), rows)
 

@@ -8,7 +8,6 @@ import sys
 
 from tests.writes.pictures.base_shears import classes, near_fault
 from tests.writes.pictures.district import district
-from tests.writes.pictures.draft import draft, draft_coefficients
 from tests.writes.pictures.drift import drift
 from tests.writes.pictures.finer_spectrum import steps
 from tests.writes.pictures.moves import moves
@@ -24,8 +23,7 @@ from tests.writes.pictures.two_calls import periods, two_calls
 PICTURES = ROOT / 'docs' / 'manual' / 'pictures'
 DRAWN = {'spectrum': spectrum, 'factor': factor, 'modified': modified, 'storeys': storeys, 'classes': classes, 'near_fault': near_fault,
          'basin': basin, 'roof_force': roof_force, 'two_calls': two_calls, 'periods': periods, 'steps': steps,
-         'soft_clay': soft_clay, 'towers': towers, 'moves': moves, 'district': district, 'drift': drift, 'draft': draft,
-         'draft_coefficients': draft_coefficients}
+         'soft_clay': soft_clay, 'towers': towers, 'moves': moves, 'district': district, 'drift': drift}
 
 
 def wrong():

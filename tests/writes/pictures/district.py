@@ -9,7 +9,7 @@ from tests.writes.pictures.drawing import BLUE, RED, Axes, Picture
 LEFT, RIGHT, MOST = 90, 1050, 12        # of the fields, and the most sheets of a cell that are drawn
 SHORT = 350                             # thousandths of the lower field
 NAMED = {hundred.SMALLEST: 'the smallest here', hundred.OFFICE: 'the worked sheet', hundred.EDGE: 'on the edge of its cell',
-         hundred.LARGEST: 'the most there can be by ours'}
+         hundred.LARGEST: 'the most there can be'}
 
 
 def cells():
@@ -41,11 +41,11 @@ def field(picture, top, last, step, counted):
 
 
 def district():
-    """The cells of the hundred sheets: all of them, and those below 350 thousandths."""
+    """The cells of the hundred sheets: all 113, and those below 350 thousandths."""
     picture = Picture(1080, 920, 'How many sheets of the district are in each cell of its report')
     picture.heading(LEFT, f'The hundred sheets, sorted by V_D over W: all {model.CELLS} cells')
     field(picture, 60, model.CELL * model.CELLS, 100, False)
-    picture.bar(470, 86, 510, 146, '#ffffff')      # no line of the scales runs through the words
+    picture.bar(470, 86, 480, 146, '#ffffff')      # no line of the scales runs through the words
     picture.words(480, 110, 'orange: cells with these sheets', size=16, weight='bold', colour=RED)
     for place, (thousandths, number, words) in enumerate(named()):
         picture.words(480, 140 + 26 * place, f'sheet {number}, {words}: {thousandths:,} thousandths', size=16)

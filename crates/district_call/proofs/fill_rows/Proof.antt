@@ -55,7 +55,7 @@ none-requires c κs = search rules
 loop-holds : tie.Need-loop-init invariant-loop decreases-loop
 loop-holds c =
     let b = c.before.before.before in
-    (omega arith, subst (λ (t : Totals). Tallied (os b) 0 t (replicate 133 0)) (sym c.none.ensures) (tallied_none (os b)), filling_none _ b.args.rows.now)
+    (omega arith, subst (λ (t : Totals). Tallied (os b) 0 t (replicate 113 0)) (sym c.none.ensures) (tallied_none (os b)), filling_none _ b.args.rows.now)
 
 mul-answer-to : tie.Need-overflow-mul-answer-to invariant-loop decreases-loop
 mul-answer-to c = search rules

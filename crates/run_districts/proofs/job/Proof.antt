@@ -7,10 +7,10 @@ use Rattle.run_districts.proofs.job.Statement.{statement}
 use Rattle.run_districts.proofs.job.Tie as tie
 
 abbrev invariant-loop : tie.invariant-loop
-invariant-loop read numbers₀ k₀ numbers k = (k ≤ 19) × (length numbers ≡ 19)
+invariant-loop read numbers₀ k₀ numbers k = (k ≤ 18) × (length numbers ≡ 18)
 
 abbrev decreases-loop : tie.decreases-loop
-decreases-loop read numbers₀ k₀ numbers k = 19 - k
+decreases-loop read numbers₀ k₀ numbers k = 18 - k
 
 loop-holds : tie.Need-loop-init invariant-loop decreases-loop
 loop-holds c = search rules

@@ -7,10 +7,10 @@ use Rattle.run_exhausted.proofs.short_periods.Statement.{statement}
 use Rattle.run_exhausted.proofs.short_periods.Tie as tie
 
 abbrev invariant-loop : tie.invariant-loop
-invariant-loop profile mapped n₀ t5 t6 n = n ≤ 151
+invariant-loop mapped n₀ t4 t5 n = n ≤ 151
 
 abbrev decreases-loop : tie.decreases-loop
-decreases-loop profile mapped n₀ t5 t6 n = 151 - n
+decreases-loop mapped n₀ t4 t5 n = 151 - n
 
 loop-holds : tie.Need-loop-init invariant-loop decreases-loop
 loop-holds c = search rules
@@ -20,9 +20,6 @@ mul-s c =
     let b = c.before.before in
     let n = c.before.loop.n in
     omega (arith, mul-le-mul {n₁ = b.args.mapped} {m₁ = n} {n₂ = 100} {m₂ = 151} b.requires c.before.loop.invariant)
-
-by-requires : tie.Need-by-requires invariant-loop decreases-loop
-by-requires c κs = search rules
 
 slice-aggregate-write-all : tie.Need-slice-aggregate-write-all invariant-loop decreases-loop
 slice-aggregate-write-all c = search rules
@@ -77,7 +74,6 @@ short-periods-spec =
     decreases-loop
     loop-holds
     mul-s
-    by-requires
     slice-aggregate-write-all
     write-all-requires
     number-requires

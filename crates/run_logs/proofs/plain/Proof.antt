@@ -21,9 +21,6 @@ array-write-log-2 c = search rules
 array-write-log-3 : tie.Need-array-write-log-3 invariant-loop decreases-loop
 array-write-log-3 c = search rules
 
-array-write-log-4 : tie.Need-array-write-log-4 invariant-loop decreases-loop
-array-write-log-4 c = search rules
-
 loop-holds : tie.Need-loop-init invariant-loop decreases-loop
 loop-holds c = search rules
 
@@ -33,8 +30,8 @@ add-log c = search rules
 mul-log : tie.Need-overflow-mul-log invariant-loop decreases-loop
 mul-log c = search rules
 
-array-write-log-5 : tie.Need-array-write-log-5 invariant-loop decreases-loop
-array-write-log-5 c = search rules
+array-write-log-4 : tie.Need-array-write-log-4 invariant-loop decreases-loop
+array-write-log-4 c = search rules
 
 add-log-2 : tie.Need-overflow-add-log-2 invariant-loop decreases-loop
 add-log-2 c = search rules
@@ -42,8 +39,8 @@ add-log-2 c = search rules
 mul-log-2 : tie.Need-overflow-mul-log-2 invariant-loop decreases-loop
 mul-log-2 c = search rules
 
-array-write-log-6 : tie.Need-array-write-log-6 invariant-loop decreases-loop
-array-write-log-6 c = search rules
+array-write-log-5 : tie.Need-array-write-log-5 invariant-loop decreases-loop
+array-write-log-5 c = search rules
 
 add-log-3 : tie.Need-overflow-add-log-3 invariant-loop decreases-loop
 add-log-3 c = search rules
@@ -51,8 +48,8 @@ add-log-3 c = search rules
 mul-log-3 : tie.Need-overflow-mul-log-3 invariant-loop decreases-loop
 mul-log-3 c = search rules
 
-array-write-log-7 : tie.Need-array-write-log-7 invariant-loop decreases-loop
-array-write-log-7 c = search rules
+array-write-log-6 : tie.Need-array-write-log-6 invariant-loop decreases-loop
+array-write-log-6 c = search rules
 
 add-i : tie.Need-overflow-add-i invariant-loop decreases-loop
 add-i c = search rules
@@ -75,17 +72,16 @@ plain-spec =
     array-write-log
     array-write-log-2
     array-write-log-3
-    array-write-log-4
     loop-holds
     add-log
     mul-log
-    array-write-log-5
+    array-write-log-4
     add-log-2
     mul-log-2
-    array-write-log-6
+    array-write-log-5
     add-log-3
     mul-log-3
-    array-write-log-7
+    array-write-log-6
     add-i
     loop-less
     loop-again

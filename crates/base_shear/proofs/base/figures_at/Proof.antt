@@ -1,11 +1,8 @@
 -- `base_shear::base::figures_at` meets its contract, figure by figure. Assumes nothing.
 use borrow.Author.Rules.{rules}
 use mathlib.Core.Path.{◌≡◌, ap, ap₂, ◌∙◌}
-use Prim.Native.Nat.{◌*◌, max}
-use native.Mathlib.Nat.{le_trans}
-use native.Mathlib.Omega.{arith}
+use Prim.Native.Nat.{max}
 use Rattle.base_shear.specs.Shears.{newtons, shear, star, base, figures_at}
-use Rattle.base_shear.proofs.Bounds.{counted_within}
 use Rattle.base_shear.proofs.base.figures_at.Statement.{statement}
 use Rattle.base_shear.proofs.base.figures_at.Tie as tie
 
@@ -21,29 +18,11 @@ modified-at-requires-2 c κs = search rules
 newtons-requires-2 : tie.Need-newtons-requires-2
 newtons-requires-2 c κs = search rules
 
-mul-counted : tie.Need-overflow-mul-counted
-mul-counted c =
-    let a = c.before.before.before.before.before.before.before.before.before.args in
-    let p = c.before.before.before.before.before.before.before.before.before.requires in
-    omega (arith, counted_within a.k.starcount a.w p.0.starcount, p.2)
-
 blended-at-requires : tie.Need-blended-at-requires
-blended-at-requires c κs = let g = c.before.before.before.before.before.before.before.before.before.requires.0 in (g.unit, g.lines, g.star)
+blended-at-requires c κs = search rules
 
 newtons-requires-3 : tie.Need-newtons-requires-3
-newtons-requires-3 c κs =
-    let a = c.before.before.before.before.before.before.before.before.before.before.args in
-    let p = c.before.before.before.before.before.before.before.before.before.before.requires in
-    let g = p.0 in (
-      g.ten_thousands,
-      g.unit.positive,
-      g.unit.most,
-      g.stardivisor.0,
-      g.stardivisor.1,
-      p.1,
-      le_trans (counted_within a.k.starcount a.w g.starcount) p.2,
-      c.blended_at.ensures.1,
-    )
+newtons-requires-3 c κs = search rules
 
 larger-requires : tie.Need-larger-requires
 larger-requires c κs = search rules
@@ -55,13 +34,13 @@ returns : tie.Need-returns
 unfolding figures_at base shear star
 returns c =
     let third = c.before.before in
-    let second = third.before.before.before in
+    let second = third.before.before in
     let first = second.before.before in
     let a = first.before.before.before.before.before.before.args in
     let k = a.k in
     let v = first.newtons.ensures ∙ ap (newtons a.s k.divisor a.f a.w) first.before.modified-at.ensures.0 in
     let vm = second.newtons2.ensures ∙ ap (newtons a.s k.divisor a.f a.w) second.before.modified-at2.ensures.0 in
-    let star = third.newtons3.ensures ∙ ap (newtons a.s k.stardivisor a.f (k.starcount * a.w)) third.before.blended_at.ensures.0 in
+    let star = third.newtons3.ensures ∙ ap (newtons a.s k.stardivisor a.f a.w) third.before.blended_at.ensures.0 in
     let last : c.larger2.result ≡ max c.before.larger.result third.newtons3.result = c.larger2.ensures in
     let vd = last ∙ ap₂ max (c.before.larger.ensures ∙ ap₂ max v vm) star in
     λ i. record { v = v i; vm = vm i; star = star i; vd = vd i; t = a.t }
@@ -74,7 +53,6 @@ figures-at-spec =
     newtons-requires
     modified-at-requires-2
     newtons-requires-2
-    mul-counted
     blended-at-requires
     newtons-requires-3
     larger-requires

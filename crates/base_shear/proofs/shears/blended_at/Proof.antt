@@ -24,7 +24,7 @@ blended-requires c κs =
     let u = b.requires.0 in
     let r = b.requires.2 in
     let m = u.most in
-    let most = spectrum_most_lem a.s h.a h.b a.t r.shape.b_positive r.shape.a_most_lem in
+    let most = spectrum_most_lem a.s h.a h.b a.t r.shape.b_positive r.shape.a_most in
     let small = upper_factor_most a.s h.a h.b a.t h.capacity h.square u r.shape r.ductile in
     (b.requires.1, omega (arith, c.before.before.before.spectrum.ensures, most), omega (arith, c.upper-factor.ensures, small))
 
@@ -41,7 +41,7 @@ returns c =
     let sa = c.before.before.before.before.spectrum.ensures in
     let p : c.blended.result ≡ blended a.l c.before.before.before.before.spectrum.result c.before.upper-factor.result = c.blended.ensures in
     let e = p ∙ ap₂ (blended a.l) sa c.before.upper-factor.ensures in
-    let most = spectrum_most_lem a.s h.a h.b a.t r.shape.b_positive r.shape.a_most_lem in
+    let most = spectrum_most_lem a.s h.a h.b a.t r.shape.b_positive r.shape.a_most in
     let small = upper_factor_most a.s h.a h.b a.t h.capacity h.square u r.shape r.ductile in
     (e, omega (arith, e, blended_most a.l Sa F b.requires.1, most, small))
 

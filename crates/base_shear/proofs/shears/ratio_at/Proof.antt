@@ -24,7 +24,7 @@ ratio-requires c κs =
     let r = b.requires.1 in
     let m = u.most in
     let p = u.positive in
-    let most = spectrum_most_lem a.s h.a h.b a.t r.shape.b_positive r.shape.a_most_lem in
+    let most = spectrum_most_lem a.s h.a h.b a.t r.shape.b_positive r.shape.a_most in
     let least = lower_least a.s h a.t u r in
     (m, omega (arith, c.before.before.before.spectrum.ensures, most), omega (arith, c.lower-factor.ensures, least))
 

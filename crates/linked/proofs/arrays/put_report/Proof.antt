@@ -13,7 +13,7 @@ abbrev invariant-loop : tie.invariant-loop
 invariant-loop out₀ cells i₀ out i = Behind (take 6 out₀) cells i out
 
 abbrev decreases-loop : tie.decreases-loop
-decreases-loop out₀ cells i₀ out i = 139 - i
+decreases-loop out₀ cells i₀ out i = 119 - i
 
 slice-write-out : tie.Need-slice-write-out invariant-loop decreases-loop
 slice-write-out c = search rules

@@ -30,7 +30,7 @@ rising-requires c κs =
     let h = c.before.requires.1 in
     let p = parts_positive a.s u in
     let m = parts_most a.s u in
-    (h.a_most_lem, h.b_positive, h.b_most, c.if1.true, p, m)
+    (h.a_most, h.b_positive, h.b_most, c.if1.true, p, m)
 
 returns : tie.Need-returns
 returns c =

@@ -42,7 +42,7 @@ returns c =
     let mce =
     c.basin-hazard2.ensures
     ∙ λ i. basin_hazard 80_000 (corner i) (c.before.before.mce-capacity.ensures i) (c.before.mce-square.ensures i) in
-    λ i. record { design = design i; mce = mce i; star = design i; lines = lines; divisor = 14; stardivisor = 35; starcount = 1 }
+    λ i. record { design = design i; mce = mce i; star = design i; lines = lines; divisor = 14; stardivisor = 35 }
 
 pub basin-hazards-spec : {M : Type 1} → statement M
 basin-hazards-spec =

@@ -4,19 +4,18 @@ use mathlib.Core.Path.{refl}
 use Rattle.limits.proofs.Stages.{says, stopped}
 use Rattle.limits.specs.Outcome.{verdict_outcome}
 use Rattle.limits.specs.Class.{class_outcome}
-use Rattle.limits.specs.Profile.{profile_outcome}
 use Rattle.limits.specs.Site.{judged_site}
 use Rattle.limits.proofs.site.Site.judged.Statement.{statement}
 use Rattle.limits.proofs.site.Site.judged.Tie as tie
 
-judged-requires : tie.Need-judged-requires
-judged-requires c κs = search rules
-
-enum-known-p : tie.Need-enum-known-p
-enum-known-p c = search rules
+judged-mapped-requires : tie.Need-judged-mapped-requires
+judged-mapped-requires c κs = search rules
 
 enum_told : tie.Need-enum-told
 enum_told c = search rules
+
+enum-told-2 : tie.Need-enum-told-2
+enum-told-2 c = search rules
 
 refusal-requires : tie.Need-refusal-requires
 refusal-requires c κs = search rules
@@ -24,16 +23,16 @@ refusal-requires c κs = search rules
 returns : tie.Need-returns
 unfolding judged_site
 returns c =
-    simp (stopped profile_outcome _ _ c.before.before.before.judged.ensures c.before.enum_told.given.1 refl c.refusal.ensures)
+    simp (stopped verdict_outcome _ _ c.before.before.before.judged-mapped.ensures c.before.enum-told2.given.1 refl c.refusal.ensures)
 
-judged-mapped-requires : tie.Need-judged-mapped-requires
-judged-mapped-requires c κs = search rules
-
-enum-told-2 : tie.Need-enum-told-2
-enum-told-2 c = search rules
+judged-near-fault-requires : tie.Need-judged-near-fault-requires
+judged-near-fault-requires c κs = search rules
 
 enum-told-3 : tie.Need-enum-told-3
 enum-told-3 c = search rules
+
+enum-told-4 : tie.Need-enum-told-4
+enum-told-4 c = search rules
 
 refusal-requires-2 : tie.Need-refusal-requires-2
 refusal-requires-2 c κs = search rules
@@ -41,17 +40,17 @@ refusal-requires-2 c κs = search rules
 returns-2 : tie.Need-returns-2
 unfolding judged_site
 returns-2 c =
-    let c₁ = c.before.before.before.before.before in
+    let c₁ = c.before.before.before.before in
     simp (
-      says profile_outcome c₁.before.before.judged.ensures c₁.p.given.1,
-      stopped verdict_outcome _ _ c.before.before.before.judged-mapped.ensures c.before.enum-told3.given.1 refl c.refusal2.ensures,
+      says verdict_outcome c₁.before.before.judged-mapped.ensures c₁.enum_told.given.1,
+      stopped verdict_outcome _ _ c.before.before.before.judged-near-fault.ensures c.before.enum-told4.given.1 refl c.refusal2.ensures,
     )
 
-judged-near-fault-requires : tie.Need-judged-near-fault-requires
-judged-near-fault-requires c κs = search rules
+judged-requires : tie.Need-judged-requires
+judged-requires c κs = search rules
 
-enum-told-4 : tie.Need-enum-told-4
-enum-told-4 c = search rules
+enum-known-c : tie.Need-enum-known-c
+enum-known-c c = search rules
 
 enum-told-5 : tie.Need-enum-told-5
 enum-told-5 c = search rules
@@ -63,74 +62,42 @@ returns-3 : tie.Need-returns-3
 unfolding judged_site
 returns-3 c =
     let c₂ = c.before.before.before.before in
-    let c₁ = c₂.before.before.before.before in
+    let c₁ = c₂.before.before.before in
     simp (
-      says profile_outcome c₁.before.before.judged.ensures c₁.p.given.1,
-      says verdict_outcome c₂.before.before.judged-mapped.ensures c₂.enum-told2.given.1,
-      stopped verdict_outcome _ _ c.before.before.before.judged-near-fault.ensures c.before.enum-told5.given.1 refl c.refusal3.ensures,
+      says verdict_outcome c₁.before.before.judged-mapped.ensures c₁.enum_told.given.1,
+      says verdict_outcome c₂.before.before.judged-near-fault.ensures c₂.enum-told3.given.1,
+      stopped class_outcome _ _ c.before.before.before.judged.ensures c.before.enum-told5.given.1 refl c.refusal3.ensures,
     )
-
-judged-requires-2 : tie.Need-judged-requires-2
-judged-requires-2 c κs = search rules
-
-enum-known-c : tie.Need-enum-known-c
-enum-known-c c = search rules
-
-enum-told-6 : tie.Need-enum-told-6
-enum-told-6 c = search rules
-
-refusal-requires-4 : tie.Need-refusal-requires-4
-refusal-requires-4 c κs = search rules
 
 returns-4 : tie.Need-returns-4
 unfolding judged_site
 returns-4 c =
-    let c₃ = c.before.before.before.before in
+    let c₃ = c.before in
     let c₂ = c₃.before.before.before in
-    let c₁ = c₂.before.before.before.before in
+    let c₁ = c₂.before.before.before in
     simp (
-      says profile_outcome c₁.before.before.judged.ensures c₁.p.given.1,
-      says verdict_outcome c₂.before.before.judged-mapped.ensures c₂.enum-told2.given.1,
-      says verdict_outcome c₃.before.before.judged-near-fault.ensures c₃.enum-told4.given.1,
-      stopped class_outcome _ _ c.before.before.before.judged2.ensures c.before.enum-told6.given.1 refl c.refusal4.ensures,
-    )
-
-returns-5 : tie.Need-returns-5
-unfolding judged_site
-returns-5 c =
-    let c₄ = c.before in
-    let c₃ = c₄.before.before.before in
-    let c₂ = c₃.before.before.before in
-    let c₁ = c₂.before.before.before.before in
-    simp (
-      says profile_outcome c₁.before.before.judged.ensures c₁.p.given.1,
-      says verdict_outcome c₂.before.before.judged-mapped.ensures c₂.enum-told2.given.1,
-      says verdict_outcome c₃.before.before.judged-near-fault.ensures c₃.enum-told4.given.1,
-      says class_outcome c₄.before.before.judged2.ensures c₄.c.given.1,
+      says verdict_outcome c₁.before.before.judged-mapped.ensures c₁.enum_told.given.1,
+      says verdict_outcome c₂.before.before.judged-near-fault.ensures c₂.enum-told3.given.1,
+      says class_outcome c₃.before.before.judged.ensures c₃.c.given.1,
     )
 
 pub judged-spec : {M : Type 1} → statement M
 judged-spec =
     tie.close
     (tie.spec
-    judged-requires
-    enum-known-p
+    judged-mapped-requires
     enum_told
+    enum-told-2
     refusal-requires
     returns
-    judged-mapped-requires
-    enum-told-2
+    judged-near-fault-requires
     enum-told-3
+    enum-told-4
     refusal-requires-2
     returns-2
-    judged-near-fault-requires
-    enum-told-4
+    judged-requires
+    enum-known-c
     enum-told-5
     refusal-requires-3
     returns-3
-    judged-requires-2
-    enum-known-c
-    enum-told-6
-    refusal-requires-4
-    returns-4
-    returns-5)
+    returns-4)

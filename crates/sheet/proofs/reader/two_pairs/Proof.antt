@@ -1,0 +1,50 @@
+-- `sheet::reader::two_pairs` meets its contract. Assumes nothing.
+use borrow.Author.Rules.{rules}
+use mathlib.Core.Path.{refl}
+use Rattle.sheet.proofs.reader.two_pairs.Statement.{statement}
+use Rattle.sheet.proofs.reader.two_pairs.Tie as tie
+
+array-read-t5 : tie.Need-array-read-t5
+array-read-t5 c = search rules
+
+array-read-t8 : tie.Need-array-read-t8
+array-read-t8 c = search rules
+
+array-read-t11 : tie.Need-array-read-t11
+array-read-t11 c = search rules
+
+array-read-t14 : tie.Need-array-read-t14
+array-read-t14 c = search rules
+
+array-read-t17 : tie.Need-array-read-t17
+array-read-t17 c = search rules
+
+array-read-t20 : tie.Need-array-read-t20
+array-read-t20 c = search rules
+
+array-read-t23 : tie.Need-array-read-t23
+array-read-t23 c = search rules
+
+array-read-t26 : tie.Need-array-read-t26
+array-read-t26 c = search rules
+
+array-read-t29 : tie.Need-array-read-t29
+array-read-t29 c = search rules
+
+returns : tie.Need-returns
+returns c = refl
+
+pub two-pairs-spec : {M : Type 1} → statement M
+two-pairs-spec =
+    tie.close
+    (tie.spec
+    array-read-t5
+    array-read-t8
+    array-read-t11
+    array-read-t14
+    array-read-t17
+    array-read-t20
+    array-read-t23
+    array-read-t26
+    array-read-t29
+    returns)
