@@ -1,9 +1,10 @@
 // The base shear.
+#![tactic(auto)]
 pub mod base;
 pub mod shears;
 
 // V, V_M, V* and V_D in N, and the period in use in ms.
-#[derive(Drop)]
+#[derive(Clone, Copy)]
 pub struct Figures {
     pub v: u64,
     pub vm: u64,

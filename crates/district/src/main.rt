@@ -1,4 +1,5 @@
 // The program `district`: a file of sheets on standard input, rows and report of the district on standard output.
+#![tactic(auto)]
 ghost use Rattle.io.specs.Counts.{IsPrefixLen};
 
 use libc::{STDERR_FILENO, STDIN_FILENO, STDOUT_FILENO};
@@ -10,7 +11,7 @@ use sheets::put_district;
 const ROOM: usize = BYTES_MOST + 1;
 
 // How many bytes came before the input ended or the cells were full, and whether a read failed before that.
-#[derive(Drop)]
+#[derive(Clone, Copy)]
 struct Arrived {
     count: usize,
     failed: bool,

@@ -1,4 +1,5 @@
 // A whole district in one call: up to 256 jobs that share a store of levels, a row for each, and a report.
+#![tactic(auto)]
 use entered::JOB;
 use limits::district::District;
 use limits::refusal::Verdict;
@@ -17,7 +18,7 @@ ghost use Rattle.district_call.specs.Report.{report_of};
 ghost use Rattle.district_call.specs.Row.{row_of};
 
 // What a district is answered: 22 or no refusal, and the report beside it, as an enum holds no array.
-#[derive(Drop)]
+#[derive(Clone, Copy)]
 pub struct DistrictAnswer {
     pub verdict: Verdict,
     pub report: Report,

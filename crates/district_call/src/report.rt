@@ -15,7 +15,7 @@ pub const CELLS: usize = 113;
 pub const CELL_THOUSANDTHS: u64 = 10;
 
 // How many jobs were accepted and how many refused; the sum of V_D in N; how often V, V_M and V* governed.
-#[derive(Drop)]
+#[derive(Clone, Copy)]
 pub struct Totals {
     pub accepted: u64,
     pub refused: u64,
@@ -25,7 +25,7 @@ pub struct Totals {
     pub star: u64,
 }
 
-#[derive(Drop)]
+#[derive(Clone, Copy)]
 pub struct Report {
     pub totals: Totals,
     pub cells: [u64; CELLS],

@@ -10,13 +10,13 @@ use limits::ground::GroundValues;
 use limits::refusal::Refusal;
 
 // V, V_M, V*, V_D and T, and W in kN.
-#[derive(Drop)]
+#[derive(Clone, Copy)]
 pub struct Weighed {
     pub figures: Figures,
     pub weight: u64,
 }
 
-#[derive(Drop)]
+#[derive(Clone, Copy)]
 pub enum WeighedAnswer {
     Taken(Weighed),
     Refused(Refusal),

@@ -16,7 +16,7 @@ const DIVISOR: u64 = 36;
 const FACTOR_MOST: u64 = 3_000;
 
 // The factor in thousandths, or why not.
-#[derive(Drop)]
+#[derive(Clone, Copy)]
 pub enum TorsionAnswer {
     Taken(u64),
     Refused(Refusal),

@@ -1,4 +1,5 @@
 // The job, and the two calls that it equals in turn.
+#![tactic(auto)]
 use base_shear::Figures;
 use distribution::shortest;
 use figures::{building_figures, top_height, total_weight};
@@ -19,7 +20,7 @@ ghost use Rattle.job.specs.Job.{Answers};
 ghost use Rattle.job.specs.ShearCall.{answer_outcome};
 
 // What a job and the shear call answer: V, V_M, V*, V_D and T, or why not.
-#[derive(Drop)]
+#[derive(Clone, Copy)]
 pub enum FiguresAnswer {
     Taken(Figures),
     Refused(Refusal),

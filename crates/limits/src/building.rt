@@ -8,7 +8,7 @@ use crate::ranges::within;
 use crate::refusal::{Refusal, Verdict};
 
 // A building: its total weight in kN, its top height above the base in dm.
-#[derive(Drop)]
+#[derive(Clone, Copy)]
 pub struct Building {
     pub weight: u64,
     pub height: u64,

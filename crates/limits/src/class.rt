@@ -6,14 +6,14 @@ ghost use Rattle.limits.specs.Outcome.{refusal_of};
 use crate::refusal::Refusal;
 
 // The site class of Table 3.
-#[derive(Drop)]
+#[derive(Clone, Copy)]
 pub enum Class {
     Hard,
     Normal,
     Soft,
 }
 
-#[derive(Drop)]
+#[derive(Clone, Copy)]
 pub enum ClassAnswer {
     Taken(Class),
     Refused(Refusal),

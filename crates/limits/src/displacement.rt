@@ -6,7 +6,7 @@ ghost use Rattle.limits.specs.Outcome.{verdict_outcome};
 use crate::refusal::{Refusal, Verdict};
 
 // A displacement in 0.01 mm, of either sign.
-#[derive(Drop)]
+#[derive(Clone, Copy)]
 pub struct Displacement {
     pub hundredths: i64,
 }

@@ -6,7 +6,7 @@ ghost use Rattle.limits.specs.Outcome.{verdict_outcome};
 use crate::refusal::{Refusal, Verdict};
 
 // A stretch of a store: where it starts, from 0, and how many levels it has.
-#[derive(Drop)]
+#[derive(Clone, Copy)]
 pub struct Stretch {
     pub start: u64,
     pub count: u64,
@@ -30,7 +30,7 @@ impl Stretch {
 }
 
 // A district: how many jobs it has.
-#[derive(Drop)]
+#[derive(Clone, Copy)]
 pub struct District {
     pub jobs: usize,
 }

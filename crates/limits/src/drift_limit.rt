@@ -7,7 +7,7 @@ use crate::ranges::within;
 use crate::refusal::{Refusal, Verdict};
 
 // A limit of the drift angle, in ten-thousandths.
-#[derive(Drop)]
+#[derive(Clone, Copy)]
 pub struct DriftLimit {
     pub limit: u64,
 }

@@ -7,7 +7,7 @@ use crate::displacement::Displacement;
 use crate::ranges::within;
 use crate::refusal::{Refusal, Verdict};
 
-#[derive(Drop)]
+#[derive(Clone, Copy)]
 pub struct Floor {
     pub largest: u64,
     pub average: u64,

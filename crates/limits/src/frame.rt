@@ -8,7 +8,7 @@ use crate::ranges::{listed, within};
 use crate::refusal::{Refusal, Verdict};
 
 // The frame line as it comes: kind; calculated period in ms; R, I and alpha-y in 0.01.
-#[derive(Drop)]
+#[derive(Clone, Copy)]
 pub struct FrameValues {
     pub kind: u64,
     pub calculated: u64,
@@ -18,7 +18,7 @@ pub struct FrameValues {
 }
 
 // The frame line, judged.
-#[derive(Drop)]
+#[derive(Clone, Copy)]
 pub struct Frame {
     pub kind: Kind,
     pub calculated: u64,
@@ -27,7 +27,7 @@ pub struct Frame {
     pub alpha: u64,
 }
 
-#[derive(Drop)]
+#[derive(Clone, Copy)]
 pub enum FrameAnswer {
     Taken(Frame),
     Refused(Refusal),

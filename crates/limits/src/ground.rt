@@ -8,20 +8,20 @@ use crate::site::{Site, SiteAnswer, SiteValues};
 use crate::zone::{Zone, ZoneAnswer};
 
 // The ground as it comes: a site line, or the number of a zone. No number of either means 'none'.
-#[derive(Drop)]
+#[derive(Clone, Copy)]
 pub enum GroundValues {
     Site(SiteValues),
     Basin(u64),
 }
 
 // The ground, judged.
-#[derive(Drop)]
+#[derive(Clone, Copy)]
 pub enum Ground {
     Site(Site),
     Basin(Zone),
 }
 
-#[derive(Drop)]
+#[derive(Clone, Copy)]
 pub enum GroundAnswer {
     Taken(Ground),
     Refused(Refusal),

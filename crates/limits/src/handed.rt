@@ -7,7 +7,7 @@ use crate::ranges::within;
 use crate::refusal::{Refusal, Verdict};
 
 // A base shear in N, and a period in ms.
-#[derive(Drop)]
+#[derive(Clone, Copy)]
 pub struct Handed {
     pub shear: u64,
     pub period: u64,

@@ -10,13 +10,13 @@ use crate::levels::judged_levels;
 use crate::refusal::{Refusal, Verdict};
 
 // A judged ground and frame.
-#[derive(Drop)]
+#[derive(Clone, Copy)]
 pub struct Given {
     pub ground: Ground,
     pub frame: Frame,
 }
 
-#[derive(Drop)]
+#[derive(Clone, Copy)]
 pub enum GivenAnswer {
     Taken(Given),
     Refused(Refusal),

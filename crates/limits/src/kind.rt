@@ -6,7 +6,7 @@ ghost use Rattle.limits.specs.Outcome.{refusal_of};
 use crate::refusal::Refusal;
 
 // The frame kind: steel frame, RC or SRC frame, eccentric brace, other.
-#[derive(Drop)]
+#[derive(Clone, Copy)]
 pub enum Kind {
     Steel,
     Concrete,
@@ -14,7 +14,7 @@ pub enum Kind {
     Other,
 }
 
-#[derive(Drop)]
+#[derive(Clone, Copy)]
 pub enum KindAnswer {
     Taken(Kind),
     Refused(Refusal),

@@ -1,5 +1,5 @@
 // A layer of a soil log: thickness in cm, kind, value, and their limits.
-#[derive(Drop)]
+#[derive(Clone, Copy)]
 pub struct Layer {
     pub thickness: u64,
     pub kind: u64,

@@ -7,13 +7,13 @@ use crate::ranges::within;
 use crate::refusal::{Refusal, Verdict};
 
 // A level: its weight in kN, its height above the base in dm.
-#[derive(Drop)]
+#[derive(Clone, Copy)]
 pub struct Level {
     pub weight: u64,
     pub height: u64,
 }
 
-#[derive(Drop)]
+#[derive(Clone, Copy)]
 pub enum LevelAnswer {
     Taken(Level),
     Refused(Refusal),

@@ -1,5 +1,6 @@
 // The quantities of a job, of its two calls, of a soil log, of a sheet, of a district and of drift and torsion: their limits, who judges them, and
 // what a refusal says.
+#![tactic(auto)]
 
 pub mod building;
 pub mod class;

@@ -7,7 +7,7 @@ use crate::ranges::within;
 use crate::refusal::{Refusal, Verdict};
 
 // A dimension in dm.
-#[derive(Drop)]
+#[derive(Clone, Copy)]
 pub struct Plan {
     pub dimension: u64,
 }

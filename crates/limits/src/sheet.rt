@@ -1,5 +1,5 @@
 // A sheet: its length in bytes, and the limits of its bytes and its numbers.
-#[derive(Drop)]
+#[derive(Clone, Copy)]
 pub struct Sheet {
     pub length: u64,
 }

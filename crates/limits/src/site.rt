@@ -10,7 +10,7 @@ use crate::refusal::{Refusal, Verdict};
 
 // The site line as it comes: S_S and S_1 of the design level, S_S and S_1 of the MCE level, in 0.01 g; N_A and N_V of the
 // design level, N_A and N_V of the MCE level, in 0.01; class.
-#[derive(Drop)]
+#[derive(Clone, Copy)]
 pub struct SiteValues {
     pub ssd: u64,
     pub s1d: u64,
@@ -24,7 +24,7 @@ pub struct SiteValues {
 }
 
 // The site line, judged.
-#[derive(Drop)]
+#[derive(Clone, Copy)]
 pub struct Site {
     pub ssd: u64,
     pub s1d: u64,
@@ -37,7 +37,7 @@ pub struct Site {
     pub class: Class,
 }
 
-#[derive(Drop)]
+#[derive(Clone, Copy)]
 pub enum SiteAnswer {
     Taken(Site),
     Refused(Refusal),

@@ -6,7 +6,7 @@ ghost use Rattle.limits.specs.Outcome.{refusal_of};
 use crate::refusal::Refusal;
 
 // The micro-zone of Table 4.
-#[derive(Drop)]
+#[derive(Clone, Copy)]
 pub enum Zone {
     One,
     Two,
@@ -14,7 +14,7 @@ pub enum Zone {
     Four,
 }
 
-#[derive(Drop)]
+#[derive(Clone, Copy)]
 pub enum ZoneAnswer {
     Taken(Zone),
     Refused(Refusal),

@@ -1,5 +1,6 @@
 // The response of a frame: period, spectrum, roots, reduction factor, modified ratio. Everything takes its unit s: figures are
 // whole numbers of s-ths.
+#![tactic(auto)]
 
 pub mod factor;
 pub mod period;

@@ -1,4 +1,5 @@
 // Rows of numbers in decimal, each ended by one byte that is no digit: the cases that the gate's programs read.
+#![tactic(auto)]
 ghost use Rattle.std.specs.Prelude.{◌≤◌, ◌≡◌, length};
 ghost use Rattle.rows.specs.Numbers.{number_at, Row};
 
@@ -6,14 +7,14 @@ ghost use Rattle.rows.specs.Numbers.{number_at, Row};
 const LARGEST: u64 = 18_446_744_073_709_551_615;
 
 // A number, and where the one after it begins.
-#[derive(Drop)]
+#[derive(Clone, Copy)]
 pub struct Read {
     pub value: u64,
     pub next: usize,
 }
 
 // As many numbers as were asked for, and where the one after them begins.
-#[derive(Drop)]
+#[derive(Clone, Copy)]
 pub struct ReadRow {
     pub values: [u64; 140],
     pub next: usize,

@@ -1,5 +1,6 @@
 // Runs the shear call and the distribution on the cases of standard input, and says what comes back: the answer, and of a distribution every
 // cell of the three buffers.
+#![tactic(auto)]
 use fields::{
     BASE_SHEAR, BUFFERS, DISTRIBUTION_HEAD, FRAME, HEIGHT, HEIGHT_COUNT, IN_BASIN, LISTED, OLD,
     PERIOD, SHEAR_HEAD, SITE, WEIGHT, WEIGHT_COUNT,

@@ -1,4 +1,5 @@
 // Runs the district call on the cases of standard input, and says what comes back: the answer, every row of the buffer and the report.
+#![tactic(auto)]
 use district_call::district;
 use district_call::entered::JOB;
 use district_call::report::Report;

@@ -1,4 +1,5 @@
 // Runs drift, torsion and accidental moments on the cases of standard input, and says what comes back: the answer, and every cell of the buffers.
+#![tactic(auto)]
 use drift::accidental::accidental_moments;
 use drift::storey_drift::drift;
 use drift::torsion::{TorsionAnswer, torsion};

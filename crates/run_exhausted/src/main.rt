@@ -1,6 +1,7 @@
 // What is finite, exhausted: roots and capacities of every R, on a site and in the Taipei Basin, in ten-millionths and in millionths, the period of
 // every height and kind, both coefficients of every product of a mapped value and a near-fault factor. (`run_logs` runs the velocity of every
 // N and q.) Last, the roots of R = 4.80 place by place, as they are found on paper.
+#![tactic(auto)]
 ghost use Rattle.std.specs.Prelude.{◌*◌, ◌≤◌, ◌<◌};
 
 use libc::STDOUT_FILENO;

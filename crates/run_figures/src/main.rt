@@ -1,4 +1,5 @@
 // Document 01's 'Figures to hold it to', in ten-millionths: each beside the figure that was worked out.
+#![tactic(auto)]
 ghost use Rattle.std.specs.Prelude.{◌≤◌, ◌<◌};
 
 use job::FiguresAnswer;

@@ -1,4 +1,5 @@
 // Runs the job call on the cases of standard input, and says what comes back: the answer, and every cell of the three buffers.
+#![tactic(auto)]
 use fields::{BUFFERS, FRAME, GROUND, HEAD, HEIGHT_COUNT, LISTED, OLD, SITE, WEIGHT_COUNT};
 use job::FiguresAnswer;
 use libc::{STDIN_FILENO, STDOUT_FILENO};

@@ -1,5 +1,6 @@
 // Runs the entry on changed copies of plain logs, as standard input gives them, and says what comes back of each; then the
 // velocity of every N and of every q.
+#![tactic(auto)]
 use fields::{
     FIELDS, KIND_COUNT, KINDS, LISTED, THICKNESS_COUNT, THICKNESSES, VALUE_COUNT, VALUES,
 };

@@ -1,4 +1,5 @@
 // Runs the judgments on changed copies of one good job, as standard input gives them, and says what comes back of each.
+#![tactic(auto)]
 use fields::{
     FIELDS, FRAME, GROUND, HEIGHT_COUNT, HEIGHTS, LISTED, ROOM, SITE, WEIGHT_COUNT, WEIGHTS, ZONE,
 };

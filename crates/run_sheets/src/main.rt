@@ -1,5 +1,6 @@
 // Runs the reader and the listing on each sheet of data/ that the file `names` names, one name a line, and writes each listing under
 // the sheet's name.
+#![tactic(auto)]
 ghost use Rattle.std.specs.Prelude.{◌≤◌, ◌<◌, length};
 
 use libc::STDOUT_FILENO;

@@ -1,4 +1,5 @@
 // One job with class 2, 3 and 2 again: the first and the third run agree, and the second is that of a fresh run.
+#![tactic(auto)]
 use base_shear::Figures;
 use job::FiguresAnswer;
 use job::figures::figures;

@@ -1,4 +1,5 @@
 // The program `shear`: a sheet on standard input, its listing on standard output.
+#![tactic(auto)]
 ghost use Rattle.io.specs.Counts.{IsPrefixLen};
 
 use libc::{STDERR_FILENO, STDIN_FILENO, STDOUT_FILENO};
@@ -9,7 +10,7 @@ use sheet::sheet_listing;
 const ROOM: usize = Sheet::BYTES_MOST as usize + 1;
 
 // How many bytes came before the input ended or the cells were full, and whether a read failed before that.
-#[derive(Drop)]
+#[derive(Clone, Copy)]
 struct Arrived {
     count: usize,
     failed: bool,

@@ -13,7 +13,7 @@ use text::number::NumberAnswer;
 use text::reading::{Cursor, ReadAnswer, word};
 
 // What a level line holds, weight and height, and where the next line begins; or it is otherwise.
-#[derive(Drop)]
+#[derive(Clone, Copy)]
 pub enum LevelLineAnswer {
     Found(u64, u64, Cursor),
     Otherwise,
@@ -43,7 +43,7 @@ fn level_line(s: &[u8], c: Cursor) -> LevelLineAnswer
 }
 
 // How many levels are kept, or the refusal.
-#[derive(Drop)]
+#[derive(Clone, Copy)]
 pub enum LevelsAnswer {
     Taken(usize),
     Refused(Refusal),
@@ -65,7 +65,7 @@ impl LevelsAnswer {
 pub const KEPT: usize = Level::MOST as usize + 1;
 
 // The answer, and the weights and heights of the levels that are kept beside it: an enum holds no array.
-#[derive(Drop)]
+#[derive(Clone, Copy)]
 pub struct LevelsRead {
     pub answer: LevelsAnswer,
     pub weights: [u64; KEPT],

@@ -1,4 +1,5 @@
 // A sheet: how it is read, and the listing that it gets.
+#![tactic(auto)]
 use job::{FiguresAnswer, job};
 use limits::frame::FrameValues;
 use limits::ground::GroundValues;
@@ -20,7 +21,7 @@ ghost use Rattle.sheet.specs.Listing.{outcome_of, sheet_listing, longest, printe
 const ROOM: usize = Level::MOST as usize;
 
 // What was written into a buffer: how many bytes, and the refusal that they say, zeros where they are results.
-#[derive(Drop)]
+#[derive(Clone, Copy)]
 pub struct Put {
     pub length: usize,
     pub refusal: Refusal,

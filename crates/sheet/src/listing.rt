@@ -11,7 +11,7 @@ use text::writing::put_line;
 pub const LONGEST: usize = 4_610;
 
 // The bytes of a listing, and how many there are.
-#[derive(Drop)]
+#[derive(Clone, Copy)]
 pub struct Listing {
     pub bytes: [u8; LONGEST],
     pub length: usize,

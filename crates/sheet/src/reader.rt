@@ -19,14 +19,14 @@ use text::line::line;
 use text::reading::{Cursor, ReadAnswer};
 
 // What line 1 holds, and where line 2 begins; or it is otherwise.
-#[derive(Drop)]
+#[derive(Clone, Copy)]
 pub enum GroundLineAnswer {
     Found(GroundValues, Cursor),
     Otherwise,
 }
 
 // What line 1 and line 2 hold, ground and frame, and how many levels are kept; or the refusal.
-#[derive(Drop)]
+#[derive(Clone, Copy)]
 pub enum SheetAnswer {
     Taken(GroundValues, FrameValues, usize),
     Refused(Refusal),
@@ -45,7 +45,7 @@ impl SheetAnswer {
 }
 
 // The answer, and the weights and heights of the levels that are kept beside it.
-#[derive(Drop)]
+#[derive(Clone, Copy)]
 pub struct SheetRead {
     pub answer: SheetAnswer,
     pub weights: [u64; KEPT],

@@ -12,7 +12,7 @@ use crate::split::sheet_end;
 use district_call::report::{CELLS, Report, Totals, count_in};
 
 // How many bytes the rows have, and the report.
-#[derive(Drop)]
+#[derive(Clone, Copy)]
 pub struct Rows {
     pub length: usize,
     pub report: Report,

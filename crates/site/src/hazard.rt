@@ -3,7 +3,7 @@ use crate::lines::Lines;
 use whole::Fraction;
 
 // One hazard: A and B in 10⁻⁸ g, the ductility capacity, and the square of its root.
-#[derive(Drop)]
+#[derive(Clone, Copy)]
 pub struct Hazard {
     pub a: u64,
     pub b: u64,
@@ -12,7 +12,7 @@ pub struct Hazard {
 }
 
 // The hazards of V, V_M and V*, the lines, and the divisors in tenths: 1.4 of V and V_M, 4.2 of V*, 3.5 in the Taipei Basin.
-#[derive(Drop)]
+#[derive(Clone, Copy)]
 pub struct Hazards {
     pub design: Hazard,
     pub mce: Hazard,

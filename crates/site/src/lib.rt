@@ -1,4 +1,5 @@
 // From a site, or a zone of the Taipei Basin, to the hazards of its shears.
+#![tactic(auto)]
 
 pub mod basin;
 pub mod capacity;

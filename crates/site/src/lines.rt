@@ -1,7 +1,7 @@
 // The constants of the shears that sites and the Taipei Basin share.
 
 // The three lines of the modified ratio, in thousandths: where the second and the third begin, the second's slope and what it adds, and the third's slope.
-#[derive(Drop)]
+#[derive(Clone, Copy)]
 pub struct Lines {
     pub first: u64,
     pub second: u64,

@@ -17,7 +17,7 @@ const NO_FACTOR: u64 = 100;
 const STAR_DIVISOR: u64 = 42;
 
 // A and B of a site, in 10⁻⁸ g.
-#[derive(Drop)]
+#[derive(Clone, Copy)]
 pub struct SiteAccelerations {
     pub a: u64,
     pub b: u64,

@@ -6,7 +6,7 @@ use crate::times::Times;
 use limits::class::Class;
 
 // The class limits in 10 m/s: above the first a site is hard, below the second it is soft.
-#[derive(Drop)]
+#[derive(Clone, Copy)]
 pub struct ClassLimits {
     pub hard: u64,
     pub soft: u64,

@@ -10,13 +10,13 @@ use limits::refusal::Refusal;
 use whole::quotients;
 
 // The times of all layers in ns: the sum of those rounded up, U, and of those rounded down, L.
-#[derive(Drop)]
+#[derive(Clone, Copy)]
 pub struct Times {
     pub up: u64,
     pub down: u64,
 }
 
-#[derive(Drop)]
+#[derive(Clone, Copy)]
 pub enum TimesAnswer {
     Taken(Times),
     Refused(Refusal),

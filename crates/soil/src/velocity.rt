@@ -9,7 +9,7 @@ use limits::ranges::within;
 use limits::refusal::{Refusal, Verdict};
 
 // A velocity in dm/s.
-#[derive(Drop)]
+#[derive(Clone, Copy)]
 pub enum VelocityAnswer {
     Taken(u64),
     Refused(Refusal),

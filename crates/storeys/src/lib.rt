@@ -1,4 +1,5 @@
 // The storeys: roof force, shears, forces, overturning.
+#![tactic(auto)]
 pub mod level_force;
 pub mod overturning;
 pub mod roof_force;

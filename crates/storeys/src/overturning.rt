@@ -5,7 +5,7 @@ ghost use Rattle.storeys.specs.Reach.{Turning};
 ghost use Rattle.storeys.specs.Storeys.{borne, bottom, overturnings};
 
 // What levels bear: their forces added, in N, and force times height above a bottom, added, in N·dm.
-#[derive(Drop)]
+#[derive(Clone, Copy)]
 pub struct Borne {
     pub force: u64,
     pub moment: u64,

@@ -1,4 +1,5 @@
 // Words, numbers and lines as bytes: how they are read, and how they are written.
+#![tactic(auto)]
 
 pub mod line;
 pub mod number;

@@ -7,7 +7,7 @@ use crate::number::{NumberAnswer, number};
 use crate::reading::{Cursor, ReadAnswer, word};
 
 // The numbers of a line, in the first of its cells, beside the answer: an enum holds no array.
-#[derive(Drop)]
+#[derive(Clone, Copy)]
 pub struct LineRead {
     pub answer: ReadAnswer,
     pub numbers: [u64; 10],

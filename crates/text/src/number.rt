@@ -6,14 +6,14 @@ use crate::reading::Cursor;
 use limits::sheet::Sheet;
 
 // A number stands at a cursor, and the bytes after it begin at the next; or none does.
-#[derive(Drop)]
+#[derive(Clone, Copy)]
 pub enum NumberAnswer {
     Found(u64, Cursor),
     Otherwise,
 }
 
 // How many digits there are, and the number that they write.
-#[derive(Drop)]
+#[derive(Clone, Copy)]
 pub struct Digits {
     pub count: usize,
     pub value: u64,

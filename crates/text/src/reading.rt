@@ -3,13 +3,13 @@ ghost use Rattle.std.specs.Prelude.{◌≡◌, drop};
 ghost use Rattle.text.specs.Reading.{word, word_answer};
 
 // Where reading goes on.
-#[derive(Drop)]
+#[derive(Clone, Copy)]
 pub struct Cursor {
     pub at: usize,
 }
 
 // What is read, a word or a line, stands at a cursor, and the bytes after it begin at the next; or it does not.
-#[derive(Drop)]
+#[derive(Clone, Copy)]
 pub enum ReadAnswer {
     Found(Cursor),
     Otherwise,

@@ -13,7 +13,7 @@ pub const FIRST: u64 = 10_000_000;
 const DIGIT_MOST: u64 = 9;
 
 // The digits found, with zeros behind them, and what is left beside them.
-#[derive(Drop)]
+#[derive(Clone, Copy)]
 pub struct Digits {
     pub found: u64,
     pub left: u64,
