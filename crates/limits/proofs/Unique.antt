@@ -50,28 +50,28 @@ one_answer {a = a} {b = b} says taken stopped same p q =
     sym (same a) ∙ ap (back taken stopped) (p ∙ sym q) ∙ same b
 
 pub verdict_unique : {a b : Verdict} {o : Outcome Done} → verdict_outcome a ≡ o → verdict_outcome b ≡ o → a ≡ b
-verdict_unique = one_answer verdict_outcome (λ _. Passed) RefusedVerdict (λ x. elim x [ Passed ↦ refl | RefusedVerdict r ↦ refl ])
+verdict_unique = one_answer verdict_outcome (λ _. Passed) RefusedVerdict (λ x. elim x as (λ y. back (λ _. Passed) RefusedVerdict (verdict_outcome y) ≡ y) [ Passed ↦ refl | RefusedVerdict r ↦ refl ])
 
 pub class_unique : {a b : ClassAnswer} {o : Outcome Class} → class_outcome a ≡ o → class_outcome b ≡ o → a ≡ b
-class_unique = one_answer class_outcome TakenClass RefusedClass (λ x. elim x [ TakenClass c ↦ refl | RefusedClass r ↦ refl ])
+class_unique = one_answer class_outcome TakenClass RefusedClass (λ x. elim x as (λ y. back TakenClass RefusedClass (class_outcome y) ≡ y) [ TakenClass c ↦ refl | RefusedClass r ↦ refl ])
 
 pub site_unique : {a b : SiteAnswer} {o : Outcome Site} → site_outcome a ≡ o → site_outcome b ≡ o → a ≡ b
-site_unique = one_answer site_outcome TakenSite RefusedSite (λ x. elim x [ TakenSite s ↦ refl | RefusedSite r ↦ refl ])
+site_unique = one_answer site_outcome TakenSite RefusedSite (λ x. elim x as (λ y. back TakenSite RefusedSite (site_outcome y) ≡ y) [ TakenSite s ↦ refl | RefusedSite r ↦ refl ])
 
 pub zone_unique : {a b : ZoneAnswer} {o : Outcome Zone} → zone_outcome a ≡ o → zone_outcome b ≡ o → a ≡ b
-zone_unique = one_answer zone_outcome TakenZone RefusedZone (λ x. elim x [ TakenZone z ↦ refl | RefusedZone r ↦ refl ])
+zone_unique = one_answer zone_outcome TakenZone RefusedZone (λ x. elim x as (λ y. back TakenZone RefusedZone (zone_outcome y) ≡ y) [ TakenZone z ↦ refl | RefusedZone r ↦ refl ])
 
 pub ground_unique : {a b : GroundAnswer} {o : Outcome Ground} → ground_outcome a ≡ o → ground_outcome b ≡ o → a ≡ b
-ground_unique = one_answer ground_outcome TakenGround RefusedGround (λ x. elim x [ TakenGround g ↦ refl | RefusedGround r ↦ refl ])
+ground_unique = one_answer ground_outcome TakenGround RefusedGround (λ x. elim x as (λ y. back TakenGround RefusedGround (ground_outcome y) ≡ y) [ TakenGround g ↦ refl | RefusedGround r ↦ refl ])
 
 pub kind_unique : {a b : KindAnswer} {o : Outcome Kind} → kind_outcome a ≡ o → kind_outcome b ≡ o → a ≡ b
-kind_unique = one_answer kind_outcome TakenKind RefusedKind (λ x. elim x [ TakenKind k ↦ refl | RefusedKind r ↦ refl ])
+kind_unique = one_answer kind_outcome TakenKind RefusedKind (λ x. elim x as (λ y. back TakenKind RefusedKind (kind_outcome y) ≡ y) [ TakenKind k ↦ refl | RefusedKind r ↦ refl ])
 
 pub frame_unique : {a b : FrameAnswer} {o : Outcome Frame} → frame_outcome a ≡ o → frame_outcome b ≡ o → a ≡ b
-frame_unique = one_answer frame_outcome TakenFrame RefusedFrame (λ x. elim x [ TakenFrame f ↦ refl | RefusedFrame r ↦ refl ])
+frame_unique = one_answer frame_outcome TakenFrame RefusedFrame (λ x. elim x as (λ y. back TakenFrame RefusedFrame (frame_outcome y) ≡ y) [ TakenFrame f ↦ refl | RefusedFrame r ↦ refl ])
 
 pub given_unique : {a b : GivenAnswer} {o : Outcome Given} → given_outcome a ≡ o → given_outcome b ≡ o → a ≡ b
-given_unique = one_answer given_outcome TakenGiven RefusedGiven (λ x. elim x [ TakenGiven g ↦ refl | RefusedGiven r ↦ refl ])
+given_unique = one_answer given_outcome TakenGiven RefusedGiven (λ x. elim x as (λ y. back TakenGiven RefusedGiven (given_outcome y) ≡ y) [ TakenGiven g ↦ refl | RefusedGiven r ↦ refl ])
 
 pub level_unique : {a b : LevelAnswer} {o : Outcome Level} → level_outcome a ≡ o → level_outcome b ≡ o → a ≡ b
-level_unique = one_answer level_outcome TakenLevel RefusedLevel (λ x. elim x [ TakenLevel l ↦ refl | RefusedLevel r ↦ refl ])
+level_unique = one_answer level_outcome TakenLevel RefusedLevel (λ x. elim x as (λ y. back TakenLevel RefusedLevel (level_outcome y) ≡ y) [ TakenLevel l ↦ refl | RefusedLevel r ↦ refl ])

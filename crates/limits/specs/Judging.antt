@@ -21,12 +21,12 @@ use Rattle.limits.specs.Handed.{judged_handed}
 use Rattle.limits.specs.Levels.{judged_levels}
 use Rattle.limits.specs.Outcome.{Outcome, accepted, refused, Done, ◌>>=◌, ◌>>◌}
 
-abbrev pub judged_given : Outcome Done → GroundValues → FrameValues → Outcome Given
+abbrev pub judged_given : Outcome Done → (ground : GroundValues) → FrameValues → Outcome Given
 judged_given o G f = do
   o
-  ground ← judged_ground G
+  g ← judged_ground G
   frame ← judged_frame f
-  accepted (record { ground = ground; frame = frame })
+  accepted (record { ground = g; frame = frame })
 
 unfoldable pub judged_job : GroundValues → FrameValues → List ℕ → List ℕ → ℕ → Outcome Given
 judged_job G f ws hs room = judged_given (judged_levels ws hs room) G f

@@ -23,8 +23,8 @@ one_class ds ks xs p q = class_unique p q
 
 -- `timed`
 pub times_unique : {a b : TimesAnswer} {o : Outcome Times} → times_outcome a ≡ o → times_outcome b ≡ o → a ≡ b
-times_unique = one_answer times_outcome TakenTimes RefusedTimes (λ x. elim x [ TakenTimes t ↦ refl | RefusedTimes r ↦ refl ])
+times_unique = one_answer times_outcome TakenTimes RefusedTimes (λ x. elim x as (λ y. back TakenTimes RefusedTimes (times_outcome y) ≡ y) [ TakenTimes t ↦ refl | RefusedTimes r ↦ refl ])
 
 -- `measured`, `by_table`, `velocity`
 pub velocity_unique : {a b : VelocityAnswer} {o : Outcome ℕ} → velocity_outcome a ≡ o → velocity_outcome b ≡ o → a ≡ b
-velocity_unique = one_answer velocity_outcome TakenVelocity RefusedVelocity (λ x. elim x [ TakenVelocity v ↦ refl | RefusedVelocity r ↦ refl ])
+velocity_unique = one_answer velocity_outcome TakenVelocity RefusedVelocity (λ x. elim x as (λ y. back TakenVelocity RefusedVelocity (velocity_outcome y) ≡ y) [ TakenVelocity v ↦ refl | RefusedVelocity r ↦ refl ])
