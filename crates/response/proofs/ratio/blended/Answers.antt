@@ -1,0 +1,10 @@
+-- `response::ratio::blended` meets its contract. Assumes nothing.
+use mathlib.Core.Path.{ap, ◌∙◌}
+use Prim.Native.Nat.{ℕ}
+use Rattle.response.specs.Ratio.{blended}
+use Rattle.whole.specs.Rounding.{up}
+use Rattle.response.proofs.ratio.blended.Goals as goal
+
+pub returns : goal.returns
+unfolding blended
+returns c = c.up.ensures ∙ ap (λ (n : ℕ). up n 1000) c.bent.ensures
