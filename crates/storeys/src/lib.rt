@@ -1,5 +1,6 @@
 // The storeys: roof force, shears, forces, overturning.
 #![tactic(auto)]
+
 pub mod level_force;
 pub mod overturning;
 pub mod roof_force;

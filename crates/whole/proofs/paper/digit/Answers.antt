@@ -45,10 +45,10 @@ loop-c-init c =
     let m = digit_most a.d a.k a.p a.left p.5 in
     let e = c.taken.ensures in
     elim c.if-c-gt-DIGIT_MOST.branch [
-      then-c-gt-DIGIT_MOST w ↦ (omega (arith, w.c-is), λ j h. omega (arith, w.c-is, m j h))
-    | else-c-gt-DIGIT_MOST w ↦
-      let q : c.if-c-gt-DIGIT_MOST.c ≡ a.left / taken a.d a.k a.p = w.c-is ∙ ap (λ (r : ℕ). a.left / r) e in
-      (omega (arith, w.c-is, w.if-c-gt-DIGIT_MOST.false), λ j h. omega (arith, q, t j h))
+      | then-c-gt-DIGIT_MOST w ↦ (omega (arith, w.c-is), λ j h. omega (arith, w.c-is, m j h))
+      | else-c-gt-DIGIT_MOST w ↦
+          let q : c.if-c-gt-DIGIT_MOST.c ≡ a.left / taken a.d a.k a.p = w.c-is ∙ ap (λ (r : ℕ). a.left / r) e in
+          (omega (arith, w.c-is, w.if-c-gt-DIGIT_MOST.false), λ j h. omega (arith, q, t j h))
     ]
 
 pub overflow_mul-c : goal.overflow_mul-c

@@ -1,5 +1,5 @@
 -- `whole::paper::digit` meets its contract. The invariant: c is at most 9, and no digit above it fits. The measure is c. Assumes nothing.
-use Prim.Native.Nat.{ℕ, ◌-◌, ◌*◌, ◌≤◌}
+use Prim.Native.Nat.{ℕ, ◌*◌, ◌≤◌}
 use Rattle.whole.specs.Digits.{taken}
 use Rattle.whole.proofs.paper.digit.Given as goal
 

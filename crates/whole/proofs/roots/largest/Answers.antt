@@ -72,8 +72,8 @@ loop-width-preserved c =
     let e = ap (λ (x : ℕ). a.m * x) c.power.ensures in
     let P : ℕ → Type 0 = λ (z : ℕ). Within a.m a.p a.n a.top z (l.width - l.width / 2) in
     elim c.if-m-power.branch [
-      then-m-power w ↦ subst P (sym w.lo-is) (upper-part a.m a.p a.n a.top l.lo l.width t l.invariant (omega (arith, e, w.if-m-power.true)))
-    | else-m-power w ↦ subst P (sym w.lo-is) (lower-part a.m a.p a.n a.top l.lo l.width t l.invariant (omega (arith, e, w.if-m-power.false)))
+      | then-m-power w ↦ subst P (sym w.lo-is) (upper-part a.m a.p a.n a.top l.lo l.width t l.invariant (omega (arith, e, w.if-m-power.true)))
+      | else-m-power w ↦ subst P (sym w.lo-is) (lower-part a.m a.p a.n a.top l.lo l.width t l.invariant (omega (arith, e, w.if-m-power.false)))
     ]
 
 pub returns : goal.returns

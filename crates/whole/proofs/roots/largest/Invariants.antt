@@ -1,6 +1,6 @@
 -- `whole::roots::largest` meets its contract. The invariant: the root is at least lo and below lo + width, which is at most top. The measure is
 -- width. Assumes nothing.
-use Prim.Native.Nat.{ℕ, ◌+◌, ◌-◌, ◌*◌, ◌^◌, ◌≤◌, ◌<◌}
+use Prim.Native.Nat.{ℕ, ◌+◌, ◌*◌, ◌^◌, ◌≤◌, ◌<◌}
 use Rattle.whole.proofs.roots.largest.Given as goal
 
 abbrev pub Within : ℕ → ℕ → ℕ → ℕ → ℕ → ℕ → Type 0
