@@ -1,7 +1,7 @@
 -- `limits::levels::raised` meets its contract. The invariant: the whole list is judged as what is left of it from the i-th on.
 -- Assumes nothing.
 use mathlib.Core.Path.{◌≡◌, sym, ap, ◌∙◌}
-use Prim.Native.Nat.{◌+◌, ◌-◌}
+use Prim.Native.Nat.{◌+◌}
 use native.Mathlib.Omega.{arith}
 use lib.ListN.{length}
 use Rattle.limits.proofs.Lists.{heights_step, heights_end}

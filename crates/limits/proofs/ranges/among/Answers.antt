@@ -1,7 +1,6 @@
 -- `limits::ranges::among` meets its contract. The invariant: x is among the values exactly if it is among those from the i-th
 -- on. Assumes nothing.
 use mathlib.Core.Path.{◌≡◌, sym, ◌∙◌}
-use Prim.Native.Nat.{◌-◌}
 use native.Mathlib.Omega.{arith}
 use lib.ListN.{length}
 use Rattle.limits.proofs.Listed.{found, passed, none_left}

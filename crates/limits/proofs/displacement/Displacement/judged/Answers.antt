@@ -19,8 +19,8 @@ returns-then-d-le-MOST c =
 pub returns : goal.returns
 returns c =
     let e : leb (size c.args.d) 1_000_000 ≡ false =
-      elim c.else-d-ge-LEAST.branch [
-        else-d-ge-LEAST-via-then-d-ge-LEAST+else-d-le-MOST high ↦ too_high 999_999 c.args.d (rw (to_z-of_z {w = w64} c.ranges.d) at high.if-d-le-MOST.false)
+    elim c.else-d-ge-LEAST.branch [
+      | else-d-ge-LEAST-via-then-d-ge-LEAST+else-d-le-MOST high ↦ too_high 999_999 c.args.d (rw (to_z-of_z {w = w64} c.ranges.d) at high.if-d-le-MOST.false)
       | else-d-ge-LEAST-via-else-d-ge-LEAST low ↦ too_low 999_999 c.args.d (rw (to_z-of_z {w = w64} c.ranges.d) at low.if-d-ge-LEAST.false)
-      ] in
+    ] in
     simp e

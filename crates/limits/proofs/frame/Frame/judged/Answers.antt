@@ -1,5 +1,4 @@
 -- `limits::frame::Frame::judged` meets its contract. Assumes nothing.
-use borrow.Author.Rules.{rules}
 use mathlib.Core.List.{[], ◌∷◌}
 use mathlib.Core.Path.{◌≡◌, refl, sym, ◌∙◌}
 use Rattle.limits.specs.declared.frame.Frame.{Frame}

@@ -1,5 +1,4 @@
 -- `limits::site::Site::judged_mapped` meets its contract. Assumes nothing.
-use borrow.Author.Rules.{rules}
 use mathlib.Core.Path.{ap}
 use Rattle.limits.proofs.Stages.{says}
 use Rattle.limits.specs.Outcome.{verdict_outcome}
