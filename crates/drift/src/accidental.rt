@@ -72,7 +72,7 @@ pub fn accidental_moments(
     positive: &mut [i64],
     negative: &mut [i64],
 ) -> Verdict
-    ensures { MomentAnswers shear period weights.now heights.now dimension (record { positive = positive.entry.now; negative = negative.old }) result (record { positive = positive.exit.now; negative = negative.new }) }
+    ensures { MomentAnswers shear period weights.now heights.now dimension (record { positive = positive.old; negative = negative.old }) result (record { positive = positive.new; negative = negative.new }) }
 {
     let room = shorter(positive.len(), negative.len());
     let v = judged_moments(shear, period, weights, heights, dimension, room);

@@ -33,7 +33,7 @@ pub fn distribution(
     shears: &mut [u64],
     overturnings: &mut [u64],
 ) -> Verdict
-    ensures { Distributed shear period weights.now heights.now (record { forces = forces.entry.now; shears = shears.old; overturnings = overturnings.old }) result (record { forces = forces.exit.now; shears = shears.new; overturnings = overturnings.new }) }
+    ensures { Distributed shear period weights.now heights.now (record { forces = forces.old; shears = shears.old; overturnings = overturnings.old }) result (record { forces = forces.new; shears = shears.new; overturnings = overturnings.new }) }
 {
     let room = shortest(forces.len(), shears.len(), overturnings.len());
     let v = judged_distribution(shear, period, weights, heights, room);

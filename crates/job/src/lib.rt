@@ -48,7 +48,7 @@ pub fn job(
     shears: &mut [u64],
     overturnings: &mut [u64],
 ) -> FiguresAnswer
-    ensures { Answers ground frame weights.now heights.now (record { forces = forces.entry.now; shears = shears.old; overturnings = overturnings.old }) result (record { forces = forces.exit.now; shears = shears.new; overturnings = overturnings.new }) }
+    ensures { Answers ground frame weights.now heights.now (record { forces = forces.old; shears = shears.old; overturnings = overturnings.old }) result (record { forces = forces.new; shears = shears.new; overturnings = overturnings.new }) }
 {
     let room = shortest(forces.len(), shears.len(), overturnings.len());
     let levels = judged_levels(weights, heights, room);

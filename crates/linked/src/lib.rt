@@ -38,7 +38,7 @@ pub extern "C" fn rukeshomaji_job(
     overturnings: &mut [u64],
     figures: &mut [u64; 6],
 ) -> u64
-    ensures { JobReplies (on_site site.now) frame.now weights.now heights.now (record { forces = forces.entry.now; shears = shears.old; overturnings = overturnings.old }) result figures.new (record { forces = forces.exit.now; shears = shears.new; overturnings = overturnings.new }) }
+    ensures { JobReplies (on_site site.now) frame.now weights.now heights.now (record { forces = forces.old; shears = shears.old; overturnings = overturnings.old }) result figures.new (record { forces = forces.new; shears = shears.new; overturnings = overturnings.new }) }
 {
     let ground = GroundValues::Site(site_values(site));
     let f = frame_values(frame);
@@ -75,7 +75,7 @@ pub extern "C" fn rukeshomaji_basin_job(
     overturnings: &mut [u64],
     figures: &mut [u64; 6],
 ) -> u64
-    ensures { JobReplies (in_basin zone) frame.now weights.now heights.now (record { forces = forces.entry.now; shears = shears.old; overturnings = overturnings.old }) result figures.new (record { forces = forces.exit.now; shears = shears.new; overturnings = overturnings.new }) }
+    ensures { JobReplies (in_basin zone) frame.now weights.now heights.now (record { forces = forces.old; shears = shears.old; overturnings = overturnings.old }) result figures.new (record { forces = forces.new; shears = shears.new; overturnings = overturnings.new }) }
 {
     let f = frame_values(frame);
     let a = job::job(
@@ -152,7 +152,7 @@ pub extern "C" fn rukeshomaji_distribution(
     overturnings: &mut [u64],
     place: &mut u64,
 ) -> u64
-    ensures { DistributionReplies base_shear period weights.now heights.now (record { forces = forces.entry.now; shears = shears.old; overturnings = overturnings.old }) result place.new (record { forces = forces.exit.now; shears = shears.new; overturnings = overturnings.new }) }
+    ensures { DistributionReplies base_shear period weights.now heights.now (record { forces = forces.old; shears = shears.old; overturnings = overturnings.old }) result place.new (record { forces = forces.new; shears = shears.new; overturnings = overturnings.new }) }
 {
     let a = distribution(
         base_shear,
@@ -227,7 +227,7 @@ pub extern "C" fn rukeshomaji_accidental_moments(
     negative: &mut [i64],
     place: &mut u64,
 ) -> u64
-    ensures { MomentsReplies shear period weights.now heights.now dimension (record { positive = positive.entry.now; negative = negative.old }) result place.new (record { positive = positive.exit.now; negative = negative.new }) }
+    ensures { MomentsReplies shear period weights.now heights.now dimension (record { positive = positive.old; negative = negative.old }) result place.new (record { positive = positive.new; negative = negative.new }) }
 {
     let a = accidental_moments(
         shear, period, weights, heights, dimension, positive, negative,
