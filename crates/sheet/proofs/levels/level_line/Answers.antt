@@ -17,13 +17,13 @@ use Rattle.sheet.proofs.LevelLine.{level_first, level_weight, level_height, leve
 use Rattle.sheet.proofs.levels.level_line.Goals as goal
 
 -- where a word, and where a number after it, ends, by the answer that the code got
-after_word : (s : List ℕ) (c b : Cursor) (w : List ℕ) {a : ReadAnswer} → a ≡ word_answer c (word w (drop c.at s)) → a ≡ Found b
+after_word : (s : List ℕ) {c b : Cursor} (w : List ℕ) {a : ReadAnswer} → a ≡ word_answer c (word w (drop c.at s)) → a ≡ Found b
     → Went c b (word w (drop c.at s)) tt
-after_word s c b w e is = word_went _ _ _ (sym e ∙ is)
+after_word s w e is = word_went _ _ _ (sym e ∙ is)
 
-after_number : (s : List ℕ) (c b : Cursor) (v : ℕ) {a : NumberAnswer} → a ≡ number_answer c (field (drop c.at s)) → a ≡ FoundNumber v b
+after_number : (s : List ℕ) {c b : Cursor} {v : ℕ} {a : NumberAnswer} → a ≡ number_answer c (field (drop c.at s)) → a ≡ FoundNumber v b
     → Went c b (field (drop c.at s)) v
-after_number s c b v e is = number_went _ _ _ _ (sym e ∙ is)
+after_number s e is = number_went _ _ _ _ (sym e ∙ is)
 
 pub returns-in_default : goal.returns-in_default
 returns-in_default c =
@@ -33,28 +33,28 @@ returns-in_default c =
 pub returns-in_default-w : goal.returns-in_default-w
 returns-in_default-w c =
     let a = c.args in
-    let w₁ = after_word a.s.now a.c c.in-Found.begin (bytes "level") c.word-first.ensures c.in-Found.is in
+    let w₁ = after_word a.s.now (bytes "level") c.word-first.ensures c.in-Found.is in
     sym (level_weight a.s.now a.c _ w₁ (number_missed _ _ (sym c.field-w.ensures ∙ c.in_default-w.is)))
 
 pub returns-in_default-h : goal.returns-in_default-h
 returns-in_default-h c =
     let a = c.args in
-    let w₁ = after_word a.s.now a.c c.in-Found.begin (bytes "level") c.word-first.ensures c.in-Found.is in
-    let w₂ = after_number a.s.now c.in-Found.begin c.in-Found-w.middle c.in-Found-w.weight c.field-w.ensures c.in-Found-w.is in
+    let w₁ = after_word a.s.now (bytes "level") c.word-first.ensures c.in-Found.is in
+    let w₂ = after_number a.s.now c.field-w.ensures c.in-Found-w.is in
     sym (level_height a.s.now a.c _ w₁ _ _ w₂ (number_missed _ _ (sym c.field-h.ensures ∙ c.in_default-h.is)))
 
 pub returns-in_default-last : goal.returns-in_default-last
 returns-in_default-last c =
     let a = c.args in
-    let w₁ = after_word a.s.now a.c c.in-Found.begin (bytes "level") c.word-first.ensures c.in-Found.is in
-    let w₂ = after_number a.s.now c.in-Found.begin c.in-Found-w.middle c.in-Found-w.weight c.field-w.ensures c.in-Found-w.is in
-    let w₃ = after_number a.s.now c.in-Found-w.middle c.in-Found-h.end c.in-Found-h.height c.field-h.ensures c.in-Found-h.is in
+    let w₁ = after_word a.s.now (bytes "level") c.word-first.ensures c.in-Found.is in
+    let w₂ = after_number a.s.now c.field-w.ensures c.in-Found-w.is in
+    let w₃ = after_number a.s.now c.field-h.ensures c.in-Found-h.is in
     sym (level_last a.s.now a.c _ w₁ _ _ w₂ _ _ w₃ (word_missed _ _ (sym c.word-last.ensures ∙ c.in_default-last.is)))
 
 pub returns : goal.returns
 returns c =
     let a = c.args in
-    let w₁ = after_word a.s.now a.c c.in-Found.begin (bytes "level") c.word-first.ensures c.in-Found.is in
-    let w₂ = after_number a.s.now c.in-Found.begin c.in-Found-w.middle c.in-Found-w.weight c.field-w.ensures c.in-Found-w.is in
-    let w₃ = after_number a.s.now c.in-Found-w.middle c.in-Found-h.end c.in-Found-h.height c.field-h.ensures c.in-Found-h.is in
+    let w₁ = after_word a.s.now (bytes "level") c.word-first.ensures c.in-Found.is in
+    let w₂ = after_number a.s.now c.field-w.ensures c.in-Found-w.is in
+    let w₃ = after_number a.s.now c.field-h.ensures c.in-Found-h.is in
     sym (level_whole a.s.now a.c _ w₁ _ _ w₂ _ _ w₃ _ (word_went _ _ _ (sym c.word-last.ensures ∙ c.in-Found-last.is)))

@@ -17,10 +17,10 @@ use Rattle.sheet.specs.Reading.{level_line_answer, levels_read}
 use Rattle.sheet.proofs.levels.level_lines.Goals as goal
 
 -- a line was found: its numbers, and where the next begins
-found_line : (s : List ℕ) (at : ℕ) (next : Cursor) (weight height : ℕ) {a : LevelLineAnswer}
+found_line : (s : List ℕ) (at : ℕ) {next : Cursor} {weight height : ℕ} {a : LevelLineAnswer}
     → a ≡ level_line_answer (record { at = at }) (line (bytes "level") 2 (drop at s)) → a ≡ Found weight height next
     → LevelWent (record { at = at }) next (line (bytes "level") 2 (drop at s)) weight height
-found_line s at next weight height e is = level_went _ _ _ _ _ (sym e ∙ is)
+found_line s at e is = level_went _ _ _ _ _ (sym e ∙ is)
 
 pub loop-at-init : goal.loop-at-init
 loop-at-init c = gathered_none c.args.s.now c.args.c.at
@@ -45,12 +45,12 @@ overflow_add-n-in-loop-at c = omega (arith, c.loop-at.invariant.few)
 
 pub loop-at-smaller : goal.loop-at-smaller
 loop-at-smaller c =
-    let l = found_line c.args.s.now c.loop-at.at c.in-Found.next c.in-Found.weight c.in-Found.height c.level_line-a.ensures c.in-Found.is in
+    let l = found_line c.args.s.now c.loop-at.at c.level_line-a.ensures c.in-Found.is in
     omega (arith, ap (λ (k : Cursor). k.at) l.went.to, line_takes (bytes "level") 2 _ l.numbers l.went.used l.went.is)
 
 pub loop-at-preserved : goal.loop-at-preserved
 loop-at-preserved c =
-    let l = found_line c.args.s.now c.loop-at.at c.in-Found.next c.in-Found.weight c.in-Found.height c.level_line-a.ensures c.in-Found.is in
+    let l = found_line c.args.s.now c.loop-at.at c.level_line-a.ensures c.in-Found.is in
     gathered_more c.loop-at.invariant c.loop-at-test.true l.numbers l.went.used l.went.is l.weight_is l.height_is c.keep.ensures c.keep-in-loop-at.ensures (ap (λ (k : Cursor). k.at) l.went.to)
 
 pub returns : goal.returns

@@ -11,32 +11,29 @@ use Rattle.base_shear.specs.declared.Figures.{Figures}
 use Rattle.sheet.specs.Listing.{results_listing, all_levels, longest, Levelled}
 use Rattle.sheet.proofs.listing.put_results.Goals as goal
 
-module _ (fs us os : List ℕ) (f : Figures) (old : List ℕ) (l : Levelled fs us os) (h : longest ≤ length old) where
+module _ {fs us os : List ℕ} (f : Figures) (old : List ℕ) (l : Levelled fs us os) (h : longest ≤ length old) where
   -- there is room for the whole
   room : length (base_line fs us os f) + length (all_levels fs us os) ≤ length old
   room = omega (arith, results_listing_room fs us os f l, h)
 
   -- the base line stands
-  began : (held : List ℕ) (p : ℕ) → held ≡ spliced old 0 (base_line fs us os f) → p ≡ 0 + length (base_line fs us os f)
+  began : {held : List ℕ} {p : ℕ} → held ≡ spliced old 0 (base_line fs us os f) → p ≡ 0 + length (base_line fs us os f)
       → Wrote old 0 (base_line fs us os f) held p
-  began held p e g = wrote _ _ _ _ _ (omega (arith, room)) e g
+  began e g = wrote _ _ _ _ _ (omega (arith, room)) e g
 
 pub put_line-p-requires : goal.put_line-p-requires
 put_line-p-requires c =
-    let a = c.args in
-    omega (arith, room a.forces.now a.shears.now a.overturnings.now a.f a.out.now c.requires.0 c.requires.1)
+    omega (arith, room c.args.f c.args.out.now c.requires.0 c.requires.1)
 
 pub put_levels-requires : goal.put_levels-requires
 put_levels-requires c =
-    let a = c.args in
-    let w = began a.forces.now a.shears.now a.overturnings.now a.f a.out.now c.requires.0 c.requires.1 _ _ c.put_line-p.ensures.out_after c.put_line-p.ensures.value in
-    let all = room a.forces.now a.shears.now a.overturnings.now a.f a.out.now c.requires.0 c.requires.1 in
+    let w = began c.args.f c.args.out.now c.requires.0 c.requires.1 c.put_line-p.ensures.out_after c.put_line-p.ensures.value in
+    let all = room c.args.f c.args.out.now c.requires.0 c.requires.1 in
     record { levelled = c.requires.0; overturnings_in_bounds = omega (arith, w, all) }
 
 pub returns : goal.returns
 unfolding results_listing
 returns c =
-    let a = c.args in
-    let w = began a.forces.now a.shears.now a.overturnings.now a.f a.out.now c.requires.0 c.requires.1 _ _ c.put_line-p.ensures.out_after c.put_line-p.ensures.value in
-    let all = room a.forces.now a.shears.now a.overturnings.now a.f a.out.now c.requires.0 c.requires.1 in
+    let w = began c.args.f c.args.out.now c.requires.0 c.requires.1 c.put_line-p.ensures.out_after c.put_line-p.ensures.value in
+    let all = room c.args.f c.args.out.now c.requires.0 c.requires.1 in
     written_is (wrote_more w (wrote _ _ _ _ _ (omega (arith, w, all)) c.put_levels.ensures.out_after c.put_levels.ensures.value) (omega (arith, all)))
