@@ -1,5 +1,6 @@
 // The base shear.
 #![tactic(auto)]
+
 pub mod base;
 pub mod shears;
 

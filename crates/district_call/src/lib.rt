@@ -1,5 +1,6 @@
 // A whole district in one call: up to 256 jobs that share a store of levels, a row for each, and a report.
 #![tactic(auto)]
+
 use entered::JOB;
 use limits::district::District;
 use limits::refusal::Verdict;

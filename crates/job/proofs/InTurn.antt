@@ -15,7 +15,6 @@ use Rattle.limits.proofs.Passed.{then_passed}
 use Rattle.job.specs.InTurn.{in_turn}
 use Rattle.job.specs.Job.{job_of}
 use Rattle.job.specs.ShearCall.{building_figures}
-use Rattle.job.proofs.Answered as job
 use Rattle.job.proofs.Distributed.{distribution_accepted}
 use Rattle.job.proofs.GivenReached.{given_between, between_handed}
 use Rattle.job.proofs.Sheared as call

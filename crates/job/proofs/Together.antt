@@ -18,7 +18,6 @@ use Rattle.margin.proofs.Demand3.{together}
 use Rattle.job.specs.declared.FiguresAnswer.TheVariants.{Taken}
 use Rattle.job.specs.Distribution.{Buffers, Distributed}
 use Rattle.job.specs.ShearCall.{given_hazards, Sheared}
-use Rattle.job.proofs.Answered as job
 use Rattle.job.proofs.Distributed.{stands, handed_kept}
 use Rattle.job.proofs.Sheared as call
 

@@ -1,5 +1,6 @@
 // The job, and the two calls that it equals in turn.
 #![tactic(auto)]
+
 use base_shear::Figures;
 use distribution::shortest;
 use figures::{building_figures, top_height, total_weight};

@@ -1,5 +1,6 @@
 // A sheet: how it is read, and the listing that it gets.
 #![tactic(auto)]
+
 use job::{FiguresAnswer, job};
 use limits::frame::FrameValues;
 use limits::ground::GroundValues;

@@ -93,6 +93,6 @@ returns c =
     record {
       value = tallied_all os l.i _ _ (omega (arith, many ws hs js)) l.invariant.1;
       rows_after =
-        filling_all (length (map row_of os)) l.invariant.2 (omega (arith, many ws hs js, m))
-        ∙ ap (λ (r : List (List ℕ)). laid r c.args.rows.now) (sym (cells_of_list [] (map row_of os)));
+          filling_all (length (map row_of os)) l.invariant.2 (omega (arith, many ws hs js, m))
+          ∙ ap (λ (r : List (List ℕ)). laid r c.args.rows.now) (sym (cells_of_list [] (map row_of os)));
     }

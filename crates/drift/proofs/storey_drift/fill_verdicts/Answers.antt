@@ -2,7 +2,6 @@
 use native.Mathlib.Omega.{arith}
 use lib.ListN.{length}
 use Rattle.whole.proofs.Cells.{filling_none, filling_more, filling_all}
-use Rattle.drift.specs.Drift.{verdict_of}
 use Rattle.drift.proofs.storey_drift.fill_verdicts.Goals as goal
 
 pub loop-x-init : goal.loop-x-init

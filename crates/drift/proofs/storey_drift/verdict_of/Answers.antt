@@ -8,7 +8,7 @@ use Rattle.drift.proofs.Limit.{by_products, limit_most}
 use Rattle.drift.proofs.storey_drift.verdict_of.Goals as goal
 
 pub apart-requires : goal.apart-requires
-apart-requires c =  (c.requires.0.sizes, omega (arith, c.requires.1, c.requires.0.same))
+apart-requires c = (c.requires.0.sizes, omega (arith, c.requires.1, c.requires.0.same))
 
 pub storey_height-requires : goal.storey_height-requires
 storey_height-requires c =
