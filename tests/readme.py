@@ -26,7 +26,7 @@ MARGIN, BASE, STOREY, HANDED_IN = 6, 1, 3, 2       # Wishes 7 and 6 of 02: six t
 # what is said in digits and is no number of the rules
 SAID = ('its exit status is 1', 'its exit status is 1 if there is one', '(0 and 0 if it is accepted)', 'for x86-64 Linux', 'the largest of the three',
         'A job is two calls in one', 'The module for Python has all three', 'took 8 to 14 minutes on two cores', '`N passed, 0 failed`',
-        'in about half a minute')
+        'each as two compilers build it', 'in about half a minute')
 
 
 def numbers(name):

@@ -10,10 +10,10 @@ CODE = re.compile(r'`([^`]+)`')
 PATH = re.compile(r'(?<![\w./-])(?:[\w*.-]+/)*[\w*-]+\.(?:antt|rt|py|sh|h|c|md|svg|txt|edit|sheet|listing)\b|(?<![\w./-])[\w*.-]+(?:/[\w*.-]+)+/?')
 WORD = re.compile(r'[A-Za-z_][\w·*₀-₉-]*(?:::[\w.*]+)*')
 # what stands for any crate or file
-STANDS_FOR_ANY = re.compile(r'^lib\.rt$|(^|/)(C|CRATE|NAME)(/|$)')
+STANDS_FOR_ANY = re.compile(r'^lib\.rt$|^(Invariants|Answers)\.antt$|(^|/)(C|CRATE|NAME)(/|$)')
 # words in backticks that are no names of the repository
 PLAIN = {
-    'the language and its kit': 'requires ensures use do infixl lib Prim mathlib native borrow mir io libc os rt',
+    'the language and its kit': 'requires ensures use do infixl lib Prim mathlib native borrow mir std rt',
     'other programs, and functions of C': 'cc nm read write open close memcpy memset',
     'the sheet and the listing': 'site frame level base refused',
     'what the last line of the gate says': 'N passed, 0 failed',
