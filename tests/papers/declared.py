@@ -1,5 +1,6 @@
 """What the repository declares: the names of each file of crates/ and include/."""
 
+import os
 import pathlib
 import re
 
@@ -23,8 +24,12 @@ def declared(path):
 
 
 def sources(folder):
-    """The files of a folder that declare something."""
-    return [path for path in sorted(folder.rglob('*')) if path.suffix in ('.antt', '.rt', '.h') and 'must-fail' not in path.parts]
+    """The files of a folder that declare something; edits, and what `rt` makes, are left out."""
+    found = []
+    for here, folders, names in os.walk(folder):
+        folders[:] = [name for name in folders if name not in ('must-fail', 'out')]
+        found += [pathlib.Path(here, name) for name in names if name.endswith(('.antt', '.rt', '.h'))]
+    return sorted(found)
 
 
 def same_crate(file, other):
