@@ -29,7 +29,7 @@ def files(top):
 
 def is_law(path):
     parts = path.split(os.sep)
-    of_function = parts[2] == "proofs" and parts[-1] in ("Proof.antt", "Answers.antt", "Invariants.antt")
+    of_function = len(parts) > 2 and parts[2] == "proofs" and parts[-1] in ("Proof.antt", "Answers.antt", "Invariants.antt")
     return path.endswith(".antt") and parts[-1] != "Lib.antt" and not of_function
 
 

@@ -1,9 +1,9 @@
 -- The shears of the exact figure of demand 3: the same chain with no rounding after T, in N, the root being any fraction.
---   exact_newtons n f W x       I·x·W/(n/10·alpha-y), of a fraction x; n is 14 for V and V_M, 42 for V*, 35 for V* in the Taipei Basin
---   exact_shear k h f W T r     V and V_M
---   exact_star k f W T r        V*
+--   exact_newtons n f W x      I·x·W/(n/10·alpha-y), of a fraction x; n is 14 for V and V_M, 42 for V*, 35 for V* in the Taipei Basin
+--   exact_shear k h f W T r    V and V_M
+--   exact_star k f W T r       V*
 --   Roots                      the fractions taken for the roots in V, V_M and V*
---   exact_base k f W T r        V_D
+--   exact_base k f W T r       V_D
 use Rattle.std.specs.Prelude.{ℕ, ◌*◌}
 use Rattle.whole.specs.declared.Fraction.{Fraction}
 use Rattle.whole.specs.Fraction.{over, times, larger}

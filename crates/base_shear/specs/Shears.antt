@@ -1,15 +1,15 @@
 -- The shears (7), (17), (19), (20), in N, each rounded up. W in kN, I and alpha-y in 0.01, T in ms, everything else in s-ths.
 --   newtons s n f W x     I·x·W/(n/10·alpha-y) in N, of x s-ths: the hundredths of I and alpha-y cancel, and ten tenths times 1000 N in
 --                         a kN are 10⁴. In ten-millionths I·x·W/(1000·n·alpha-y)
---   spectrum_at s h T      the spectrum of a hazard; lower_at s h T, upper_at s h T    its lower and its upper factor
---   ratio_at s h T         q of a hazard: its spectrum over its lower factor
---   modified_at s l h T    m of a hazard
---   shear s k h f W T     V of the design hazard and V_M of the MCE hazard: I·m·W/(14000·alpha-y)
---   blended_at s l h T     p of a hazard: its spectrum against its upper factor
---   star s k f W T        V*: I·p·W/(42000·alpha-y) on a site, I·p·W/(35000·alpha-y) in the Taipei Basin; p by the upper factor of V*'s own hazard
---   base s k f W T        V_D, the largest of the three
---   figures_at s k f W T   V, V_M, V*, V_D and T
---   base_figures k f W h   those of hazards, a frame, a total weight and a top height h in dm, in the unit in use
+--   spectrum_at s h T       the spectrum of a hazard; lower_at s h T, upper_at s h T    its lower and its upper factor
+--   ratio_at s h T          q of a hazard: its spectrum over its lower factor
+--   modified_at s l h T     m of a hazard
+--   shear s k h f W T       V of the design hazard and V_M of the MCE hazard: I·m·W/(14000·alpha-y)
+--   blended_at s l h T      p of a hazard: its spectrum against its upper factor
+--   star s k f W T          V*: I·p·W/(42000·alpha-y) on a site, I·p·W/(35000·alpha-y) in the Taipei Basin; p by the upper factor of V*'s own hazard
+--   base s k f W T          V_D, the largest of the three
+--   figures_at s k f W T    V, V_M, V*, V_D and T
+--   base_figures k f W h    those of hazards, a frame, a total weight and a top height h in dm, in the unit in use
 use Rattle.std.specs.Prelude.{ℕ, ◌*◌, max}
 use Rattle.whole.specs.Rounding.{up}
 use Rattle.limits.specs.declared.frame.Frame.{Frame}

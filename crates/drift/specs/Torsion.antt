@@ -1,8 +1,8 @@
 -- Torsion (2.5.2): the amplification factor of a floor, from its largest displacement l and its average a, without a sign, in 0.01 mm.
 --   amplification l a       A_x = (δ_max / (1.2 δ_avg))², exact (22)
---   torsion_factor l a       in thousandths, rounded up; 'not required to exceed 3.0'. The section has no other bound
---   torsion_of l a           the factor, or the first refusal
---   torsion_outcome r        what the code's answer r says
+--   torsion_factor l a      in thousandths, rounded up; 'not required to exceed 3.0'. The section has no other bound
+--   torsion_of l a          the factor, or the first refusal
+--   torsion_outcome r       what the code's answer r says
 --   TorsionAnswers l a r    r is the answer
 use Rattle.std.specs.Prelude.{◌≡◌, ℕ, min}
 use Rattle.whole.specs.declared.Fraction.{Fraction}

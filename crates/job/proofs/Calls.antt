@@ -1,6 +1,6 @@
 -- What is proved of a call with buffers holds of every outcome of `job_of`, and of the figures without buffers: there is such a call.
 --   answer_of o    the answer that says the outcome o
---   blank ws      buffers of one cell a level
+--   blank ws       buffers of one cell a level
 -- Assumes nothing.
 use mathlib.Core.Path.{◌≡◌, refl, sym, ap, ◌∙◌}
 use mathlib.Core.List.{List}

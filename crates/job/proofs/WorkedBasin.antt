@@ -1,5 +1,5 @@
 -- The worked sheet in each zone of the Taipei Basin: accepted, with these results. The definition, computed.
---   in_zone z       the job of the worked sheet's frame and levels in zone z
+--   in_zone z      the job of the worked sheet's frame and levels in zone z
 --   resulted ..    V, V_M, V* and V_D at T = 1,000 ms; forces, shears and overturning moments, lowest level first
 -- Assumes nothing.
 use mathlib.Core.Path.{◌≡◌, refl}

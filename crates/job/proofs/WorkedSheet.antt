@@ -1,10 +1,10 @@
 -- Document 01's worked sheet: its site with any near-fault factors, its frame with any calculated period and R, its levels; and figures and results in
 -- short.
 --   site_with nad nvd nam nvm    its site with these factors;  plain    as it is
---   frame c R                   its frame with a calculated period c in ms, 0 for none, and R
---   weights, heights            its levels
---   figures v vm star vd t      V, V_M, V*, V_D and T
---   resulted n fs us os         the outcome of these figures with forces, shears and overturning moments, lowest level first
+--   frame c R                    its frame with a calculated period c in ms, 0 for none, and R
+--   weights, heights             its levels
+--   figures v vm star vd t       V, V_M, V*, V_D and T
+--   resulted n fs us os          the outcome of these figures with forces, shears and overturning moments, lowest level first
 use mathlib.Core.List.{List, [], ◌∷◌}
 use Prim.Native.Nat.{ℕ}
 use Rattle.limits.specs.declared.frame.FrameValues.{FrameValues}

@@ -1,13 +1,13 @@
 -- The distribution: a base shear v in N over the storeys, at a period T in ms, whoever worked them out. Weights ws in kN and heights hs in dm,
 -- lowest level first.
---   Columns                          per level, lowest first, force, shear and overturning
+--   Columns                           per level, lowest first, force, shear and overturning
 --   columns_at T v ws hs              those of the base shear v at the period T
 --   distribution_of v T ws hs room    the three columns, or the first refusal; room is the length of the shortest result buffer
 --   done_only o                       what is left of an outcome without its value
---   Buffers, shortest b              what three lent buffers hold, and the length of the shortest
+--   Buffers, shortest b               what three lent buffers hold, and the length of the shortest
 --   laid_over c b                     what they hold with each level's cell written, the rest as it was
---   filled o b                       what they hold after: so where data is accepted; where it is refused, all as it was
---   Distributed v T ws hs b a b'     a is the answer, and b' what the buffers hold that held b
+--   filled o b                        what they hold after: so where data is accepted; where it is refused, all as it was
+--   Distributed v T ws hs b a b'      a is the answer, and b' what the buffers hold that held b
 use Rattle.std.specs.Prelude.{◌≡◌, List, ℕ, min, length}
 use Rattle.whole.specs.Cells.{laid}
 use Rattle.limits.specs.declared.refusal.Verdict.{Verdict}

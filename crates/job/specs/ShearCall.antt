@@ -1,10 +1,10 @@
 -- The shear call: the base shear of a building without its storeys. The ground G, the frame f, a total weight W in kN, a top height h in dm.
 --   given_hazards g           the hazards of a judged ground, with the R of the frame
 --   building_figures g W h    the five figures of a judged ground and frame: V, V_M, V*, V_D and T
---   shear_call_of G f W h      the five figures, or the first refusal
---   five n                   the figures in the listing's order: the values of an answer
+--   shear_call_of G f W h     the five figures, or the first refusal
+--   five n                    the figures in the listing's order: the values of an answer
 --   answer_outcome a          what the code's answer a says
---   Sheared G f W h a        a is the answer
+--   Sheared G f W h a         a is the answer
 use Rattle.std.specs.Prelude.{◌≡◌, List, [], ◌∷◌, ℕ}
 use Rattle.limits.specs.declared.frame.FrameValues.{FrameValues}
 use Rattle.limits.specs.declared.ground.GroundValues.{GroundValues}

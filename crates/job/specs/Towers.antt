@@ -1,9 +1,9 @@
 -- Towers on one podium: shear calls of one ground G and one frame f that were answered with figures, and whose period in use is the same.
---   Tower              one of them: a total weight in kN, a top height in dm, the figures that were answered
---   Called G f t       its figures are what the shear call answers to its weight and height
---   CalledAt G f T ts  so it is of each of ts, and T is the period in use of each
---   weight_of ts        their total weights, added
---   base_of ts          their V_D, added
+--   Tower                one of them: a total weight in kN, a top height in dm, the figures that were answered
+--   Called G f t         its figures are what the shear call answers to its weight and height
+--   CalledAt G f T ts    so it is of each of ts, and T is the period in use of each
+--   weight_of ts         their total weights, added
+--   base_of ts           their V_D, added
 use Rattle.std.specs.Prelude.{◌≡◌, List, [], ◌∷◌, ℕ, ◌+◌}
 use Rattle.limits.specs.declared.frame.FrameValues.{FrameValues}
 use Rattle.limits.specs.declared.ground.GroundValues.{GroundValues}

@@ -1,7 +1,7 @@
 -- Number 23: displacements, of an analysis run, in 0.01 mm.
 --   displacement_most          how large a displacement may be, of either sign: a million
 --   judged_displacement z p    23: a displacement above that in size, at p
---   displaced p zs            23: the first of the displacements that is; the first of the list stands at place p
+--   displaced p zs             23: the first of the displacements that is; the first of the list stands at place p
 use Rattle.std.specs.Prelude.{List, [], ◌∷◌, ℕ, ◌+◌, leb, ℤ}
 use Rattle.whole.specs.Signed.{size}
 use Rattle.limits.specs.Outcome.{Outcome, accepted, Done, require, ◌>>◌}

@@ -1,11 +1,11 @@
 -- 'The lowest number that applies is given, at its lowest place', where 'lowest' means first in the order in which they are judged; and 'data to which no
 -- refusal number applies is accepted'. Of any outcome o, whatever A says when a refusal applies: A n p, number n applies at place p.
 --   FirstRefusal A o
---     refused-applies            a refusal that is given applies
---     first-number               none that applies is judged before it
---     lowest-place               where it applies at a place above 0, it is given at such a place, and at no higher one
---     accepted-unless-refused    where none applies, data is accepted
---     accepted-none              and where one applies, it is not
+--     refused_applies            a refusal that is given applies
+--     first_number               none that applies is judged before it
+--     lowest_place               where it applies at a place above 0, it is given at such a place, and at no higher one
+--     accepted_unless_refused    where none applies, data is accepted
+--     accepted_none              and where one applies, it is not
 use Rattle.std.specs.Prelude.{◌≡◌, ℕ, ◌+◌, ◌≤◌}
 use Rattle.limits.specs.Order.{NoLater}
 use Rattle.limits.specs.Outcome.{Outcome, accepted, refused}

@@ -2,8 +2,8 @@
 -- near-fault factor.
 --   judged_on_site v     5 to 7: the site of values v, as a ground
 --   judged_in_basin n    18: the zone of number n, as a ground
---   judged_ground v     the one or the other: 18 stands where 5 to 7 stand
---   ground_outcome a    what the code's answer a says
+--   judged_ground v      the one or the other: 18 stands where 5 to 7 stand
+--   ground_outcome a     what the code's answer a says
 use Rattle.std.specs.Prelude.{ℕ}
 use Rattle.limits.specs.declared.ground.Ground.{Ground}
 use Rattle.limits.specs.declared.ground.Ground.TheVariants.{Site as OnSite, Basin as InBasin}

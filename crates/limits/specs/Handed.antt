@@ -1,7 +1,7 @@
 -- Numbers 19 and 20: what is handed to the distribution beside the levels.
 --   judged_base_shear v       19: a base shear that is not 1 to 1,200,000,000 N
 --   judged_handed_period t    20: a period that is not 0 to 9,999 ms
---   judged_handed v t        19, then 20
+--   judged_handed v t         19, then 20
 use Rattle.std.specs.Prelude.{ℕ}
 use Rattle.limits.specs.Outcome.{Outcome, Done, ◌>>◌}
 use Rattle.limits.specs.Ranges.{within}

@@ -1,12 +1,12 @@
 -- All that is judged of a job, of the two calls that it is parted into and of a row of a district, in order. room is the length of the shortest result buffer.
 --   judged_given o G f                    after a first judgment o: ground (5 to 7 of a site, 18 of a zone), frame (8 to 12); the judged ones, or
 --                                        the first refusal
---   judged_job G f ws hs room             of a job: levels (1 to 4), ground, frame
+--   judged_job G f ws hs room              of a job: levels (1 to 4), ground, frame
 --   judged_shear_call G f W h              of the shear call: total weight (3), top height (4), ground, frame
---   judged_distribution v t ws hs room    of the distribution: levels (1 to 4), base shear (19), period (20)
+--   judged_distribution v t ws hs room     of the distribution: levels (1 to 4), base shear (19), period (20)
 --   judged_row_levels start count ws hs    of the levels that a row of a district names in the store ws and hs: its stretch (21), then 1 to 4, with no buffer
---   judged_row G f start count ws hs      of such a row: these, ground, frame
---   given_outcome a                       what the code's answer a says
+--   judged_row G f start count ws hs       of such a row: these, ground, frame
+--   given_outcome a                        what the code's answer a says
 use Rattle.std.specs.Prelude.{List, ℕ, length}
 use Rattle.limits.specs.declared.frame.FrameValues.{FrameValues}
 use Rattle.limits.specs.declared.ground.GroundValues.{GroundValues}

@@ -1,13 +1,13 @@
 -- What comes back: document 01's number and place, with values where data is accepted.
---   Outcome A             accepted with a value, or refused with a number and a place
---   number, place         0 on success
---   refusal_of o           what is refused: number and place, zeros where data is accepted
---   zeros n               n zeros
---   values f n            the values f of what is accepted; n zeros where data is refused
---   do a; b               judgments taken one after the other: the first that refuses is the outcome
---   Done                  the value of a judgment that hands on none
---   require t n p         passes where the test t holds, else refused with number n at place p
---   verdict_outcome v      what the code's answer v says, and so for each answer that is an enum
+--   Outcome A            accepted with a value, or refused with a number and a place
+--   number, place        0 on success
+--   refusal_of o         what is refused: number and place, zeros where data is accepted
+--   zeros n              n zeros
+--   values f n           the values f of what is accepted; n zeros where data is refused
+--   do a; b              judgments taken one after the other: the first that refuses is the outcome
+--   Done                 the value of a judgment that hands on none
+--   require t n p        passes where the test t holds, else refused with number n at place p
+--   verdict_outcome v    what the code's answer v says, and so for each answer that is an enum
 use Rattle.std.specs.Prelude.{Bool, true, false, List, [], ◌∷◌, ℕ, zero, suc}
 use Rattle.limits.specs.declared.refusal.Refusal.{Refusal}
 use Rattle.limits.specs.declared.refusal.Verdict.{Verdict}

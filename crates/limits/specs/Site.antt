@@ -1,9 +1,9 @@
 -- Numbers 5 to 7: the site.
---   judged_mapped v       5: a mapped value that is not listed, places 1 to 4 in sheet order
+--   judged_mapped v        5: a mapped value that is not listed, places 1 to 4 in sheet order
 --   judged_near_fault v    6: N_A not 1.00 to 1.50, place 1; N_V not 1.00 to 2.00, place 2; those of the MCE level, places 3 and 4
---   site_of v c           the judged site of values v and class c
---   judged_site v         5, 6, 7 in turn
---   site_outcome a        what the code's answer a says
+--   site_of v c            the judged site of values v and class c
+--   judged_site v          5, 6, 7 in turn
+--   site_outcome a         what the code's answer a says
 use Rattle.std.specs.Prelude.{[], ◌∷◌}
 use Rattle.limits.specs.declared.class.Class.{Class}
 use Rattle.limits.specs.declared.site.Site.{Site}

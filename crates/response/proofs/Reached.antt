@@ -43,7 +43,7 @@ ductile_of s n d m e h t r =
       root_most = r;
     }
 
--- ---- T-as-A
+-- ---- T·A
 pub ta_most : (a b t : ℕ) → Shape a b t → t * a ≤ 101_800_000_000_000
 ta_most a b t h = mul-le-mul h.t_most h.a_most
 

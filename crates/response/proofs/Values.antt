@@ -56,7 +56,7 @@ module _ (s k : ℕ) (c : Fraction) (ps : 0 < s) (pc : 0 < c.den) where
       gathered : (F s d x y : ℕ) → F * (10 * s * d) * (x + y) ≡ F * ((0 + 10 * y + 10 * x) * (s * d))
       gathered F s d x y = omega arith
 
-  -- the root and what it falls by: x is T-as-A, y how far T is short of 0.2·T0
+  -- the root and what it falls by: x is T·A, y how far T is short of 0.2·T0
   pub fall_is : (x y : ℕ) → 0 < x + y → s ≤ k
       → Is s k c (record { one = 10 * y; root = 10 * x; cap = 0 }) ((x + y) * k - (k - s) * y) (x + y)
   fall_is x y ph h =

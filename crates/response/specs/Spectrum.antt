@@ -1,8 +1,8 @@
 -- The spectrum (4), (14) with the branch beyond 2.5·T0 of document 001's (15). A and B in 10⁻⁸ g, T in ms.
---   g A                  A, in g
---   exact_spectrum A B T  in g: A(0.4 + 3T/T0) for T ≤ 0.2·T0; A for T ≤ T0; B/(T in s) for T ≤ 2.5·T0; else 0.4·A
---   rounded s x          one rounding, up, to s-ths
---   spectrum s A B T     the spectrum in s-ths of g
+--   g A                     A, in g
+--   exact_spectrum A B T    in g: A(0.4 + 3T/T0) for T ≤ 0.2·T0; A for T ≤ T0; B/(T in s) for T ≤ 2.5·T0; else 0.4·A
+--   rounded s x             one rounding, up, to s-ths
+--   spectrum s A B T        the spectrum in s-ths of g
 use Rattle.std.specs.Prelude.{ℕ, ◌*◌}
 use Rattle.whole.specs.declared.Fraction.{Fraction}
 use Rattle.whole.specs.Choice.{pick}

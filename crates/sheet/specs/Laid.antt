@@ -1,13 +1,13 @@
 -- A sheet laid out as 'Sheet and listing' says: the lines and the bytes of a sheet that holds given numbers.
---   site_numbers v                    the numbers of a site line with a pair for each hazard level, in order
---   one_pair_numbers v                 of one with one pair for both hazard levels
---   frame_numbers v                   of line 2
---   site_line ns                      the line `site` with the numbers ns
---   GroundLine g l                   l is a line 1 that holds the ground g: of a site by nine numbers, or by seven where both hazard levels
+--   site_numbers v        the numbers of a site line with a pair for each hazard level, in order
+--   one_pair_numbers v    of one with one pair for both hazard levels
+--   frame_numbers v       of line 2
+--   site_line ns          the line `site` with the numbers ns
+--   GroundLine g l        l is a line 1 that holds the ground g: of a site by nine numbers, or by seven where both hazard levels
 --                                    have the same pair; or of a zone
---   level_lines_of ws hs               a level line for each weight and height, lowest first
---   lines_of l r, sheet_laid l r       the lines of what r holds, l being line 1, and their bytes
---   Laid l r                         l holds the ground, each number has at most 9 digits, there are as many heights as weights, and
+--   level_lines_of ws hs            a level line for each weight and height, lowest first
+--   lines_of l r, sheet_laid l r    the lines of what r holds, l being line 1, and their bytes
+--   Laid l r                        l holds the ground, each number has at most 9 digits, there are as many heights as weights, and
 --                                    the sheet has at most 4,096 bytes
 use Rattle.std.specs.Prelude.{◌≡◌, List, [], ◌∷◌, ℕ, ◌≤◌, length}
 use Rattle.limits.specs.declared.frame.FrameValues.{FrameValues}

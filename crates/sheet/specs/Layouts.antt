@@ -1,12 +1,12 @@
 -- The lines of a text, each laid out as one of the layouts that it may have.
---   Layout            a word, and how many numbers follow it
---   Line, layout_of l  a line's word and its numbers; the layout that l has
---   Form              what the lines of a text may be: `heads`, the layouts of each of the first lines, which must be there;
+--   Layout               a word, and how many numbers follow it
+--   Line, layout_of l    a line's word and its numbers; the layout that l has
+--   Form                 what the lines of a text may be: `heads`, the layouts of each of the first lines, which must be there;
 --                     `later`, those of all later lines, up to the end
---   first_of f         what the first line of a text of form f may be;  past f    the form of what is after it
+--   first_of f        what the first line of a text of form f may be;  past f    the form of what is after it
 --   none l            l is empty
 --   ended f bytes     a text of form f may end there: no line that must be there is left, and no byte
---   line_laid l        the bytes of a line;  lines_laid ls    of lines one after the other
+--   line_laid l       the bytes of a line;  lines_laid ls    of lines one after the other
 --   LaidLine ks l     l has one of the layouts ks, and its numbers have at most 9 digits each
 --   LaidLines f ls    ls are all the lines of a text of form f
 use Rattle.std.specs.Prelude.{◌≡◌, Bool, true, false, ◌&&◌, ℕ, length, get_or, drop}

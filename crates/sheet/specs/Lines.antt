@@ -1,7 +1,7 @@
 -- How the lines of a text are read, each from where the one before it ended.
---   Front                     the line at the front of bytes, and the bytes after it
---   fitted w r bytes o        the line of the word w that the reading r found at the front of the bytes; else o
---   line_in p ks bytes         line p, at the front of the bytes, by the first of the layouts ks that it fits; 16 at p where it
+--   Front                 the line at the front of bytes, and the bytes after it
+--   fitted w r bytes o    the line of the word w that the reading r found at the front of the bytes; else o
+--   line_in p ks bytes    line p, at the front of the bytes, by the first of the layouts ks that it fits; 16 at p where it
 --                             fits none
 --   lines_from most p f bytes  line p and all later lines of a text of form f, fewer than `most`; or 16 at the first that is
 --                             otherwise

@@ -3,16 +3,16 @@
 --   all_levels fs us os            the lines of all levels
 --   results_listing n fs us os     the base line V, V_M, V*, V_D, T and a line for each level, of figures n, forces fs, shears us
 --                                 and overturning moments os, each lowest level first
---   refusal n p                   'A refusal prints one line: `refused`, number, place'
---   listing o                     what is printed for a job's outcome
---   job_of_sheet r                  the job of what a sheet holds
---   outcome_of bytes               the outcome of a sheet: 17, then 16, precede everything that a job judges
---   sheet_listing bytes            what is printed for it
---   longest                       as many bytes as the longest listing may have: 20 digits a number, 50 levels
---   printed l                     the bytes l as the code hands them on: in the first of `longest` cells, and how many there are
---   Written l old held n          a buffer that held old holds `held`, l over its first cells and the rest as it was; n is the length of l
---   Puts o old held p             so is the listing of the outcome o, and p says its length and what o refuses
---   Levelled fs us os             as many shears and overturning moments as forces, and not over 50
+--   refusal n p             'A refusal prints one line: `refused`, number, place'
+--   listing o               what is printed for a job's outcome
+--   job_of_sheet r          the job of what a sheet holds
+--   outcome_of bytes        the outcome of a sheet: 17, then 16, precede everything that a job judges
+--   sheet_listing bytes     what is printed for it
+--   longest                 as many bytes as the longest listing may have: 20 digits a number, 50 levels
+--   printed l               the bytes l as the code hands them on: in the first of `longest` cells, and how many there are
+--   Written l old held n    a buffer that held old holds `held`, l over its first cells and the rest as it was; n is the length of l
+--   Puts o old held p       so is the listing of the outcome o, and p says its length and what o refuses
+--   Levelled fs us os       as many shears and overturning moments as forces, and not over 50
 use Rattle.std.specs.Prelude.{◌≡◌, List, [], ◌∷◌, ◌++◌, ℕ, zero, suc, ◌≤◌, length, get_or}
 use Rattle.whole.specs.Cells.{laid}
 use Rattle.limits.specs.Outcome.{Outcome, accepted, refused, refusal_of, zeros, ◌>>=◌}

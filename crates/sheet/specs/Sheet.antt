@@ -3,17 +3,17 @@
 --   basin_layout, frame_layout, level_layout    of the other lines
 --   sheet_form          'Line 1 is `site`', with seven numbers or nine, or `basin` with the zone in its place; 'Line 2 is `frame`', 'All
 --                      later lines are `level`'
---   level_form          the form of the lines after these two
---   site_values ns      S_S D, S_1 D, S_S M, S_1 M, N_A, N_V, N_A M, N_V M, class
---   pair_twice ns       the nine numbers that seven stand for: 'A sheet with the old seven fields still means one pair for both'
---   held_site ns        what the numbers of a site line hold, be they seven or nine
---   is_word w v         v is the word w
---   ground_of l         what line 1 holds: the zone where its word is `basin`, else the site
---   frame_values ns     kind, calculated period, R, I, alpha-y
---   Levels             weights in kN and heights in dm, lowest level first
---   levels_of ls        those of level lines: weight, height
---   line_at ls i        line i of ls, from 0
---   Sheet, sheet_of ls  what a sheet holds; what its lines ls do
+--   level_form            the form of the lines after these two
+--   site_values ns        S_S D, S_1 D, S_S M, S_1 M, N_A, N_V, N_A M, N_V M, class
+--   pair_twice ns         the nine numbers that seven stand for: 'A sheet with the old seven fields still means one pair for both'
+--   held_site ns          what the numbers of a site line hold, be they seven or nine
+--   is_word w v           v is the word w
+--   ground_of l           what line 1 holds: the zone where its word is `basin`, else the site
+--   frame_values ns       kind, calculated period, R, I, alpha-y
+--   Levels                weights in kN and heights in dm, lowest level first
+--   levels_of ls          those of level lines: weight, height
+--   line_at ls i          line i of ls, from 0
+--   Sheet, sheet_of ls    what a sheet holds; what its lines ls do
 -- A number that a line does not have is 0 here; `sheet_form` says how many there are.
 use Rattle.std.specs.Prelude.{Bool, ◌&&◌, List, [], ◌∷◌, map, ℕ, eqb, length, get_or, drop}
 use Rattle.whole.specs.Choice.{pick}

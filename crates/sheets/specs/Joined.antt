@@ -1,8 +1,8 @@
 -- Sheets put into a file.
 --   no_empty_line fresh s    no empty line stands in the bytes s; `fresh` says that s begins at the start of a line
---   closed fresh s         s ends at the start of a line: with LF, or with no byte where it begins there
---   joined ss              the sheets ss one after the other, with an empty line between two
---   Sound s                s has a byte and no empty line, and its last line ends with LF;  AllSound ss    so has each of ss
+--   closed fresh s           s ends at the start of a line: with LF, or with no byte where it begins there
+--   joined ss                the sheets ss one after the other, with an empty line between two
+--   Sound s                  s has a byte and no empty line, and its last line ends with LF;  AllSound ss    so has each of ss
 use Rattle.std.specs.Prelude.{◌≡◌, Bool, true, ◌&&◌, not, List, [], ◌∷◌, ◌++◌, ℕ, ◌<◌, length}
 use Rattle.sheets.specs.Split.{is_lf}
 

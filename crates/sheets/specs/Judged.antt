@@ -1,6 +1,6 @@
 -- Number 22 of a file of sheets: 'over 256 jobs'.
---   bytes_most            as many bytes as 256 sheets of 4,096 have with an empty line each: a file that has more is not read to its end
---   judged_file s         22 at 0 where the file s has more bytes, or over 256 sheets
+--   bytes_most           as many bytes as 256 sheets of 4,096 have with an empty line each: a file that has more is not read to its end
+--   judged_file s        22 at 0 where the file s has more bytes, or over 256 sheets
 --   FileApplies s n p    refusal n applies at place p to the whole file
 use Rattle.std.specs.Prelude.{List, ℕ, ◌<◌, leb, length}
 use Rattle.limits.specs.Outcome.{Outcome, Done, require, ◌>>◌}

@@ -2,7 +2,7 @@
 --   factored m n        S: the mapped value m (0.01 g) times its near-fault factor n (0.01), exact in 0.0001 g
 --   coefficient cs S    what Table 2's columns cs give at S, in ten-thousandths: it comes out whole there
 --   fa c S, fv c S      F_a and F_v of a class
---   acceleration_a c S, acceleration_b c S    A = F_a-as-S_S and B = F_v-as-S_1, in 10⁻⁸ g
+--   acceleration_a c S, acceleration_b c S    A = F_a·S_S and B = F_v·S_1, in 10⁻⁸ g
 use Rattle.std.specs.Prelude.{List, ℕ, ◌*◌}
 use Rattle.whole.specs.declared.Column.{Column}
 use Rattle.whole.specs.Fraction.{down_in}

@@ -1,7 +1,7 @@
 -- The site class by the times of a log: Table 3 of document 000, over any class limits.
---   table3           270 and 180 m/s, in 10 m/s
---   depth_time        3·10⁹: the 3,000 cm of a log at h tens of m/s take 3·10⁹/h ns
---   class_of l t      hard if hard·U < 3·10⁹; else soft if soft·L > 3·10⁹; else normal. No log is both where soft is not above hard:
+--   table3          270 and 180 m/s, in 10 m/s
+--   depth_time      3·10⁹: the 3,000 cm of a log at h tens of m/s take 3·10⁹/h ns
+--   class_of l t    hard if hard·U < 3·10⁹; else soft if soft·L > 3·10⁹; else normal. No log is both where soft is not above hard:
 --                    proofs/Classes.antt
 --   class_number c    1 hard, 2 normal, 3 soft
 use Rattle.std.specs.Prelude.{ℕ, ◌*◌, ltb}

@@ -1,6 +1,6 @@
 -- The exact time of a log and its average velocity, with no time rounded: the twin of U and L.
---   slowness ds vs     the sum of d/v over layers of thicknesses ds in cm and velocities vs in dm/s
---   average ds vs      equation (2): the sum of the thicknesses over that sum, in dm/s
+--   slowness ds vs      the sum of d/v over layers of thicknesses ds in cm and velocities vs in dm/s
+--   average ds vs       equation (2): the sum of the thicknesses over that sum, in dm/s
 --   exact_time ds vs    10⁸ times that sum: the time of all layers, in ns
 --   time_at h           3·10⁹/h: the time of the 3,000 cm at h tens of m/s, in ns
 -- An average stands for a number where no thickness and no velocity is 0 (`average_sound` of proofs/Rounded.antt).

@@ -1,10 +1,10 @@
 -- A soil log: thicknesses ds in cm, kinds ks and values xs of its layers.
---   counted n             13: no layer, or over 40, at 0; judged on the thickness list
---   thick p ds            14: the first layer of thickness 0; the first of the list stands at place p
---   deep ds               14: thicknesses that do not add up to 3,000, at 0
---   judged_log ds k x      2 (k kinds or x values for another number of thicknesses, at 0), 13, 14, 14 in turn
---   site_class l ds ks xs  the class by the class limits l, or the first refusal: 2, 13, 14, 15
---   Answers ds ks xs a    the code's answer a says what Table 3's limits give
+--   counted n                13: no layer, or over 40, at 0; judged on the thickness list
+--   thick p ds               14: the first layer of thickness 0; the first of the list stands at place p
+--   deep ds                  14: thicknesses that do not add up to 3,000, at 0
+--   judged_log ds k x        2 (k kinds or x values for another number of thicknesses, at 0), 13, 14, 14 in turn
+--   site_class l ds ks xs    the class by the class limits l, or the first refusal: 2, 13, 14, 15
+--   Answers ds ks xs a       the code's answer a says what Table 3's limits give
 use Rattle.std.specs.Prelude.{◌≡◌, not, List, [], ◌∷◌, ℕ, ◌+◌, eqb, length}
 use Rattle.whole.specs.Cells.{sum}
 use Rattle.limits.specs.declared.class.Class.{Class}

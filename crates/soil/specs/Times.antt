@@ -1,10 +1,10 @@
 -- The times of a log's layers, in ns.
 --   ns_at_unit d             10⁸·d: d cm at v dm/s take 10⁸·d/v ns
---   added round ds vs      the times of layers of thicknesses ds and velocities vs, each rounded, added up
---   times ds vs            U, of the times each rounded up, and L, of the times each rounded down
---   judged_times ds ks xs   the same of kinds ks and values xs, or 15
---   Matched ds ks xs       a kind and a value for each thickness, and no more than 3,000 cm
---   times_outcome a         what the code's answer a says
+--   added round ds vs        the times of layers of thicknesses ds and velocities vs, each rounded, added up
+--   times ds vs              U, of the times each rounded up, and L, of the times each rounded down
+--   judged_times ds ks xs    the same of kinds ks and values xs, or 15
+--   Matched ds ks xs         a kind and a value for each thickness, and no more than 3,000 cm
+--   times_outcome a          what the code's answer a says
 use Rattle.std.specs.Prelude.{◌≡◌, List, [], ◌∷◌, ℕ, ◌+◌, ◌*◌, ◌≤◌, length}
 use Rattle.whole.specs.Cells.{sum}
 use Rattle.whole.specs.Rounding.{up, down}

@@ -2,16 +2,16 @@
 --   cube_root s N                   the largest whole v with v³ ≤ s³·N (proofs/Cubes.antt)
 --   strength_root q                 the largest whole v with v²⁵·100⁹ ≤ 1200²⁵·q⁹ (proofs/Strength.antt): 1200·(q/100)^0.36, rounded
 --                                  down, of q in 0.01 kgf/cm²
---   measured v p                   15 at p: v not 500 to 30,000; else v itself
+--   measured v p                    15 at p: v not 500 to 30,000; else v itself
 --   by_rule rule least most x p     15 at p: x not from least to most; else what the rule gives for x
---   TableOf rule least most vs     vs are what the rule gives for least to most, as a table holds them
+--   TableOf rule least most vs      vs are what the rule gives for least to most, as a table holds them
 --   from_table least most vs x p    15 at p: x not from least to most; else what stands in vs for x, which is what by_rule gives:
 --                                  `by_table` (proofs/ByTable.antt)
 --   Tables cs ls qs                cs, ls and qs are the tables of cohesive and of cohesionless soil by N, and of soft clay by q
 --   velocity kind value p          kind 1: measured; 2: cohesive, N from 2 to 25, v³ ≤ 1000³·N; 3: cohesionless, N from 1 to
 --                                  50, v³ ≤ 800³·N; 4: soft clay, q from 1 to 400; any other kind is 15 at p
---   velocities p ks xs             of all layers, of kinds ks and values xs; the first layer stands at place p
---   velocity_outcome a              what the code's answer a says
+--   velocities p ks xs    of all layers, of kinds ks and values xs; the first layer stands at place p
+--   velocity_outcome a    what the code's answer a says
 -- ℕ's subtraction stops at 0; no value that passes is below least.
 use Rattle.std.specs.Prelude.{◌≡◌, List, [], ◌∷◌, ℕ, ◌+◌, ◌-◌, ◌*◌, ◌^◌, leb, eqb, get_or}
 use Rattle.whole.specs.Cells.{cells}

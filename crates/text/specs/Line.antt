@@ -1,11 +1,11 @@
 -- A line: its fields are separated by one tab, and LF ends it.
---   tab, lf           the two bytes
---   field             one tab, and a number
---   fields k          k of them
---   line w k          the word w, k numbers, LF: the numbers
---   blank             the ten cells for a line's numbers before any is read; a line of a sheet has nine at the most
---   no_line            the code's answer where a line is otherwise
---   line_read c o      the code's answer to the reading o of the bytes from c on, its numbers in the first cells
+--   tab, lf          the two bytes
+--   field            one tab, and a number
+--   fields k         k of them
+--   line w k         the word w, k numbers, LF: the numbers
+--   blank            the ten cells for a line's numbers before any is read; a line of a sheet has nine at the most
+--   no_line          the code's answer where a line is otherwise
+--   line_read c o    the code's answer to the reading o of the bytes from c on, its numbers in the first cells
 use Rattle.std.specs.Prelude.{List, [], ◌∷◌, ℕ, zero, suc}
 use Rattle.whole.specs.Cells.{laid}
 use Rattle.limits.specs.Outcome.{zeros}

@@ -1,11 +1,11 @@
 -- A number: '1 to 9 digits and no leading zero (0 itself allowed)'.
---   digits bytes        the digits at the front, as they stand
---   value ds            the number that digits write, first digit first; value_from v ds    the same after digits that write v
+--   digits bytes         the digits at the front, as they stand
+--   value ds             the number that digits write, first digit first; value_from v ds    the same after digits that write v
 --   leading_zero n b     n digits of which the first is b have a leading zero: 0 itself has none
 --   well_made ds         1 to 9 digits, and no leading zero
---   number              a number, read
+--   number               a number, read
 --   number_answer c o    the code's answer to the reading o of the bytes from c on
---   counted ds          how many digits there are and what they write, as the code holds it
+--   counted ds           how many digits there are and what they write, as the code holds it
 -- ℕ's subtraction stops at 0; a digit is 48 or more.
 use Rattle.std.specs.Prelude.{Bool, ◌&&◌, not, List, [], ◌∷◌, ℕ, ◌+◌, ◌-◌, ◌*◌, eqb, ltb, length, get_or}
 use Rattle.whole.specs.Choice.{pick}

@@ -1,10 +1,10 @@
 -- What is written.
---   digits_of k n        n in decimal, where it has at most k + 1 digits
---   decimal n           n in decimal, with no leading zero: up to 20 digits, which hold every number of 64 bits
---   field_of n           a field: one tab, and n;  fields_of ns    a field for each
---   laid_out w ns        a line: the word w, the numbers ns, LF
---   Short n             n has at most 9 digits, which a number of a sheet may have;  AllShort ns    each of ns has
---   spliced old at new  new in the place of what stands from `at` on in a buffer that held old
+--   digits_of k n         n in decimal, where it has at most k + 1 digits
+--   decimal n             n in decimal, with no leading zero: up to 20 digits, which hold every number of 64 bits
+--   field_of n            a field: one tab, and n;  fields_of ns    a field for each
+--   laid_out w ns         a line: the word w, the numbers ns, LF
+--   Short n               n has at most 9 digits, which a number of a sheet may have;  AllShort ns    each of ns has
+--   spliced old at new    new in the place of what stands from `at` on in a buffer that held old
 use Rattle.std.specs.Prelude.{List, [], ◌∷◌, ◌++◌, ℕ, zero, suc, ◌+◌, ◌/◌, ◌%◌, ◌≤◌, ltb, length, take, drop}
 use Rattle.whole.specs.Choice.{pick}
 use Rattle.text.specs.Line.{tab, lf}
