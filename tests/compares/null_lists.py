@@ -3,7 +3,7 @@
 usage: python3 -m tests.compares.null_lists             builds the core, the program null_lists.c over it, and runs both
        python3 -m tests.compares.null_lists FILE        compares FILE, which null_lists.c wrote on an x86-64 machine, and calls nothing
 
-The language says nothing of such a pointer: to the core a list is a place and a length. It needs `rt`, `cc` and x86-64, or
+A contract says nothing of such a pointer: to the core a list is a place and a length. It needs `rt`, `cc` and x86-64, or
 RUKESHOMAJI_LIBRARY, a shared library of the core for the machine at hand.
 """
 
