@@ -29,7 +29,8 @@ def files(top):
 
 def is_law(path):
     parts = path.split(os.sep)
-    return path.endswith(".antt") and parts[-1] not in ("Proof.antt", "Answers.antt", "Invariants.antt", "Lib.antt")
+    of_function = parts[2] == "proofs" and parts[-1] in ("Proof.antt", "Answers.antt", "Invariants.antt")
+    return path.endswith(".antt") and parts[-1] != "Lib.antt" and not of_function
 
 
 def camel(name):

@@ -1,11 +1,12 @@
 // The program `district`: a file of sheets on standard input, rows and report of the district on standard output.
 #![tactic(auto)]
-ghost use Rattle.io.specs.Counts.{IsPrefixLen};
 
-use libc::{STDERR_FILENO, STDIN_FILENO, STDOUT_FILENO};
+ghost use Rattle.std.specs.Counts.{IsPrefixLen};
+
 use sheets::judged::BYTES_MOST;
 use sheets::listing::LONGEST;
 use sheets::put_district;
+use std::io::{Read, Stderr, Stdin, Stdout};
 
 // One byte more than a file may have says that it is too long, and the rest is left unread.
 const ROOM: usize = BYTES_MOST + 1;
@@ -17,34 +18,35 @@ struct Arrived {
     failed: bool,
 }
 
-fn say(words: &[u8]) {
-    io::write_all(STDERR_FILENO, words);
+fn say(err: Stderr, words: &[u8]) {
+    let _ = err.write_all(words);
 }
 
-fn print(file: &[u8]) {
+fn print(out: Stdout, err: Stderr, file: &[u8]) {
     let mut bytes = [0; LONGEST];
     let put = put_district(&mut bytes, file);
     let n = put.length;
-    if !io::write_all(STDOUT_FILENO, &bytes[..n]) {
-        say(b"district: the rows and the report could not be written\n");
+    if out.write_all(&bytes[..n]).is_err() {
+        say(
+            err,
+            b"district: the rows and the report could not be written\n",
+        );
     }
 }
 
 // The first read that brings nothing is the end: a terminal has to say so only once. A read that fails ends no file, and neither does
 // input that has not arrived.
-fn fill(input: &mut [u8]) -> Arrived
+fn fill(mut stdin: Stdin, input: &mut [u8]) -> Arrived
     ensures { IsPrefixLen result.count input.new }
 {
     let mut n = 0;
     while n < input.len() {
-        let got = libc::read(STDIN_FILENO, &mut input[n..]);
-        if got < 0 {
+        let Ok(more) = stdin.read(&mut input[n..]) else {
             return Arrived {
                 count: n,
                 failed: true,
             };
-        }
-        let more = io::count(got, &input[n..]);
+        };
         if more == 0 {
             return Arrived {
                 count: n,
@@ -59,13 +61,16 @@ fn fill(input: &mut [u8]) -> Arrived
     }
 }
 
-fn main() {
+fn main(rt: HostRuntime) {
     let mut input = [0; ROOM];
-    let arrived = fill(&mut input);
+    let arrived = fill(rt.stdin(), &mut input);
     if arrived.failed {
-        say(b"district: standard input could not be read to its end\n");
+        say(
+            rt.stderr(),
+            b"district: standard input could not be read to its end\n",
+        );
         return;
     }
     let n = arrived.count;
-    print(&input[..n]);
+    print(rt.stdout(), rt.stderr(), &input[..n]);
 }

@@ -1,5 +1,5 @@
 -- Whether a number is allowed.
---   inRange least most x        from least to most
+--   in_range least most x       from least to most
 --   among values x              one of the values
 --   within least most x n p     passes where x is from least to most, else refused with number n at place p
 --   listed values x n p         passes where x is one of the values, else refused

@@ -2,6 +2,7 @@
 // of its refusal, 0 on success, and answers through an array that the caller lends, whose every cell is written; the distribution, drift and
 // the accidental moments through a cell for the place.
 #![tactic(auto)]
+
 use arrays::{REPORT, frame_values, put_class, put_figures, put_report, put_torsion, site_values};
 use district_call::district;
 use district_call::entered::JOB;

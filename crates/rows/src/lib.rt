@@ -1,5 +1,6 @@
 // Rows of numbers in decimal, each ended by one byte that is no digit: the cases that the gate's programs read.
 #![tactic(auto)]
+
 ghost use Rattle.std.specs.Prelude.{◌≤◌, ◌≡◌, length};
 ghost use Rattle.rows.specs.Numbers.{number_at, Row};
 

@@ -1,6 +1,7 @@
 // Runs the shear call and the distribution on the cases of standard input, and says what comes back: the answer, and of a distribution every
 // cell of the three buffers.
 #![tactic(auto)]
+
 use fields::{
     BASE_SHEAR, BUFFERS, DISTRIBUTION_HEAD, FRAME, HEIGHT, HEIGHT_COUNT, IN_BASIN, LISTED, OLD,
     PERIOD, SHEAR_HEAD, SITE, WEIGHT, WEIGHT_COUNT,
@@ -8,65 +9,65 @@ use fields::{
 use job::FiguresAnswer;
 use job::distribution::distribution;
 use job::shear_call::shear_call;
-use libc::{STDIN_FILENO, STDOUT_FILENO};
 use limits::frame::FrameValues;
 use limits::ground::GroundValues;
 use limits::refusal::{Refusal, Verdict};
 use limits::site::SiteValues;
 use rows::{number, row};
+use std::io::Stdout;
 
 mod fields;
 
 ghost use Rattle.std.specs.Prelude.{◌≤◌, length};
 
-fn number_said(n: u64) {
-    io::write_all(STDOUT_FILENO, b"\t");
-    io::print_decimal(STDOUT_FILENO, n);
+fn number_said(out: Stdout, n: u64) {
+    streams::write_all(out, b"\t");
+    streams::print_decimal(out, n);
 }
 
-fn refusal_said(r: Refusal) {
-    io::write_all(STDOUT_FILENO, b"refused");
-    number_said(r.number);
-    number_said(r.place);
+fn refusal_said(out: Stdout, r: Refusal) {
+    streams::write_all(out, b"refused");
+    number_said(out, r.number);
+    number_said(out, r.place);
 }
 
-fn figures_said(a: FiguresAnswer) {
+fn figures_said(out: Stdout, a: FiguresAnswer) {
     match a {
         FiguresAnswer::Taken(f) => {
-            io::write_all(STDOUT_FILENO, b"taken");
-            number_said(f.v);
-            number_said(f.vm);
-            number_said(f.star);
-            number_said(f.vd);
-            number_said(f.t);
+            streams::write_all(out, b"taken");
+            number_said(out, f.v);
+            number_said(out, f.vm);
+            number_said(out, f.star);
+            number_said(out, f.vd);
+            number_said(out, f.t);
         }
         FiguresAnswer::Refused(r) => {
-            refusal_said(r);
+            refusal_said(out, r);
         }
     }
-    io::write_all(STDOUT_FILENO, b"\n");
+    streams::write_all(out, b"\n");
 }
 
-fn verdict_said(a: Verdict) {
+fn verdict_said(out: Stdout, a: Verdict) {
     match a {
         Verdict::Passed => {
-            io::write_all(STDOUT_FILENO, b"taken");
+            streams::write_all(out, b"taken");
         }
         Verdict::Refused(r) => {
-            refusal_said(r);
+            refusal_said(out, r);
         }
     }
-    io::write_all(STDOUT_FILENO, b"\n");
+    streams::write_all(out, b"\n");
 }
 
-fn cells_said(name: &[u8], cells: &[u64]) {
-    io::write_all(STDOUT_FILENO, name);
+fn cells_said(out: Stdout, name: &[u8], cells: &[u64]) {
+    streams::write_all(out, name);
     let mut i = 0;
     while i < cells.len() {
-        number_said(cells[i]);
+        number_said(out, cells[i]);
         i += 1;
     }
-    io::write_all(STDOUT_FILENO, b"\n");
+    streams::write_all(out, b"\n");
 }
 
 fn site(head: [u64; 140]) -> SiteValues {
@@ -100,9 +101,9 @@ fn frame(head: [u64; 140]) -> FrameValues {
     }
 }
 
-fn shear_case(case: u64, head: [u64; 140]) {
+fn shear_case(out: Stdout, case: u64, head: [u64; 140]) {
     let a = shear_call(ground(case, head), frame(head), head[WEIGHT], head[HEIGHT]);
-    figures_said(a);
+    figures_said(out, a);
 }
 
 // So many cells, or as many as there are.
@@ -118,6 +119,7 @@ fn least(count: u64) -> usize
 
 // The call, and what comes back of it.
 fn called(
+    out: Stdout,
     shear: u64,
     period: u64,
     weights: &[u64],
@@ -135,14 +137,15 @@ fn called(
         shears,
         overturnings,
     );
-    verdict_said(a);
-    cells_said(b"forces", forces);
-    cells_said(b"shears", shears);
-    cells_said(b"moments", overturnings);
+    verdict_said(out, a);
+    cells_said(out, b"forces", forces);
+    cells_said(out, b"shears", shears);
+    cells_said(out, b"moments", overturnings);
 }
 
 // Weights and heights are parts of what was read, and the buffers that are lent are parts too.
 fn parted(
+    out: Stdout,
     head: [u64; 140],
     weights: &[u64],
     heights: &[u64],
@@ -158,6 +161,7 @@ fn parted(
     let shear_cells = least(head[BUFFERS + 1]);
     let overturning_cells = least(head[BUFFERS + 2]);
     called(
+        out,
         head[BASE_SHEAR],
         head[PERIOD],
         &weights[..weight_count],
@@ -168,11 +172,12 @@ fn parted(
     );
 }
 
-fn distribution_case(head: [u64; 140], weights: [u64; 140], heights: [u64; 140]) {
+fn distribution_case(out: Stdout, head: [u64; 140], weights: [u64; 140], heights: [u64; 140]) {
     let mut forces = [head[OLD]; 60];
     let mut shears = [head[OLD + 1]; 60];
     let mut overturnings = [head[OLD + 2]; 60];
     parted(
+        out,
         head,
         &weights,
         &heights,
@@ -183,7 +188,7 @@ fn distribution_case(head: [u64; 140], weights: [u64; 140], heights: [u64; 140])
 }
 
 // A case that begins at a byte; where the one after it begins.
-fn case(s: &[u8], at: usize) -> usize
+fn case(out: Stdout, s: &[u8], at: usize) -> usize
     requires { at ≤ length s.now }
     ensures { result ≤ length s.now }
 {
@@ -191,7 +196,7 @@ fn case(s: &[u8], at: usize) -> usize
     if kind.value <= IN_BASIN {
         let only = row(s, kind.next, SHEAR_HEAD);
         let head = only.values;
-        shear_case(kind.value, head);
+        shear_case(out, kind.value, head);
         return only.next;
     }
     let first = row(s, kind.next, DISTRIBUTION_HEAD);
@@ -200,23 +205,24 @@ fn case(s: &[u8], at: usize) -> usize
     let weights = second.values;
     let third = row(s, second.next, least(head[HEIGHT_COUNT]));
     let heights = third.values;
-    distribution_case(head, weights, heights);
+    distribution_case(out, head, weights, heights);
     third.next
 }
 
 // The first number says how many cases follow.
-fn run(s: &[u8]) {
+fn run(out: Stdout, s: &[u8]) {
     let count = number(s, 0);
     let mut left = count.value;
     let mut at = count.next;
     while 0 < left {
-        at = case(s, at);
+        at = case(out, s, at);
         left -= 1;
     }
 }
 
-fn main() {
-    let mut input = io::large_buffer();
-    let n = io::read_full(STDIN_FILENO, &mut input);
-    run(&input[..n]);
+fn main(rt: HostRuntime) {
+    let out = rt.stdout();
+    let mut input = [0; streams::ROOM];
+    let n = streams::read_full(&mut rt.stdin(), &mut input);
+    run(out, &input[..n]);
 }

@@ -1,80 +1,87 @@
 // Runs the district call on the cases of standard input, and says what comes back: the answer, every row of the buffer and the report.
 #![tactic(auto)]
+
 use district_call::district;
 use district_call::entered::JOB;
 use district_call::report::Report;
 use district_call::row::ROW;
 use fields::{GIVEN, HEAD, HEIGHT_COUNT, JOBS, LEVELS, LISTED, OLD, ROWS, WEIGHT_COUNT};
-use libc::{STDIN_FILENO, STDOUT_FILENO};
 use limits::refusal::Verdict;
 use rows::{number, row};
+use std::io::Stdout;
 
 mod fields;
 
 ghost use Rattle.std.specs.Prelude.{◌≤◌, length};
 
-fn number_said(n: u64) {
-    io::write_all(STDOUT_FILENO, b"\t");
-    io::print_decimal(STDOUT_FILENO, n);
+fn number_said(out: Stdout, n: u64) {
+    streams::write_all(out, b"\t");
+    streams::print_decimal(out, n);
 }
 
-fn numbers_said(numbers: &[u64]) {
+fn numbers_said(out: Stdout, numbers: &[u64]) {
     let mut i = 0;
     while i < numbers.len() {
-        number_said(numbers[i]);
+        number_said(out, numbers[i]);
         i += 1;
     }
 }
 
-fn verdict_said(v: Verdict) {
+fn verdict_said(out: Stdout, v: Verdict) {
     match v {
         Verdict::Passed => {
-            io::write_all(STDOUT_FILENO, b"taken");
+            streams::write_all(out, b"taken");
         }
         Verdict::Refused(r) => {
-            io::write_all(STDOUT_FILENO, b"refused");
-            number_said(r.number);
-            number_said(r.place);
+            streams::write_all(out, b"refused");
+            number_said(out, r.number);
+            number_said(out, r.place);
         }
     }
-    io::write_all(STDOUT_FILENO, b"\n");
+    streams::write_all(out, b"\n");
 }
 
-fn row_said(cells: &[u64; ROW]) {
-    io::write_all(STDOUT_FILENO, b"row");
-    numbers_said(cells);
-    io::write_all(STDOUT_FILENO, b"\n");
+fn row_said(out: Stdout, cells: &[u64; ROW]) {
+    streams::write_all(out, b"row");
+    numbers_said(out, cells);
+    streams::write_all(out, b"\n");
 }
 
-fn rows_said(rows: &[[u64; ROW]]) {
+fn rows_said(out: Stdout, rows: &[[u64; ROW]]) {
     let mut i = 0;
     while i < rows.len() {
-        row_said(&rows[i]);
+        row_said(out, &rows[i]);
         i += 1;
     }
 }
 
-fn report_said(r: Report) {
+fn report_said(out: Stdout, r: Report) {
     let cells = r.cells;
-    io::write_all(STDOUT_FILENO, b"report");
-    number_said(r.totals.accepted);
-    number_said(r.totals.refused);
-    number_said(r.totals.sum);
-    number_said(r.totals.v);
-    number_said(r.totals.vm);
-    number_said(r.totals.star);
-    numbers_said(&cells);
-    io::write_all(STDOUT_FILENO, b"\n");
+    streams::write_all(out, b"report");
+    number_said(out, r.totals.accepted);
+    number_said(out, r.totals.refused);
+    number_said(out, r.totals.sum);
+    number_said(out, r.totals.v);
+    number_said(out, r.totals.vm);
+    number_said(out, r.totals.star);
+    numbers_said(out, &cells);
+    streams::write_all(out, b"\n");
 }
 
 // The call, and what comes back of it.
-fn called(jobs: &[[u64; JOB]], weights: &[u64], heights: &[u64], rows: &mut [[u64; ROW]]) {
+fn called(
+    out: Stdout,
+    jobs: &[[u64; JOB]],
+    weights: &[u64],
+    heights: &[u64],
+    rows: &mut [[u64; ROW]],
+) {
     let a = district(jobs, weights, heights, rows);
     let verdict = a.verdict;
     let report = a.report;
-    verdict_said(verdict);
-    rows_said(rows);
-    report_said(report);
+    verdict_said(out, verdict);
+    rows_said(out, rows);
+    report_said(out, report);
 }
 
 // So many, or as many as there are.
@@ -90,6 +97,7 @@ fn least(count: u64, most: usize) -> usize
 
 // The jobs, weights and heights are parts of what was read, and the rows that are lent are a part too.
 fn parted(
+    out: Stdout,
     head: [u64; 140],
     jobs: &[[u64; JOB]],
     weights: &[u64],
@@ -103,6 +111,7 @@ fn parted(
     let height_count = least(head[HEIGHT_COUNT], LEVELS);
     let row_count = least(head[ROWS], LISTED);
     called(
+        out,
         &jobs[..job_count],
         &weights[..weight_count],
         &heights[..height_count],
@@ -148,7 +157,7 @@ fn in_turn(given: usize, jobs: &mut [[u64; JOB]]) {
 }
 
 // A case that begins at a byte; where the one after it begins.
-fn case(s: &[u8], at: usize) -> usize
+fn case(out: Stdout, s: &[u8], at: usize) -> usize
     requires { at ≤ length s.now }
     ensures { result ≤ length s.now }
 {
@@ -163,23 +172,24 @@ fn case(s: &[u8], at: usize) -> usize
     let third = row(s, second.next, least(head[HEIGHT_COUNT], LEVELS));
     let heights = third.values;
     let mut rows = [[head[OLD]; ROW]; LISTED];
-    parted(head, &jobs, &weights, &heights, &mut rows);
+    parted(out, head, &jobs, &weights, &heights, &mut rows);
     third.next
 }
 
 // The first number says how many cases follow.
-fn run(s: &[u8]) {
+fn run(out: Stdout, s: &[u8]) {
     let count = number(s, 0);
     let mut left = count.value;
     let mut at = count.next;
     while 0 < left {
-        at = case(s, at);
+        at = case(out, s, at);
         left -= 1;
     }
 }
 
-fn main() {
-    let mut input = io::large_buffer();
-    let n = io::read_full(STDIN_FILENO, &mut input);
-    run(&input[..n]);
+fn main(rt: HostRuntime) {
+    let out = rt.stdout();
+    let mut input = [0; streams::ROOM];
+    let n = streams::read_full(&mut rt.stdin(), &mut input);
+    run(out, &input[..n]);
 }

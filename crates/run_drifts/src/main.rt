@@ -1,5 +1,6 @@
 // Runs drift, torsion and accidental moments on the cases of standard input, and says what comes back: the answer, and every cell of the buffers.
 #![tactic(auto)]
+
 use drift::accidental::accidental_moments;
 use drift::storey_drift::drift;
 use drift::torsion::{TorsionAnswer, torsion};
@@ -9,82 +10,82 @@ use fields::{
     OLD_NEGATIVE, OLD_POSITIVE, OLD_VERDICTS, PERIOD, POSITIVE, SIZE_MOST, TORSION, TORSION_HEAD,
     VERDICTS, WEIGHTS,
 };
-use libc::{STDIN_FILENO, STDOUT_FILENO};
 use limits::refusal::{Refusal, Verdict};
 use rows::{number, row};
+use std::io::Stdout;
 use whole::signs::{minus, size};
 
 mod fields;
 
 ghost use Rattle.std.specs.Prelude.{◌≤◌, length};
 
-fn number_said(n: u64) {
-    io::write_all(STDOUT_FILENO, b"\t");
-    io::print_decimal(STDOUT_FILENO, n);
+fn number_said(out: Stdout, n: u64) {
+    streams::write_all(out, b"\t");
+    streams::print_decimal(out, n);
 }
 
-fn refusal_said(r: Refusal) {
-    io::write_all(STDOUT_FILENO, b"refused");
-    number_said(r.number);
-    number_said(r.place);
+fn refusal_said(out: Stdout, r: Refusal) {
+    streams::write_all(out, b"refused");
+    number_said(out, r.number);
+    number_said(out, r.place);
 }
 
-fn verdict_said(v: Verdict) {
+fn verdict_said(out: Stdout, v: Verdict) {
     match v {
         Verdict::Passed => {
-            io::write_all(STDOUT_FILENO, b"taken");
+            streams::write_all(out, b"taken");
         }
         Verdict::Refused(r) => {
-            refusal_said(r);
+            refusal_said(out, r);
         }
     }
-    io::write_all(STDOUT_FILENO, b"\n");
+    streams::write_all(out, b"\n");
 }
 
-fn factor_said(a: TorsionAnswer) {
+fn factor_said(out: Stdout, a: TorsionAnswer) {
     match a {
         TorsionAnswer::Taken(factor) => {
-            io::write_all(STDOUT_FILENO, b"taken");
-            number_said(factor);
+            streams::write_all(out, b"taken");
+            number_said(out, factor);
         }
         TorsionAnswer::Refused(r) => {
-            refusal_said(r);
+            refusal_said(out, r);
         }
     }
-    io::write_all(STDOUT_FILENO, b"\n");
+    streams::write_all(out, b"\n");
 }
 
-fn cells_said(name: &[u8], cells: &[u64]) {
-    io::write_all(STDOUT_FILENO, name);
+fn cells_said(out: Stdout, name: &[u8], cells: &[u64]) {
+    streams::write_all(out, name);
     let mut i = 0;
     while i < cells.len() {
-        number_said(cells[i]);
+        number_said(out, cells[i]);
         i += 1;
     }
-    io::write_all(STDOUT_FILENO, b"\n");
+    streams::write_all(out, b"\n");
 }
 
 // The least number has a size that no i64 is.
-fn signed_said(z: i64) {
+fn signed_said(out: Stdout, z: i64) {
     if z == LEAST_SIGNED {
-        io::write_all(STDOUT_FILENO, b"\t-9223372036854775808");
+        streams::write_all(out, b"\t-9223372036854775808");
         return;
     }
-    io::write_all(STDOUT_FILENO, b"\t");
+    streams::write_all(out, b"\t");
     if z < 0 {
-        io::write_all(STDOUT_FILENO, b"-");
+        streams::write_all(out, b"-");
     }
-    io::print_decimal(STDOUT_FILENO, size(z));
+    streams::print_decimal(out, size(z));
 }
 
-fn signed_cells_said(name: &[u8], cells: &[i64]) {
-    io::write_all(STDOUT_FILENO, name);
+fn signed_cells_said(out: Stdout, name: &[u8], cells: &[i64]) {
+    streams::write_all(out, name);
     let mut i = 0;
     while i < cells.len() {
-        signed_said(cells[i]);
+        signed_said(out, cells[i]);
         i += 1;
     }
-    io::write_all(STDOUT_FILENO, b"\n");
+    streams::write_all(out, b"\n");
 }
 
 // A size that no number has stands for the largest one, and behind a 1 for the least.
@@ -124,20 +125,33 @@ fn at_most_listed(count: u64) -> usize
 }
 
 // The call, and what comes back of it.
-fn drift_called(heights: &[u64], displacements: &[i64], limit: u64, verdicts: &mut [u64]) {
+fn drift_called(
+    out: Stdout,
+    heights: &[u64],
+    displacements: &[i64],
+    limit: u64,
+    verdicts: &mut [u64],
+) {
     let a = drift(heights, displacements, limit, verdicts);
-    verdict_said(a);
-    cells_said(b"verdicts", verdicts);
+    verdict_said(out, a);
+    cells_said(out, b"verdicts", verdicts);
 }
 
 // Heights and displacements are parts of what was read, and the cells that are lent are a part too.
-fn drift_parted(head: [u64; 140], heights: &[u64], displacements: &[i64], verdicts: &mut [u64])
+fn drift_parted(
+    out: Stdout,
+    head: [u64; 140],
+    heights: &[u64],
+    displacements: &[i64],
+    verdicts: &mut [u64],
+)
     requires { (52 ≤ length heights.now) × (52 ≤ length displacements.now) × (52 ≤ length verdicts.old) }
 {
     let height_count = at_most_listed(head[DRIFT_HEIGHTS]);
     let displacement_count = at_most_listed(head[DISPLACEMENTS]);
     let cells = at_most_listed(head[VERDICTS]);
     drift_called(
+        out,
         &heights[..height_count],
         &displacements[..displacement_count],
         head[LIMIT],
@@ -146,7 +160,7 @@ fn drift_parted(head: [u64; 140], heights: &[u64], displacements: &[i64], verdic
 }
 
 // A drift whose numbers begin at a byte; where the case after it begins.
-fn drift_case(s: &[u8], at: usize) -> usize
+fn drift_case(out: Stdout, s: &[u8], at: usize) -> usize
     requires { at ≤ length s.now }
     ensures { result ≤ length s.now }
 {
@@ -158,23 +172,24 @@ fn drift_case(s: &[u8], at: usize) -> usize
     let pairs = third.values;
     let displacements = signed_list(pairs);
     let mut verdicts = [head[OLD_VERDICTS]; 52];
-    drift_parted(head, &heights, &displacements, &mut verdicts);
+    drift_parted(out, head, &heights, &displacements, &mut verdicts);
     third.next
 }
 
 // A torsion whose numbers begin at a byte; where the case after it begins.
-fn torsion_case(s: &[u8], at: usize) -> usize
+fn torsion_case(out: Stdout, s: &[u8], at: usize) -> usize
     requires { at ≤ length s.now }
     ensures { result ≤ length s.now }
 {
     let only = row(s, at, TORSION_HEAD);
     let head = only.values;
-    factor_said(torsion(head[LARGEST], head[AVERAGE]));
+    factor_said(out, torsion(head[LARGEST], head[AVERAGE]));
     only.next
 }
 
 // The call, and what comes back of it.
 fn moments_called(
+    out: Stdout,
     shear: u64,
     period: u64,
     weights: &[u64],
@@ -186,13 +201,14 @@ fn moments_called(
     let a = accidental_moments(
         shear, period, weights, heights, dimension, positive, negative,
     );
-    verdict_said(a);
-    signed_cells_said(b"positive", positive);
-    signed_cells_said(b"negative", negative);
+    verdict_said(out, a);
+    signed_cells_said(out, b"positive", positive);
+    signed_cells_said(out, b"negative", negative);
 }
 
 // Weights and heights are parts of what was read, and the cells that are lent are parts too.
 fn moments_parted(
+    out: Stdout,
     head: [u64; 140],
     weights: &[u64],
     heights: &[u64],
@@ -206,6 +222,7 @@ fn moments_parted(
     let positive_cells = at_most_listed(head[POSITIVE]);
     let negative_cells = at_most_listed(head[NEGATIVE]);
     moments_called(
+        out,
         head[BASE_SHEAR],
         head[PERIOD],
         &weights[..weight_count],
@@ -217,7 +234,7 @@ fn moments_parted(
 }
 
 // Accidental moments whose numbers begin at a byte; where the case after them begins.
-fn moments_case(s: &[u8], at: usize) -> usize
+fn moments_case(out: Stdout, s: &[u8], at: usize) -> usize
     requires { at ≤ length s.now }
     ensures { result ≤ length s.now }
 {
@@ -229,38 +246,39 @@ fn moments_case(s: &[u8], at: usize) -> usize
     let heights = third.values;
     let mut positive = [signed(head[OLD_POSITIVE], head[OLD_POSITIVE + 1]); 52];
     let mut negative = [signed(head[OLD_NEGATIVE], head[OLD_NEGATIVE + 1]); 52];
-    moments_parted(head, &weights, &heights, &mut positive, &mut negative);
+    moments_parted(out, head, &weights, &heights, &mut positive, &mut negative);
     third.next
 }
 
 // A case that begins at a byte; where the one after it begins.
-fn case(s: &[u8], at: usize) -> usize
+fn case(out: Stdout, s: &[u8], at: usize) -> usize
     requires { at ≤ length s.now }
     ensures { result ≤ length s.now }
 {
     let kind = number(s, at);
     if kind.value == DRIFT {
-        return drift_case(s, kind.next);
+        return drift_case(out, s, kind.next);
     }
     if kind.value == TORSION {
-        return torsion_case(s, kind.next);
+        return torsion_case(out, s, kind.next);
     }
-    moments_case(s, kind.next)
+    moments_case(out, s, kind.next)
 }
 
 // The first number says how many cases follow.
-fn run(s: &[u8]) {
+fn run(out: Stdout, s: &[u8]) {
     let count = number(s, 0);
     let mut left = count.value;
     let mut at = count.next;
     while 0 < left {
-        at = case(s, at);
+        at = case(out, s, at);
         left -= 1;
     }
 }
 
-fn main() {
-    let mut input = io::large_buffer();
-    let n = io::read_full(STDIN_FILENO, &mut input);
-    run(&input[..n]);
+fn main(rt: HostRuntime) {
+    let out = rt.stdout();
+    let mut input = [0; streams::ROOM];
+    let n = streams::read_full(&mut rt.stdin(), &mut input);
+    run(out, &input[..n]);
 }

@@ -1,12 +1,13 @@
 // Runs the job call on the cases of standard input, and says what comes back: the answer, and every cell of the three buffers.
 #![tactic(auto)]
+
 use fields::{BUFFERS, FRAME, GROUND, HEAD, HEIGHT_COUNT, LISTED, OLD, SITE, WEIGHT_COUNT};
 use job::FiguresAnswer;
-use libc::{STDIN_FILENO, STDOUT_FILENO};
 use limits::frame::FrameValues;
 use limits::ground::GroundValues;
 use limits::site::SiteValues;
 use rows::{number, row};
+use std::io::Stdout;
 
 mod fields;
 
@@ -54,42 +55,43 @@ fn least(count: u64) -> usize
     LISTED
 }
 
-fn number_said(n: u64) {
-    io::write_all(STDOUT_FILENO, b"\t");
-    io::print_decimal(STDOUT_FILENO, n);
+fn number_said(out: Stdout, n: u64) {
+    streams::write_all(out, b"\t");
+    streams::print_decimal(out, n);
 }
 
-fn answer_said(a: FiguresAnswer) {
+fn answer_said(out: Stdout, a: FiguresAnswer) {
     match a {
         FiguresAnswer::Taken(f) => {
-            io::write_all(STDOUT_FILENO, b"taken");
-            number_said(f.v);
-            number_said(f.vm);
-            number_said(f.star);
-            number_said(f.vd);
-            number_said(f.t);
+            streams::write_all(out, b"taken");
+            number_said(out, f.v);
+            number_said(out, f.vm);
+            number_said(out, f.star);
+            number_said(out, f.vd);
+            number_said(out, f.t);
         }
         FiguresAnswer::Refused(r) => {
-            io::write_all(STDOUT_FILENO, b"refused");
-            number_said(r.number);
-            number_said(r.place);
+            streams::write_all(out, b"refused");
+            number_said(out, r.number);
+            number_said(out, r.place);
         }
     }
-    io::write_all(STDOUT_FILENO, b"\n");
+    streams::write_all(out, b"\n");
 }
 
-fn cells_said(name: &[u8], cells: &[u64]) {
-    io::write_all(STDOUT_FILENO, name);
+fn cells_said(out: Stdout, name: &[u8], cells: &[u64]) {
+    streams::write_all(out, name);
     let mut i = 0;
     while i < cells.len() {
-        number_said(cells[i]);
+        number_said(out, cells[i]);
         i += 1;
     }
-    io::write_all(STDOUT_FILENO, b"\n");
+    streams::write_all(out, b"\n");
 }
 
 // The call, and what comes back of it.
 fn called(
+    out: Stdout,
     ground: GroundValues,
     frame: FrameValues,
     weights: &[u64],
@@ -107,16 +109,17 @@ fn called(
         shears,
         overturnings,
     );
-    answer_said(a);
-    cells_said(b"forces", forces);
-    cells_said(b"shears", shears);
-    cells_said(b"moments", overturnings);
-    io::write_all(STDOUT_FILENO, b"without buffers ");
-    answer_said(job::figures::figures(ground, frame, weights, heights));
+    answer_said(out, a);
+    cells_said(out, b"forces", forces);
+    cells_said(out, b"shears", shears);
+    cells_said(out, b"moments", overturnings);
+    streams::write_all(out, b"without buffers ");
+    answer_said(out, job::figures::figures(ground, frame, weights, heights));
 }
 
 // Weights and heights are parts of what was read, and the buffers that are lent are parts too.
 fn parted(
+    out: Stdout,
     head: [u64; 140],
     weights: &[u64],
     heights: &[u64],
@@ -132,6 +135,7 @@ fn parted(
     let shear_cells = least(head[BUFFERS + 1]);
     let overturning_cells = least(head[BUFFERS + 2]);
     called(
+        out,
         ground(head),
         frame(head),
         &weights[..weight_count],
@@ -142,11 +146,12 @@ fn parted(
     );
 }
 
-fn case(head: [u64; 140], weights: [u64; 140], heights: [u64; 140]) {
+fn case(out: Stdout, head: [u64; 140], weights: [u64; 140], heights: [u64; 140]) {
     let mut forces = [head[OLD]; 60];
     let mut shears = [head[OLD + 1]; 60];
     let mut overturnings = [head[OLD + 2]; 60];
     parted(
+        out,
         head,
         &weights,
         &heights,
@@ -157,7 +162,7 @@ fn case(head: [u64; 140], weights: [u64; 140], heights: [u64; 140]) {
 }
 
 // The first number says how many cases follow.
-fn run(s: &[u8]) {
+fn run(out: Stdout, s: &[u8]) {
     let count = number(s, 0);
     let mut left = count.value;
     let mut at = count.next;
@@ -168,14 +173,15 @@ fn run(s: &[u8]) {
         let weights = second.values;
         let third = row(s, second.next, least(head[HEIGHT_COUNT]));
         let heights = third.values;
-        case(head, weights, heights);
+        case(out, head, weights, heights);
         at = third.next;
         left -= 1;
     }
 }
 
-fn main() {
-    let mut input = io::large_buffer();
-    let n = io::read_full(STDIN_FILENO, &mut input);
-    run(&input[..n]);
+fn main(rt: HostRuntime) {
+    let out = rt.stdout();
+    let mut input = [0; streams::ROOM];
+    let n = streams::read_full(&mut rt.stdin(), &mut input);
+    run(out, &input[..n]);
 }

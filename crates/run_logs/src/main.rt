@@ -1,15 +1,16 @@
 // Runs the entry on changed copies of plain logs, as standard input gives them, and says what comes back of each; then the
 // velocity of every N and of every q.
 #![tactic(auto)]
+
 use fields::{
     FIELDS, KIND_COUNT, KINDS, LISTED, THICKNESS_COUNT, THICKNESSES, VALUE_COUNT, VALUES,
 };
-use libc::{STDIN_FILENO, STDOUT_FILENO};
 use limits::class::{Class, ClassAnswer};
 use limits::layer::Layer;
 use limits::refusal::Refusal;
 use rows::{number, row};
 use soil::velocity::{VelocityAnswer, velocity};
+use std::io::Stdout;
 
 mod fields;
 
@@ -36,43 +37,43 @@ fn plain(layers: u64, thickness: u64, velocity: u64) -> [u64; 160] {
 }
 
 // Writes a field's name, its layer where it has one, and its value.
-fn say_field(at: usize, value: u64) {
+fn say_field(out: Stdout, at: usize, value: u64) {
     if at == THICKNESS_COUNT {
-        io::write_all(STDOUT_FILENO, b"thicknesses ");
+        streams::write_all(out, b"thicknesses ");
     } else if at == KIND_COUNT {
-        io::write_all(STDOUT_FILENO, b"kinds ");
+        streams::write_all(out, b"kinds ");
     } else if at == VALUE_COUNT {
-        io::write_all(STDOUT_FILENO, b"values ");
+        streams::write_all(out, b"values ");
     } else if at < KINDS {
-        io::write_all(STDOUT_FILENO, b"thickness ");
-        say_layer(at, THICKNESSES);
+        streams::write_all(out, b"thickness ");
+        say_layer(out, at, THICKNESSES);
     } else if at < VALUES {
-        io::write_all(STDOUT_FILENO, b"kind ");
-        say_layer(at, KINDS);
+        streams::write_all(out, b"kind ");
+        say_layer(out, at, KINDS);
     } else {
-        io::write_all(STDOUT_FILENO, b"value ");
-        say_layer(at, VALUES);
+        streams::write_all(out, b"value ");
+        say_layer(out, at, VALUES);
     }
-    io::print_decimal(STDOUT_FILENO, value);
-    io::write_all(STDOUT_FILENO, b"; ");
+    streams::print_decimal(out, value);
+    streams::write_all(out, b"; ");
 }
 
-fn say_layer(at: usize, first: usize) {
+fn say_layer(out: Stdout, at: usize, first: usize) {
     if first <= at {
         if at < FIELDS {
-            io::print_decimal(STDOUT_FILENO, (at - first) as u64 + 1);
-            io::write_all(STDOUT_FILENO, b": ");
+            streams::print_decimal(out, (at - first) as u64 + 1);
+            streams::write_all(out, b": ");
         }
     }
 }
 
 // The log with one field changed; a field that there is none of changes nothing.
-fn changed(log: [u64; 160], field: u64, value: u64) -> [u64; 160] {
+fn changed(out: Stdout, log: [u64; 160], field: u64, value: u64) -> [u64; 160] {
     let mut next = log;
     let at = field as usize;
     if at < FIELDS {
         next[at] = value;
-        say_field(at, value);
+        say_field(out, at, value);
     }
     next
 }
@@ -108,100 +109,101 @@ fn classed(log: &[u64], thicknesses: usize, kinds: usize, values: usize) -> Clas
     )
 }
 
-fn say(a: ClassAnswer) {
+fn say(out: Stdout, a: ClassAnswer) {
     match a {
-        ClassAnswer::Taken(c) => say_class(c),
-        ClassAnswer::Refused(r) => say_refusal(r),
+        ClassAnswer::Taken(c) => say_class(out, c),
+        ClassAnswer::Refused(r) => say_refusal(out, r),
     }
 }
 
-fn say_class(c: Class) {
+fn say_class(out: Stdout, c: Class) {
     match c {
         Class::Hard => {
-            io::write_all(STDOUT_FILENO, b"hard\n");
+            streams::write_all(out, b"hard\n");
         }
         Class::Normal => {
-            io::write_all(STDOUT_FILENO, b"normal\n");
+            streams::write_all(out, b"normal\n");
         }
         Class::Soft => {
-            io::write_all(STDOUT_FILENO, b"soft\n");
+            streams::write_all(out, b"soft\n");
         }
     }
 }
 
-fn say_refusal(r: Refusal) {
-    io::write_all(STDOUT_FILENO, b"refused ");
-    io::print_decimal(STDOUT_FILENO, r.number);
-    io::write_all(STDOUT_FILENO, b" at ");
-    io::print_decimal(STDOUT_FILENO, r.place);
-    io::write_all(STDOUT_FILENO, b"\n");
+fn say_refusal(out: Stdout, r: Refusal) {
+    streams::write_all(out, b"refused ");
+    streams::print_decimal(out, r.number);
+    streams::write_all(out, b" at ");
+    streams::print_decimal(out, r.place);
+    streams::write_all(out, b"\n");
 }
 
-fn case(row: [u64; 140]) {
-    io::print_decimal(STDOUT_FILENO, row[0]);
-    io::write_all(STDOUT_FILENO, b" of ");
-    io::print_decimal(STDOUT_FILENO, row[1]);
-    io::write_all(STDOUT_FILENO, b" cm at ");
-    io::print_decimal(STDOUT_FILENO, row[2]);
-    io::write_all(STDOUT_FILENO, b" dm/s; ");
+fn case(out: Stdout, row: [u64; 140]) {
+    streams::print_decimal(out, row[0]);
+    streams::write_all(out, b" of ");
+    streams::print_decimal(out, row[1]);
+    streams::write_all(out, b" cm at ");
+    streams::print_decimal(out, row[2]);
+    streams::write_all(out, b" dm/s; ");
     let log = plain(row[0], row[1], row[2]);
-    let a = changed(log, row[3], row[4]);
-    let b = changed(a, row[5], row[6]);
-    let c = changed(b, row[7], row[8]);
-    say(answer(c));
+    let a = changed(out, log, row[3], row[4]);
+    let b = changed(out, a, row[5], row[6]);
+    let c = changed(out, b, row[7], row[8]);
+    say(out, answer(c));
 }
 
 // The first number says how many cases follow.
-fn run(s: &[u8]) {
+fn run(out: Stdout, s: &[u8]) {
     let count = number(s, 0);
     let mut left = count.value;
     let mut at = count.next;
     while 0 < left {
         let r = row(s, at, CASE);
         let values = r.values;
-        case(values);
+        case(out, values);
         at = r.next;
         left -= 1;
     }
 }
 
 // The velocity of each value from 0 up to below `past`, or its refusal. Both kinds by N are run past the larger of their limits.
-fn velocities(kind: u64, past: u64) {
+fn velocities(out: Stdout, kind: u64, past: u64) {
     let mut value = 0;
     while value < past {
-        say_value(kind, value);
+        say_value(out, kind, value);
         value += 1;
     }
 }
 
-fn say_value(kind: u64, value: u64) {
-    io::write_all(STDOUT_FILENO, b"kind ");
-    io::print_decimal(STDOUT_FILENO, kind);
+fn say_value(out: Stdout, kind: u64, value: u64) {
+    streams::write_all(out, b"kind ");
+    streams::print_decimal(out, kind);
     if kind == Layer::SOFT_CLAY {
-        io::write_all(STDOUT_FILENO, b", q ");
+        streams::write_all(out, b", q ");
     } else {
-        io::write_all(STDOUT_FILENO, b", N ");
+        streams::write_all(out, b", N ");
     }
-    io::print_decimal(STDOUT_FILENO, value);
-    io::write_all(STDOUT_FILENO, b": ");
-    say_velocity(velocity(kind, value, 1));
+    streams::print_decimal(out, value);
+    streams::write_all(out, b": ");
+    say_velocity(out, velocity(kind, value, 1));
 }
 
-fn say_velocity(a: VelocityAnswer) {
+fn say_velocity(out: Stdout, a: VelocityAnswer) {
     match a {
         VelocityAnswer::Taken(v) => {
-            io::print_decimal(STDOUT_FILENO, v);
-            io::write_all(STDOUT_FILENO, b"\n");
+            streams::print_decimal(out, v);
+            streams::write_all(out, b"\n");
         }
-        VelocityAnswer::Refused(r) => say_refusal(r),
+        VelocityAnswer::Refused(r) => say_refusal(out, r),
     }
 }
 
-fn main() {
-    let mut input = io::large_buffer();
-    let n = io::read_full(STDIN_FILENO, &mut input);
-    run(&input[..n]);
-    velocities(Layer::COHESIVE, Layer::COHESIONLESS_MOST + 2);
-    velocities(Layer::COHESIONLESS, Layer::COHESIONLESS_MOST + 2);
-    velocities(Layer::SOFT_CLAY, Layer::SOFT_CLAY_MOST + 2);
+fn main(rt: HostRuntime) {
+    let out = rt.stdout();
+    let mut input = [0; streams::ROOM];
+    let n = streams::read_full(&mut rt.stdin(), &mut input);
+    run(out, &input[..n]);
+    velocities(out, Layer::COHESIVE, Layer::COHESIONLESS_MOST + 2);
+    velocities(out, Layer::COHESIONLESS, Layer::COHESIONLESS_MOST + 2);
+    velocities(out, Layer::SOFT_CLAY, Layer::SOFT_CLAY_MOST + 2);
 }

@@ -1,15 +1,16 @@
 // Runs the judgments on changed copies of one good job, as standard input gives them, and says what comes back of each.
 #![tactic(auto)]
+
 use fields::{
     FIELDS, FRAME, GROUND, HEIGHT_COUNT, HEIGHTS, LISTED, ROOM, SITE, WEIGHT_COUNT, WEIGHTS, ZONE,
 };
-use libc::{STDIN_FILENO, STDOUT_FILENO};
 use limits::frame::FrameValues;
 use limits::ground::GroundValues;
 use limits::judging::{GivenAnswer, judged_given};
 use limits::levels::judged_levels;
 use limits::site::SiteValues;
 use rows::{number, row};
+use std::io::Stdout;
 
 mod fields;
 
@@ -19,49 +20,50 @@ ghost use Rattle.std.specs.Prelude.{◌≤◌, length};
 const CHANGES: usize = 8;
 
 // Writes a field's name, eight bytes wide, its level where it has one, and its value.
-fn say_field(at: usize, value: u64) {
+fn say_field(out: Stdout, at: usize, value: u64) {
     if at <= ZONE {
         say_name(
+            out,
             b"S_S D   S_1 D   S_S M   S_1 M   N_A     N_V     N_A M   N_V M   class   kind    period  R       I       alpha-y weights heights room    ground  zone    ",
             at,
         );
     } else if at < HEIGHTS {
-        io::write_all(STDOUT_FILENO, b"weight  ");
-        say_level(at, WEIGHTS);
+        streams::write_all(out, b"weight  ");
+        say_level(out, at, WEIGHTS);
     } else {
-        io::write_all(STDOUT_FILENO, b"height  ");
-        say_level(at, HEIGHTS);
+        streams::write_all(out, b"height  ");
+        say_level(out, at, HEIGHTS);
     }
-    io::print_decimal(STDOUT_FILENO, value);
-    io::write_all(STDOUT_FILENO, b"; ");
+    streams::print_decimal(out, value);
+    streams::write_all(out, b"; ");
 }
 
-fn say_name(names: &[u8], at: usize) {
+fn say_name(out: Stdout, names: &[u8], at: usize) {
     if at <= ZONE {
         let from = 8 * at;
         let end = from + 8;
         if end <= names.len() {
-            io::write_all(STDOUT_FILENO, &names[from..end]);
+            streams::write_all(out, &names[from..end]);
         }
     }
 }
 
-fn say_level(at: usize, first: usize) {
+fn say_level(out: Stdout, at: usize, first: usize) {
     if first <= at {
         if at < FIELDS {
-            io::print_decimal(STDOUT_FILENO, (at - first) as u64 + 1);
-            io::write_all(STDOUT_FILENO, b": ");
+            streams::print_decimal(out, (at - first) as u64 + 1);
+            streams::write_all(out, b": ");
         }
     }
 }
 
 // The job with one field changed; a field that there is none of changes nothing.
-fn changed(job: [u64; 140], field: u64, value: u64) -> [u64; 140] {
+fn changed(out: Stdout, job: [u64; 140], field: u64, value: u64) -> [u64; 140] {
     let mut next = job;
     let at = field as usize;
     if at < FIELDS {
         next[at] = value;
-        say_field(at, value);
+        say_field(out, at, value);
     }
     next
 }
@@ -124,31 +126,31 @@ fn judged(
     judged_given(levels, ground, frame)
 }
 
-fn say(a: GivenAnswer) {
+fn say(out: Stdout, a: GivenAnswer) {
     match a {
         GivenAnswer::Taken(_) => {
-            io::write_all(STDOUT_FILENO, b"taken\n");
+            streams::write_all(out, b"taken\n");
         }
         GivenAnswer::Refused(r) => {
-            io::write_all(STDOUT_FILENO, b"refused ");
-            io::print_decimal(STDOUT_FILENO, r.number);
-            io::write_all(STDOUT_FILENO, b" at ");
-            io::print_decimal(STDOUT_FILENO, r.place);
-            io::write_all(STDOUT_FILENO, b"\n");
+            streams::write_all(out, b"refused ");
+            streams::print_decimal(out, r.number);
+            streams::write_all(out, b" at ");
+            streams::print_decimal(out, r.place);
+            streams::write_all(out, b"\n");
         }
     }
 }
 
-fn case(good: [u64; 140], changes: [u64; 140]) {
-    let a = changed(good, changes[0], changes[1]);
-    let b = changed(a, changes[2], changes[3]);
-    let c = changed(b, changes[4], changes[5]);
-    let d = changed(c, changes[6], changes[7]);
-    say(answer(d));
+fn case(out: Stdout, good: [u64; 140], changes: [u64; 140]) {
+    let a = changed(out, good, changes[0], changes[1]);
+    let b = changed(out, a, changes[2], changes[3]);
+    let c = changed(out, b, changes[4], changes[5]);
+    let d = changed(out, c, changes[6], changes[7]);
+    say(out, answer(d));
 }
 
 // The first number says how many cases follow the good job.
-fn run(s: &[u8]) {
+fn run(out: Stdout, s: &[u8]) {
     let count = number(s, 0);
     let good = row(s, count.next, FIELDS);
     let job = good.values;
@@ -157,14 +159,15 @@ fn run(s: &[u8]) {
     while 0 < left {
         let r = row(s, at, CHANGES);
         let changes = r.values;
-        case(job, changes);
+        case(out, job, changes);
         at = r.next;
         left -= 1;
     }
 }
 
-fn main() {
-    let mut input = io::large_buffer();
-    let n = io::read_full(STDIN_FILENO, &mut input);
-    run(&input[..n]);
+fn main(rt: HostRuntime) {
+    let out = rt.stdout();
+    let mut input = [0; streams::ROOM];
+    let n = streams::read_full(&mut rt.stdin(), &mut input);
+    run(out, &input[..n]);
 }

@@ -1,37 +1,42 @@
 // Runs the reader and the listing on each sheet of data/ that the file `names` names, one name a line, and writes each listing under
 // the sheet's name.
 #![tactic(auto)]
+
 ghost use Rattle.std.specs.Prelude.{◌≤◌, ◌<◌, length};
 
-use libc::STDOUT_FILENO;
 use limits::sheet::Sheet;
 use sheet::sheet_listing;
+use std::fs::File;
+use std::io::Stdout;
 
 const LF: u8 = 10;
 
 // One byte more than a sheet may have: the file of a sheet that is too long need not be read further.
 const ROOM: usize = Sheet::BYTES_MOST as usize + 1;
 
-fn print(s: &[u8]) {
+fn print(out: Stdout, s: &[u8]) {
     let l = sheet_listing(s);
     let bytes = l.bytes;
     let n = l.length;
-    io::write_all(STDOUT_FILENO, &bytes[..n]);
+    streams::write_all(out, &bytes[..n]);
 }
 
-// A sheet that is not there is said to be so, and the output then differs.
-fn one(name: &[u8]) {
-    io::write_all(STDOUT_FILENO, name);
-    io::write_all(STDOUT_FILENO, b"\n");
-    let fd = os::open_read(name);
-    if fd < 0 {
-        io::write_all(STDOUT_FILENO, b"not there\n");
+// A sheet that is not there is said to be so, and the output then differs. A name that is no text names none.
+fn one(rt: HostRuntime, name: &[u8]) {
+    let out = rt.stdout();
+    streams::write_all(out, name);
+    streams::write_all(out, b"\n");
+    let Ok(path) = str::from_utf8(name) else {
+        streams::write_all(out, b"not there\n");
         return;
-    }
+    };
+    let Ok(mut file) = File::open(&rt, path) else {
+        streams::write_all(out, b"not there\n");
+        return;
+    };
     let mut input = [0; ROOM];
-    let n = io::read_full(fd, &mut input);
-    libc::close(fd);
-    print(&input[..n]);
+    let n = streams::read_full(&mut file, &mut input);
+    print(out, &input[..n]);
 }
 
 // Where the line that begins at `at` ends.
@@ -49,11 +54,11 @@ fn line_end(s: &[u8], at: usize) -> usize
     i
 }
 
-fn run(names: &[u8]) {
+fn run(rt: HostRuntime, names: &[u8]) {
     let mut at = 0;
     while at < names.len() {
         let end = line_end(names, at);
-        one(&names[at..end]);
+        one(rt, &names[at..end]);
         if end == names.len() {
             return;
         }
@@ -61,9 +66,11 @@ fn run(names: &[u8]) {
     }
 }
 
-fn main() {
-    let fd = os::open_read(b"names");
-    let mut input = io::large_buffer();
-    let n = io::read_full(fd, &mut input);
-    run(&input[..n]);
+fn main(rt: HostRuntime) {
+    let Ok(mut file) = File::open(&rt, "names") else {
+        return;
+    };
+    let mut input = [0; streams::ROOM];
+    let n = streams::read_full(&mut file, &mut input);
+    run(rt, &input[..n]);
 }

@@ -1,14 +1,15 @@
 // One job with class 2, 3 and 2 again: the first and the third run agree, and the second is that of a fresh run.
 #![tactic(auto)]
+
 use base_shear::Figures;
 use job::FiguresAnswer;
 use job::figures::figures;
-use libc::STDOUT_FILENO;
 use limits::class::Class;
 use limits::frame::FrameValues;
 use limits::ground::GroundValues;
 use limits::kind::Kind;
 use limits::site::SiteValues;
+use std::io::Stdout;
 
 fn run(class: u64) -> Figures {
     let site = SiteValues {
@@ -45,19 +46,19 @@ fn run(class: u64) -> Figures {
     f
 }
 
-fn number(n: u64) {
-    io::write_all(STDOUT_FILENO, b"\t");
-    io::print_decimal(STDOUT_FILENO, n);
+fn number(out: Stdout, n: u64) {
+    streams::write_all(out, b"\t");
+    streams::print_decimal(out, n);
 }
 
-fn say(name: &[u8], f: Figures) {
-    io::write_all(STDOUT_FILENO, name);
-    number(f.v);
-    number(f.vm);
-    number(f.star);
-    number(f.vd);
-    number(f.t);
-    io::write_all(STDOUT_FILENO, b"\n");
+fn say(out: Stdout, name: &[u8], f: Figures) {
+    streams::write_all(out, name);
+    number(out, f.v);
+    number(out, f.vm);
+    number(out, f.star);
+    number(out, f.vd);
+    number(out, f.t);
+    streams::write_all(out, b"\n");
 }
 
 fn same(a: Figures, b: Figures) -> bool {
@@ -76,17 +77,18 @@ fn same(a: Figures, b: Figures) -> bool {
     a.t == b.t
 }
 
-fn main() {
+fn main(rt: HostRuntime) {
+    let out = rt.stdout();
     let first = run(Class::NORMAL);
     let second = run(Class::SOFT);
     let third = run(Class::NORMAL);
-    say(b"class 2", first);
-    say(b"class 3", second);
-    say(b"class 2", third);
+    say(out, b"class 2", first);
+    say(out, b"class 3", second);
+    say(out, b"class 2", third);
     if same(first, third) {
-        io::write_all(STDOUT_FILENO, b"first and third: the same\n");
+        streams::write_all(out, b"first and third: the same\n");
     }
     if same(first, second) {
-        io::write_all(STDOUT_FILENO, b"first and second: the same\n");
+        streams::write_all(out, b"first and second: the same\n");
     }
 }

@@ -14,7 +14,7 @@ use Rattle.sheet.specs.Sheet.{Sheet}
 use Rattle.district_call.specs.declared.weighed.Weighed.{Weighed}
 use Rattle.district_call.specs.Row.{row_of}
 use Rattle.district_call.specs.Weighed.{weighed_job}
-use Rattle.sheets.specs.Answers.{weighedSheet, sheetAnswer}
+use Rattle.sheets.specs.Answers.{weighed_sheet, sheet_answer}
 
 abbrev weight_in : Outcome Sheet → ℕ
 weight_in (accepted r) = sum r.levels.weights
@@ -28,8 +28,8 @@ abbrev pub weighed_by : ℕ → Results → Weighed
 weighed_by W r = record { figures = r.figures; weight = W }
 
 -- the answer to a sheet is its outcome, without the levels and with W
-pub answer_is : (s : List ℕ) → sheetAnswer s ≡ (outcome_of s >>= λ r. accepted (weighed_by (sheet_weight s) r))
-unfolding sheetAnswer weighed_job
+pub answer_is : (s : List ℕ) → sheet_answer s ≡ (outcome_of s >>= λ r. accepted (weighed_by (sheet_weight s) r))
+unfolding sheet_answer weighed_job
 answer_is s = go (read_sheet s)
   where
     of_job : (W : ℕ) (o : Outcome Results)
@@ -37,12 +37,12 @@ answer_is s = go (read_sheet s)
     of_job W (accepted r) = refl
     of_job W (refused n p) = refl
 
-    go : (o : Outcome Sheet) → (o >>= weighedSheet) ≡ ((o >>= job_of_sheet) >>= λ r. accepted (weighed_by (weight_in o) r))
+    go : (o : Outcome Sheet) → (o >>= weighed_sheet) ≡ ((o >>= job_of_sheet) >>= λ r. accepted (weighed_by (weight_in o) r))
     go (accepted r) = of_job (sum r.levels.weights) (job_of_sheet r)
     go (refused n p) = refl
 
 -- number, place and figures of the row, whatever the sheet
-pub row_alone : (s : List ℕ) → row_of (sheetAnswer s) ≡ number (outcome_of s) ∷ place (outcome_of s) ∷ values (λ r. five r.figures) 5 (outcome_of s)
+pub row_alone : (s : List ℕ) → row_of (sheet_answer s) ≡ number (outcome_of s) ∷ place (outcome_of s) ∷ values (λ r. five r.figures) 5 (outcome_of s)
 unfolding row_of
 row_alone s = ap row_of (answer_is s) ∙ go (outcome_of s)
   where

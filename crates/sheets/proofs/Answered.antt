@@ -26,7 +26,7 @@ use Rattle.sheet.proofs.ReadLaid.{read_same}
 use Rattle.district_call.specs.Tally.{Sorted}
 use Rattle.district_call.specs.Weighed.{weighed_job}
 use Rattle.district_call.proofs.WeighedJobs.{weighed_refused, weighed_sorted}
-use Rattle.sheets.specs.Answers.{weighedSheet, sheetAnswer}
+use Rattle.sheets.specs.Answers.{weighed_sheet, sheet_answer}
 
 -- where some levels are not kept, both are refused by their count
 kept_weighed : (v : GroundValues) (f : FrameValues) (ws hs : List ℕ) → length hs ≡ length ws
@@ -45,12 +45,12 @@ kept_weighed v f ws hs same = go (leb (length ws) 50) refl
 
 module _ (s : List ℕ) (c : SheetRead) (e : c ≡ sheet_read (read_sheet s)) where
   pub answer_taken : (v : GroundValues) (f : FrameValues) (n : ℕ) → c.answer ≡ Taken v f n
-      → weighed_job v f (take n c.weights) (take n c.heights) ≡ sheetAnswer s
-  unfolding sheetAnswer sheet_read
+      → weighed_job v f (take n c.weights) (take n c.heights) ≡ sheet_answer s
+  unfolding sheet_answer sheet_read
   answer_taken v f n m = go (read_sheet s) refl (sym (ap (λ (x : SheetRead). x.answer) e) ∙ m)
     where
       go : (o : Outcome Sheet) → read_sheet s ≡ o → (sheet_read o).answer ≡ Taken v f n
-          → weighed_job v f (take n c.weights) (take n c.heights) ≡ (read_sheet s >>= weighedSheet)
+          → weighed_job v f (take n c.weights) (take n c.heights) ≡ (read_sheet s >>= weighed_sheet)
       go (accepted r) is t =
           let ws = r.levels.weights in
           let hs = r.levels.heights in
@@ -65,20 +65,20 @@ module _ (s : List ℕ) (c : SheetRead) (e : c ≡ sheet_read (read_sheet s)) wh
           rw (cw, ch, ← ev, ← ef, is) (kept_weighed r.ground r.frame ws hs same)
       go (refused k p) is t = absurd (never (ap sheet_outcome t))
 
-  pub answer_refused : (r : Refusal) → c.answer ≡ Refused r → sheetAnswer s ≡ refused r.number r.place
-  unfolding sheetAnswer sheet_read
+  pub answer_refused : (r : Refusal) → c.answer ≡ Refused r → sheet_answer s ≡ refused r.number r.place
+  unfolding sheet_answer sheet_read
   answer_refused r m = go (read_sheet s) refl (sym (ap (λ (x : SheetRead). x.answer) e) ∙ m)
     where
       go : (o : Outcome Sheet) → read_sheet s ≡ o → (sheet_read o).answer ≡ Refused r
-          → (read_sheet s >>= weighedSheet) ≡ refused r.number r.place
+          → (read_sheet s >>= weighed_sheet) ≡ refused r.number r.place
       go (accepted x) is t = absurd (never (sym (ap sheet_outcome t)))
       go (refused k p) is t = let q = one_refusal (ap sheet_outcome t) in rw (is, q.0, q.1)
 
 -- every accepted sheet has a cell
-pub answer_sorted : (s : List ℕ) → Sorted (sheetAnswer s)
-unfolding sheetAnswer
+pub answer_sorted : (s : List ℕ) → Sorted (sheet_answer s)
+unfolding sheet_answer
 answer_sorted s = go (read_sheet s)
   where
-    go : (o : Outcome Sheet) → Sorted (o >>= weighedSheet)
+    go : (o : Outcome Sheet) → Sorted (o >>= weighed_sheet)
     go (accepted r) = weighed_sorted r.ground r.frame r.levels.weights r.levels.heights
     go (refused n p) = tt

@@ -22,20 +22,20 @@ use Rattle.district_call.proofs.Tallied.{nothing, Tallied, tallied_none, tallied
 use Rattle.sheets.proofs.Answered.{answer_sorted}
 use Rattle.sheets.proofs.Numbered.{Lined, lined_none, lined_all, lined_room, lined_more}
 use Rattle.sheets.proofs.Parts.{sheets_none, sheets_next, first_part}
-use Rattle.sheets.specs.Answers.{sheetAnswer, answersIn}
+use Rattle.sheets.specs.Answers.{sheet_answer, answers_in}
 use Rattle.sheets.specs.Listing.{row_line, row_lines}
 use Rattle.sheets.specs.Split.{sheets_in, first_in}
 
 pub record Answering (s old held : List ℕ) (t : Totals) (cs : List ℕ) (p at i : ℕ) : Type 0 where
-  pub lines : Lined row_line old 0 held p (row_lines (answersIn s)) (i + 1) (answersIn (drop at s))
-  pub tally : Tallied (answersIn s) i t cs
-  pub left : drop i (answersIn s) ≡ answersIn (drop at s)
+  pub lines : Lined row_line old 0 held p (row_lines (answers_in s)) (i + 1) (answers_in (drop at s))
+  pub tally : Tallied (answers_in s) i t cs
+  pub left : drop i (answers_in s) ≡ answers_in (drop at s)
 
 pub answering_none : (s old : List ℕ) {t : Totals} → t ≡ (report_of []).totals → Answering s old old t (replicate cells_most 0) 0 0 0
 answering_none s old e =
     record {
-      lines = lined_none row_line old 0 1 (answersIn s);
-      tally = rw e (tallied_none (answersIn s));
+      lines = lined_none row_line old 0 1 (answers_in s);
+      tally = rw e (tallied_none (answers_in s));
       left = refl;
     }
 
@@ -51,16 +51,16 @@ module _ (os : List (Outcome Weighed)) (i : ℕ) {o : Outcome Weighed} {m : List
   left_past = sym (drop-drop 1 i os) ∙ ap (λ (l : List (Outcome Weighed)). drop 1 l) e
 
 module _ {s old held : List ℕ} {t : Totals} {cs : List ℕ} {p at i : ℕ} (a : Answering s old held t cs p at i)
-    (few : length (sheets_in s) ≤ 256) (room : length (row_lines (answersIn s)) ≤ length old) where
+    (few : length (sheets_in s) ≤ 256) (room : length (row_lines (answers_in s)) ≤ length old) where
   abbrev os : List (Outcome Weighed)
-  os = answersIn s
+  os = answers_in s
 
   few_answers : length os ≤ 256
-  few_answers = omega (arith, few, length-map (sheets_in s) sheetAnswer)
+  few_answers = omega (arith, few, length-map (sheets_in s) sheet_answer)
 
   -- no counter wraps
   pub answering_small : Small t
-  answering_small = tallied_small os i t cs few_answers a.tally (all_sorted sheetAnswer answer_sorted (sheets_in s))
+  answering_small = tallied_small os i t cs few_answers a.tally (all_sorted sheet_answer answer_sorted (sheets_in s))
 
   pub answering_low : LowCells cs
   answering_low = tallied_low os i t cs few_answers a.tally
@@ -68,19 +68,19 @@ module _ {s old held : List ℕ} {t : Totals} {cs : List ℕ} {p at i : ℕ} (a 
   pub answering_all : length s ≤ at
       → (◌≡◌ {A = Report} (record { totals = t; cells = cs }) (report_of os)) × ((p ≡ length (row_lines os)) × (held ≡ spliced old 0 (row_lines os)))
   answering_all h =
-      let none : answersIn (drop at s) ≡ [] = ap (map sheetAnswer) (sheets_none s at h) in
+      let none : answers_in (drop at s) ≡ [] = ap (map sheet_answer) (sheets_none s at h) in
       let w = lined_all row_line a.lines (omega arith) none in
       let end : length os ≤ i = omega (arith, sym (length-drop i os) ∙ ap length (a.left ∙ none)) in
       (tallied_all os i t cs end a.tally, (w.end ∙ zero-add (length (row_lines os)), w.holds))
 
   module _ (h : at < length s) {e : ℕ} (is : e ≡ at + length (first_in true (drop at s))) {o : Outcome Weighed}
-      (said : o ≡ sheetAnswer (take (e - at) (drop at s))) where
-    next : answersIn (drop at s) ≡ o ∷ answersIn (drop (e + 1) s)
+      (said : o ≡ sheet_answer (take (e - at) (drop at s))) where
+    next : answers_in (drop at s) ≡ o ∷ answers_in (drop (e + 1) s)
     next =
-        ap (map sheetAnswer) (sheets_next s at h is)
-        ∙ ap (λ (x : Outcome Weighed). x ∷ answersIn (drop (e + 1) s)) (sym (said ∙ ap sheetAnswer (first_part s at is)))
+        ap (map sheet_answer) (sheets_next s at h is)
+        ∙ ap (λ (x : Outcome Weighed). x ∷ answers_in (drop (e + 1) s)) (sym (said ∙ ap sheet_answer (first_part s at is)))
 
-    here : drop i os ≡ o ∷ answersIn (drop (e + 1) s)
+    here : drop i os ≡ o ∷ answers_in (drop (e + 1) s)
     here = a.left ∙ next
 
     pub answering_few : i < 256

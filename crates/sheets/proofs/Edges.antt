@@ -9,7 +9,7 @@ use Rattle.text.specs.Line.{line}
 use Rattle.text.specs.Reading.{starts, word}
 use Rattle.sheet.specs.Lines.{line_in, lines_from}
 use Rattle.sheet.specs.Reading.{sheet_lines, read_sheet}
-use Rattle.sheets.specs.Answers.{sheetAnswer}
+use Rattle.sheets.specs.Answers.{sheet_answer}
 use Rattle.sheets.specs.Split.{parts, filled, sheets_in}
 
 pub empty_lines : (sheets_in (bytes "\n") ≡ [] ∷ []) × (sheets_in (bytes "\n\n") ≡ [] ∷ [] ∷ [])
@@ -32,6 +32,6 @@ pub without_lf : (sheets_in (bytes "a\n\nb") ≡ bytes "a\n" ∷ bytes "b" ∷ [
 unfolding sheets_in parts filled
 without_lf = (refl, refl)
 
-pub no_byte_refused : sheetAnswer [] ≡ refused 16 1
-unfolding sheetAnswer read_sheet sheet_lines lines_from line_in line word starts
+pub no_byte_refused : sheet_answer [] ≡ refused 16 1
+unfolding sheet_answer read_sheet sheet_lines lines_from line_in line word starts
 no_byte_refused = refl

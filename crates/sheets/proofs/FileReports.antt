@@ -13,7 +13,7 @@ use Rattle.limits.proofs.Passed.{never, then_passed}
 use Rattle.district_call.specs.declared.weighed.Weighed.{Weighed}
 use Rattle.district_call.specs.Report.{report_of}
 use Rattle.district_call.proofs.CallReports.{Reported, reported_of}
-use Rattle.sheets.specs.Answers.{sheetAnswer, answersIn}
+use Rattle.sheets.specs.Answers.{sheet_answer, answers_in}
 use Rattle.sheets.specs.Judged.{bytes_most, judged_file}
 use Rattle.sheets.specs.Listing.{file_of}
 use Rattle.sheets.specs.Split.{sheets_in}
@@ -31,10 +31,10 @@ module _ (s : List ℕ) where
       go true l h = leb-true _ _ l
       go false l h = absurd (never h)
 
-  pub file_reported : (os : List (Outcome Weighed)) → file_of s ≡ accepted os → Reported (sheets_in s) (report_of (answersIn s))
+  pub file_reported : (os : List (Outcome Weighed)) → file_of s ≡ accepted os → Reported (sheets_in s) (report_of (answers_in s))
   unfolding file_of
-  file_reported os e = reported_of sheetAnswer answer_sorted (sheets_in s) (few (passed (judged_file s) e))
+  file_reported os e = reported_of sheet_answer answer_sorted (sheets_in s) (few (passed (judged_file s) e))
     where
-      passed : (o : Outcome Done) → (o >> accepted (answersIn s)) ≡ accepted os → o ≡ accepted tt
+      passed : (o : Outcome Done) → (o >> accepted (answers_in s)) ≡ accepted os → o ≡ accepted tt
       passed (accepted u) h = refl
       passed (refused n p) h = absurd (never h)

@@ -17,7 +17,7 @@ use Rattle.sheet.specs.Applies.{SheetApplies}
 use Rattle.sheet.specs.Listing.{outcome_of}
 use Rattle.sheet.proofs.Foremost.{sheet_first}
 use Rattle.sheets.proofs.Alone.{sheet_weight, weighed_by, answer_is}
-use Rattle.sheets.specs.Answers.{sheetAnswer, answersIn}
+use Rattle.sheets.specs.Answers.{sheet_answer, answers_in}
 use Rattle.sheets.specs.Judged.{bytes_most, judged_file, FileApplies, long, many}
 use Rattle.sheets.specs.Listing.{file_of}
 use Rattle.sheets.specs.Split.{sheets_in}
@@ -45,10 +45,10 @@ module _ (s : List ℕ) where
 
   pub file_first : FirstRefusal (FileApplies s) (file_of s)
   unfolding file_of
-  file_first = first_then_value (FileApplies s) (judged_file s) (answersIn s) judged_first
+  file_first = first_then_value (FileApplies s) (judged_file s) (answers_in s) judged_first
 
 -- a sheet of the file
-pub row_first : (s : List ℕ) → FirstRefusal (SheetApplies s) (sheetAnswer s)
+pub row_first : (s : List ℕ) → FirstRefusal (SheetApplies s) (sheet_answer s)
 row_first s =
     subst (FirstRefusal (SheetApplies s)) (sym (answer_is s))
     (first_of_value (SheetApplies s) (outcome_of s) (weighed_by (sheet_weight s)) (sheet_first s))

@@ -22,7 +22,7 @@ use Rattle.district_call.specs.declared.weighed.Weighed.{Weighed}
 use Rattle.district_call.specs.Report.{cells_most, report_of}
 use Rattle.sheets.proofs.Lines.{row_most, totals_most, cell_most}
 use Rattle.sheets.proofs.Numbered.{numbered_most}
-use Rattle.sheets.specs.Answers.{sheetAnswer, answersIn}
+use Rattle.sheets.specs.Answers.{sheet_answer, answers_in}
 use Rattle.sheets.specs.Judged.{bytes_most, judged_file}
 use Rattle.sheets.specs.Listing.{row_line, row_lines, totals_line, cell_line, cell_lines, report_lines, file_of, listing, district_listing, longest, PutsFile}
 use Rattle.sheets.specs.Split.{sheets_in}
@@ -62,7 +62,7 @@ module _ (s : List ℕ) where
 
   -- ---- a file that is taken
   module _ (j : judged_file s ≡ accepted tt) where
-    pub file_taken : file_of s ≡ accepted (answersIn s)
+    pub file_taken : file_of s ≡ accepted (answers_in s)
     unfolding file_of
     file_taken = simp j
 
@@ -72,25 +72,25 @@ module _ (s : List ℕ) where
         let b = then_passed (require (leb (length s) bytes_most) 22 0) (require (leb (length (sheets_in s)) 256) 22 0) j in
         leb-true (length (sheets_in s)) 256 (require_passed _ 22 0 b.1)
 
-    room : length (row_lines (answersIn s)) + length (report_lines (report_of (answersIn s))) ≤ longest
-    room = lines_room (answersIn s) (omega (arith, file_few, length-map (sheets_in s) sheetAnswer))
+    room : length (row_lines (answers_in s)) + length (report_lines (report_of (answers_in s))) ≤ longest
+    room = lines_room (answers_in s) (omega (arith, file_few, length-map (sheets_in s) sheet_answer))
 
-    pub rows_room : (old : List ℕ) → longest ≤ length old → length (row_lines (answersIn s)) ≤ length old
+    pub rows_room : (old : List ℕ) → longest ≤ length old → length (row_lines (answers_in s)) ≤ length old
     rows_room old h = omega (arith, room)
 
-    module _ (old : List ℕ) {held : List ℕ} {p : ℕ} {r : Report} (h : longest ≤ length old) (is : r ≡ report_of (answersIn s))
-        (ep : p ≡ length (row_lines (answersIn s))) (eh : held ≡ spliced old 0 (row_lines (answersIn s))) where
-      rows : Wrote old 0 (row_lines (answersIn s)) held p
-      rows = wrote _ _ _ _ _ (omega (arith, rows_room old h)) eh (ep ∙ sym (zero-add (length (row_lines (answersIn s)))))
+    module _ (old : List ℕ) {held : List ℕ} {p : ℕ} {r : Report} (h : longest ≤ length old) (is : r ≡ report_of (answers_in s))
+        (ep : p ≡ length (row_lines (answers_in s))) (eh : held ≡ spliced old 0 (row_lines (answers_in s))) where
+      rows : Wrote old 0 (row_lines (answers_in s)) held p
+      rows = wrote _ _ _ _ _ (omega (arith, rows_room old h)) eh (ep ∙ sym (zero-add (length (row_lines (answers_in s)))))
 
       pub report_room : (length r.cells ≡ cells_most) × (p + length (report_lines r) ≤ length held)
-      report_room = rw is (report_cells (answersIn s), omega (arith, room, rows, h))
+      report_room = rw is (report_cells (answers_in s), omega (arith, room, rows, h))
 
       pub puts_lines : {held' : List ℕ} {q : ℕ} {none : Refusal} → q ≡ p + length (report_lines r) → held' ≡ spliced held p (report_lines r)
           → none ≡ record { number = 0; place = 0 } → PutsFile s old held' (record { length = q; refusal = none })
       unfolding district_listing listing
       puts_lines {held'} {q} eq eh' en =
-          let w : Wrote held p (report_lines (report_of (answersIn s))) held' q
+          let w : Wrote held p (report_lines (report_of (answers_in s))) held' q
           = rw (← is) (wrote _ _ _ _ _ report_room.1 eh' eq) in
           record {
             listed =
@@ -106,7 +106,7 @@ listing_short s = go (judged_file s) refl
   where
     go : (o : Outcome Done) → judged_file s ≡ o → length (listing (file_of s)) ≤ longest
     go (accepted u) j =
-        let os = answersIn s in
+        let os = answers_in s in
         rw (file_taken s j) (omega (arith, length-append (row_lines os) (report_lines (report_of os)), room s j))
     go (refused n p) j = rw (file_refused s j) (omega (arith, refusal_room n p))
 

@@ -21,7 +21,7 @@ use Rattle.district_call.specs.declared.report.Totals.{Totals}
 use Rattle.district_call.specs.declared.weighed.Weighed.{Weighed}
 use Rattle.district_call.specs.Report.{report_of}
 use Rattle.district_call.specs.Row.{row_of}
-use Rattle.sheets.specs.Answers.{answersIn}
+use Rattle.sheets.specs.Answers.{answers_in}
 use Rattle.sheets.specs.Judged.{judged_file}
 use Rattle.sheets.specs.Numbered.{numbered}
 
@@ -46,7 +46,7 @@ report_lines r = totals_line r.totals ++ cell_lines r.cells
 unfoldable pub file_of : List ℕ → Outcome (List (Outcome Weighed))
 file_of s = do
   judged_file s
-  accepted (answersIn s)
+  accepted (answers_in s)
 
 unfoldable pub listing : Outcome (List (Outcome Weighed)) → List ℕ
 listing (accepted os) = row_lines os ++ report_lines (report_of os)

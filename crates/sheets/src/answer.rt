@@ -1,14 +1,14 @@
 // What a sheet of a file is answered.
 ghost use Rattle.std.specs.Prelude.{◌≡◌};
 ghost use Rattle.district_call.specs.Weighed.{weighed_outcome};
-ghost use Rattle.sheets.specs.Answers.{sheetAnswer};
+ghost use Rattle.sheets.specs.Answers.{sheet_answer};
 
 use district_call::weighed::{WeighedAnswer, weighed_job};
 use sheet::reader::{SheetAnswer, read_sheet};
 
 // One level more than a job may have is kept, so that the job itself refuses the count.
 pub fn sheet_answer(s: &[u8]) -> WeighedAnswer
-    ensures { weighed_outcome result ≡ sheetAnswer s.now }
+    ensures { weighed_outcome result ≡ sheet_answer s.now }
 {
     let read = read_sheet(s);
     let a = read.answer;

@@ -1,5 +1,6 @@
 // A file of sheets in, the text of the district out.
 #![tactic(auto)]
+
 use judged::judged_file;
 use limits::refusal::{Refusal, Verdict};
 use listing::{LONGEST, put_report};

@@ -2,7 +2,7 @@
 ghost use Rattle.std.specs.Prelude.{◌≡◌, ◌≤◌, length};
 ghost use Rattle.text.specs.Writing.{spliced};
 ghost use Rattle.district_call.specs.Report.{report_of};
-ghost use Rattle.sheets.specs.Answers.{answersIn};
+ghost use Rattle.sheets.specs.Answers.{answers_in};
 ghost use Rattle.sheets.specs.Listing.{row_lines};
 ghost use Rattle.sheets.specs.Split.{sheets_in};
 
@@ -20,10 +20,10 @@ pub struct Rows {
 
 // Writes a row for each sheet.
 pub fn put_rows(out: &mut [u8], file: &[u8]) -> Rows
-    requires { (length (sheets_in file.now) ≤ 256) × (length (row_lines (answersIn file.now)) ≤ length out.old) }
-    ensures report_value { result.report ≡ report_of (answersIn file.now) }
-    ensures length_value { result.length ≡ length (row_lines (answersIn file.now)) }
-    ensures out_after { out.new ≡ spliced out.old 0 (row_lines (answersIn file.now)) }
+    requires { (length (sheets_in file.now) ≤ 256) × (length (row_lines (answers_in file.now)) ≤ length out.old) }
+    ensures report_value { result.report ≡ report_of (answers_in file.now) }
+    ensures length_value { result.length ≡ length (row_lines (answers_in file.now)) }
+    ensures out_after { out.new ≡ spliced out.old 0 (row_lines (answers_in file.now)) }
 {
     let mut totals = Totals::none();
     let mut cells = [0; CELLS];

@@ -24,7 +24,7 @@ use Rattle.soil.specs.Applies.{Allowed, measured, cohesive, cohesionless, soft_c
 use Rattle.soil.specs.Class.{table3}
 use Rattle.soil.specs.Log.{counted, thick, deep, judged_log, site_class, Answers}
 use Rattle.soil.specs.Times.{judged_times, times}
-use Rattle.soil.specs.Velocity.{measured as measuredAt, by_rule, velocity, velocities}
+use Rattle.soil.specs.Velocity.{measured as measured_at, by_rule, velocity, velocities}
 use Rattle.limits.proofs.Passed.{require_passed}
 use Rattle.soil.proofs.Refusing.{class_told}
 use Rattle.soil.proofs.Sound.{log_sound}
@@ -43,7 +43,7 @@ module _ (n q : ℕ) where
       (require_yields n q (not (eqb e 0)) 14 p (a p)) (thick_yields (p + 1) es a)
 
   velocity_yields : (k x p : ℕ) → Ahead n q 15 p → Yields n q (velocity k x p)
-  unfolding velocity measuredAt by_rule
+  unfolding velocity measured_at by_rule
   velocity_yields k x p a =
       by_test (Yields n q) (eqb k 1) _ _ (λ _. both_yield n q (within 500 30_000 x 15 p) _ (within_yields n q 500 30_000 x 15 p a) tt)
       (λ _. by_test (Yields n q) (eqb k 2) _ _ (λ _. both_yield n q (within 2 25 x 15 p) _ (within_yields n q 2 25 x 15 p a) tt)
@@ -52,7 +52,7 @@ module _ (n q : ℕ) where
       (λ _. a))))
 
   velocity_stops : (k x p : ℕ) → (Allowed k x → ⊥) → Ahead n q 15 p → Stops n q (velocity k x p)
-  unfolding velocity measuredAt by_rule
+  unfolding velocity measured_at by_rule
   velocity_stops k x p w a =
       by_test (Stops n q) (eqb k 1) _ _
       (λ e. first_stops n q (within 500 30_000 x 15 p) _

@@ -18,7 +18,7 @@ use Rattle.soil.specs.declared.class.ClassLimits.{ClassLimits}
 use Rattle.soil.specs.Applies.{Allowed, measured, cohesive, cohesionless, soft_clay, Applies, lists, layers, thickness, depth, layer}
 use Rattle.soil.specs.Log.{counted, thick, deep, judged_log, site_class}
 use Rattle.soil.specs.Times.{judged_times, times}
-use Rattle.soil.specs.Velocity.{measured as measuredAt, by_rule, velocity, velocities}
+use Rattle.soil.specs.Velocity.{measured as measured_at, by_rule, velocity, velocities}
 use Rattle.limits.proofs.Told.{Told, then_told, bind_told, require_told, within_told}
 use Rattle.soil.proofs.Sound.{log_sound}
 
@@ -56,7 +56,7 @@ module _ (ds ks xs : List ℕ) where
     other {B} {a} {b} n e h = let one = eqb-true k a e in absurd (n (omega arith))
 
     velocity_told : Told A (velocity k x p)
-    unfolding velocity measuredAt by_rule
+    unfolding velocity measured_at by_rule
     velocity_told =
         by_test (Told A) (eqb k 1) _ _
         (λ e. ranged 500 30_000 x (λ o. wrong k x (λ h. o) (other (λ z. omega arith) e) (other (λ z. omega arith) e) (other (λ z. omega arith) e)))

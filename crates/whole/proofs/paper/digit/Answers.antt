@@ -12,8 +12,8 @@ use Rattle.whole.proofs.paper.digit.Goals.{then-c-gt-DIGIT_MOST, else-c-gt-DIGIT
 
 module _ (d k p left c : ℕ) (t : left < taken d k (c * p)) where
   -- 0 takes nothing
-  takes-more : 0 < c
-  takes-more = go c t
+  takes_more : 0 < c
+  takes_more = go c t
     where
       go : (c : ℕ) → left < taken d k (c * p) → 0 < c
       go zero h = absurd (omega (arith, h))
@@ -62,12 +62,12 @@ taken-requires-in-loop-c c =
 pub overflow_sub-c : goal.overflow_sub-c
 overflow_sub-c c =
     let a = c.args in
-    takes-more a.d a.k a.p a.left c.loop-c.c (omega (arith, c.loop-c-test.true, c.taken-in-loop-c.ensures))
+    takes_more a.d a.k a.p a.left c.loop-c.c (omega (arith, c.loop-c-test.true, c.taken-in-loop-c.ensures))
 
 pub loop-c-smaller : goal.loop-c-smaller
 loop-c-smaller c =
     let a = c.args in
-    omega (arith, takes-more a.d a.k a.p a.left c.loop-c.c (omega (arith, c.loop-c-test.true, c.taken-in-loop-c.ensures)))
+    omega (arith, takes_more a.d a.k a.p a.left c.loop-c.c (omega (arith, c.loop-c-test.true, c.taken-in-loop-c.ensures)))
 
 pub loop-c-preserved : goal.loop-c-preserved
 loop-c-preserved c =
