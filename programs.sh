@@ -10,21 +10,19 @@ cannot() {
 prepare() {
     command -v rt >/dev/null || cannot 'the Rattle kit'\''s command rt is not in PATH'
     target=$root/target
-    program=$target/bin/$name
-    if mkdir -p "$target" 2>/dev/null && [ -w "$target" ]; then
+    crate=$root/crates/$name
+    program=$crate/out/$name
+    if mkdir -p "$target" 2>/dev/null && [ -w "$target" ] && [ -w "$crate" ]; then
         # one build at a time, where the system has flock
         exec 9>"$target/programs.lock"
         if command -v flock >/dev/null; then flock 9; fi
-        if [ ! -x "$program" ]; then
-            echo "$name: proving and building first, which takes some minutes" >&2
-            rm -f "$target/stamp/$name"
-        fi
-        (cd "$root" && rt check "$name") >"$target/$name.log" 2>&1 </dev/null || { cat "$target/$name.log" >&2; exit 2; }
+        [ -x "$program" ] || echo "$name: proving and building first, which takes some minutes" >&2
+        # `rt run` builds only what is proved, and runs it once, here on no input
+        (cd "$crate" && rt run) >"$target/$name.log" 2>&1 </dev/null || { cat "$target/$name.log" >&2; exit 2; }
         exec 9>&-
     elif [ ! -x "$program" ]; then
         cannot "not built, and $root cannot be written to"
     fi
-    own=$(dirname "$(dirname "$(rt doc)")")/on/$(uname -m)/toolchain
 }
 
 # Keeps standard input in the file $kept/input, up to a number of bytes, so that a bad line can be looked at; the rest is left unread.
@@ -35,11 +33,9 @@ keep() {
     head -c "$1" >"$kept/input" 2>/dev/null || cannot 'standard input could not be read to its end'
 }
 
-# Runs the program on what was kept, prints what it prints, and leaves it in $printed; on Arm by the kit's emulator.
+# Runs the program on what was kept, prints what it prints, and leaves it in $printed.
 print() {
-    set -- "$own/lib/ld-linux-x86-64.so.2" --library-path "$own/lib" "$program"
-    [ ! -x "$own/bin/qemu-x86_64" ] || set -- "$own/bin/qemu-x86_64" "$@"
-    printed=$("$@" <"$kept/input" && echo .) || cannot 'the program could not be run'
+    printed=$("$program" <"$kept/input" && echo .) || cannot 'the program could not be run'
     printed=${printed%.}
     [ -n "$printed" ] || exit 2
     printf %s "$printed" 2>/dev/null || cannot 'the listing could not be written'

@@ -10,8 +10,8 @@ command -v rt >/dev/null || { echo "build.sh: the Rattle kit's command rt is not
 cd "$(dirname "$0")/.."
 mkdir -p target/lib
 echo 'build.sh: proving and building the core, which takes minutes where it has changed' >&2
-rt staticlib linked >target/lib/proved.log 2>&1 || { cat target/lib/proved.log >&2; exit 1; }
-cp target/staticlib/liblinked.a target/lib/librukeshomaji.a
+(cd crates/linked && rt lib) >target/lib/proved.log 2>&1 || { cat target/lib/proved.log >&2; exit 1; }
+cp crates/linked/out/liblinked.a target/lib/librukeshomaji.a
 cc -shared -Wl,-soname,librukeshomaji.so.2 -o target/lib/librukeshomaji.so.2 \
     -Wl,--whole-archive target/lib/librukeshomaji.a -Wl,--no-whole-archive
 ln -sf librukeshomaji.so.2 target/lib/librukeshomaji.so

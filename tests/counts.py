@@ -109,10 +109,10 @@ def logs():
 
 def vectors():
     """Rows of `vectors`, in the Basin, with two pairs, at the ends of the rule of the roof force, in millionths."""
-    rows = [line.strip() for line in lines('vectors', 'specs/Rows.antt') if re.match(r' +(vector|basinVector) ', line)]
-    periods = [int(re.search(r'\(rootsOf [\d ]+\) \((?:\d+ ∷ ){7}(\d+) ', row)[1]) for row in rows]
+    rows = [line.strip() for line in lines('vectors', 'specs/Rows.antt') if re.match(r' +(vector|basin_vector) ', line)]
+    periods = [int(re.search(r'\(roots_of [\d ]+\) \((?:\d+ ∷ ){7}(\d+) ', row)[1]) for row in rows]
     runs = sum(tuple(periods[first:first + len(ENDS)]) == ENDS for first in range(len(rows)))
-    return (len(rows), sum(row.startswith('basinVector') for row in rows), sum('(siteOfPairs ' in row for row in rows), runs * len(ENDS),
+    return (len(rows), sum(row.startswith('basin_vector') for row in rows), sum('(site_of_pairs ' in row for row in rows), runs * len(ENDS),
             sum(row.split()[1] == '1000000' for row in rows))
 
 
@@ -132,7 +132,7 @@ def roots():
 
 def gate():
     """What the gate passes: crates and must-fail edits; edits of tests/tried; checks of the model."""
-    crates = (ROOT / 'crates.txt').read_text().splitlines()
+    crates = re.findall(r'^[^#\n]+:', (ROOT / 'crates.txt').read_text(), re.M)
     edits, tried = (len(list(folder.glob(files))) for folder, files in ((CRATES, '*/must-fail/*.edit'), (ROOT / 'tests' / 'tried', '*/*.edit')))
     return len(crates) + edits, tried, sum(1 for module in check_model.MODULES for _ in module.checks())
 

@@ -14,8 +14,9 @@ from tests.compares.structs import I64, U64, DistrictJob, Figures, Frame, Listin
 from tests.model import limits
 
 ROOT = pathlib.Path(__file__).resolve().parents[2]
-ARCHIVE = ROOT / 'target' / 'staticlib' / 'liblinked.a'
-SHARED = ROOT / 'target' / 'staticlib' / 'liblinked.so'
+CRATE = ROOT / 'crates' / 'linked'
+ARCHIVE = CRATE / 'out' / 'liblinked.a'
+SHARED = ROOT / 'target' / 'liblinked.so'
 GIVEN = os.environ.get('RUKESHOMAJI_LIBRARY')
 LONGEST = 4_610
 
@@ -32,7 +33,8 @@ def build():
     if GIVEN:
         return
     print('proving and building the core, which takes minutes where it has changed', file=sys.stderr, flush=True)
-    subprocess.run(['rt', 'staticlib', 'linked'], cwd=ROOT, check=True, stdout=subprocess.DEVNULL)
+    subprocess.run(['rt', 'lib'], cwd=CRATE, check=True, stdout=subprocess.DEVNULL)
+    SHARED.parent.mkdir(exist_ok=True)
     subprocess.run(['cc', '-shared', '-o', SHARED, '-Wl,--whole-archive', ARCHIVE, '-Wl,--no-whole-archive'], check=True)
 
 

@@ -1,5 +1,6 @@
 """What the repository declares: the names of each file of crates/ and include/."""
 
+import os
 import pathlib
 import re
 
@@ -11,6 +12,7 @@ DECLARED = re.compile(
     r'|\b(?:fn|struct|enum|const|mod) (?P<code>\w+)'
     r'|^\s+(?P<variant>[A-Z]\w*)(?:\(\w+\))?,$'
     r'|^(?:\w+ )+\**(?P<c>rukeshomaji_\w+)\(', re.M)
+DEFINED = re.compile(r'^\s*(?:pub\s+)?(?:abbrev|unfoldable|opaque)\s+(?:pub\s+)?(?P<name>[^\s:(){}]+)', re.M)
 VARIABLE = re.compile(r'^\s*(?:pub )?(?P<field>\w+): ', re.M)
 
 
@@ -22,8 +24,12 @@ def declared(path):
 
 
 def sources(folder):
-    """The files of a folder that declare something."""
-    return [path for path in sorted(folder.rglob('*')) if path.suffix in ('.antt', '.rt', '.h') and 'must-fail' not in path.parts]
+    """The files of a folder that declare something; edits, and what `rt` makes, are left out."""
+    found = []
+    for here, folders, names in os.walk(folder):
+        folders[:] = [name for name in folders if name not in ('must-fail', 'out')]
+        found += [pathlib.Path(here, name) for name in names if name.endswith(('.antt', '.rt', '.h'))]
+    return sorted(found)
 
 
 def same_crate(file, other):
@@ -33,5 +39,9 @@ def same_crate(file, other):
 
 NAMES = {path: declared(path) for path in [*sources(CRATES), *sources(ROOT / 'include')]}
 ALL = set().union(*NAMES.values())
+LAWS = [path for path in NAMES if path.suffix == '.antt']
+# what is stated in several words and defined nowhere: theorems, and what a record or a case says
+STATED = ({name for path in LAWS for name in NAMES[path] if '_' in name.strip('_')}
+          - {match['name'] for path in LAWS for match in DEFINED.finditer(path.read_text())})
 EDITS = {f'{path.parts[-3]}/{path.stem}' for path in CRATES.glob('*/must-fail/*.edit')}
 TRIED = {f'{path.parts[-2]}/{path.stem}' for path in (ROOT / 'tests' / 'tried').glob('*/*.edit')}

@@ -2,7 +2,7 @@
 
 import re
 
-from tests.papers.declared import ALL, CRATES, EDITS, NAMES, ROOT, TRIED, same_crate, sources
+from tests.papers.declared import ALL, CRATES, EDITS, NAMES, ROOT, STATED, TRIED, same_crate, sources
 
 LINK = re.compile(r'\[[^\]]*\]\(([^)#]+)(?:#[^)]*)?\)')
 ANCHOR = re.compile(r'\[[^\]]*\]\(([^)#]*)#([^)]*)\)')
@@ -10,10 +10,10 @@ CODE = re.compile(r'`([^`]+)`')
 PATH = re.compile(r'(?<![\w./-])(?:[\w*.-]+/)*[\w*-]+\.(?:antt|rt|py|sh|h|c|md|svg|txt|edit|sheet|listing)\b|(?<![\w./-])[\w*.-]+(?:/[\w*.-]+)+/?')
 WORD = re.compile(r'[A-Za-z_][\w·*₀-₉-]*(?:::[\w.*]+)*')
 # what stands for any crate or file
-STANDS_FOR_ANY = re.compile(r'^lib\.rt$|(^|/)(C|CRATE|NAME)(/|$)')
+STANDS_FOR_ANY = re.compile(r'^lib\.rt$|^(Invariants|Answers)\.antt$|(^|/)(C|CRATE|NAME)(/|$)')
 # words in backticks that are no names of the repository
 PLAIN = {
-    'the language and its kit': 'requires ensures use do infixl lib Prim mathlib native borrow mir io libc os rt',
+    'the language and its kit': 'requires ensures use do infixl lib Prim mathlib native borrow mir std rt',
     'other programs, and functions of C': 'cc nm read write open close memcpy memset',
     'the sheet and the listing': 'site frame level base refused',
     'what the last line of the gate says': 'N passed, 0 failed',
@@ -128,11 +128,11 @@ class Paper:
         here = set().union(*(NAMES[file] for file in files if file in NAMES))
         fields = set().union(*(NAMES[source] for file in files for source in NAMES if source.suffix == '.rt' and same_crate(file, source)))
         for code in CODE.findall(LINK.sub(' ', cell)):
-            if not WORD.fullmatch(code) and not re.fullmatch(r'-\w+', code):
+            if not WORD.fullmatch(code) and not re.fullmatch(r'_\w+', code):
                 continue
             self.counted['names'] += 1
-            if re.fullmatch(r'-\w+', code):         # the same name with another last word
-                code = last.rsplit('-', 1)[0] + code
+            if re.fullmatch(r'_\w+', code):         # the same name with another last word
+                code = last.rsplit('_', 1)[0] + code
             if '::' in code:
                 first = code.split('::')[0]
                 within = (CRATES / str(crate) / 'src' / f'{first}.rt').exists()
@@ -142,7 +142,7 @@ class Paper:
                 pass
             elif code not in ALL and not (self.path.parent / code).exists():
                 self.say(line, f'not declared: {code}')
-            elif here and ('-' in code or head in STRICT and code not in fields) and code not in here:
+            elif here and (code in STATED or head in STRICT) and code not in fields and code not in here:
                 self.say(line, f'not declared in the files named there: {code}')
             elif crate and head == 'function' and not any(code in names for file, names in NAMES.items() if CRATES / crate in file.parents):
                 self.say(line, f'not declared in {crate}: {code}')

@@ -33,12 +33,12 @@ HEAD = """-- {count} jobs on sites, {basin} in the Basin, {pairs} on sites with 
 -- the roof force, with what the model of tests/ makes of them: data. `python3 -m tests.writes.vectors {seed} {count} {basin} {pairs}` writes
 -- it. A line a row: the unit; the site or the zone; the frame; weights; heights; three fractions for the roots; the printed stages; the exact
 -- figures.
-use mathlib.Core.List.{{List, [], _∷_}}
-use Rattle·whole.specs.Fraction.{{over}}
-use Rattle·limits.specs.declared.class.Class.the-variants.{{Hard, Normal, Soft}}
-use Rattle·limits.specs.declared.kind.Kind.the-variants.{{Steel, Concrete, Braced, Other}}
-use Rattle·limits.specs.declared.zone.Zone.the-variants.{{One, Two, Three, Four}}
-use Rattle·vectors·specs.specs.Vector.{{Vector, vector, basinVector, siteOf, siteOfPairs, frameOf, rootsOf}}
+use Rattle.std.specs.Prelude.{{List, [], ◌∷◌}}
+use Rattle.whole.specs.Fraction.{{over}}
+use Rattle.limits.specs.declared.class.Class.TheVariants.{{Hard, Normal, Soft}}
+use Rattle.limits.specs.declared.kind.Kind.TheVariants.{{Steel, Concrete, Braced, Other}}
+use Rattle.limits.specs.declared.zone.Zone.TheVariants.{{One, Two, Three, Four}}
+use Rattle.vectors.specs.Vector.{{Vector, vector, basin_vector, site_of, site_of_pairs, frame_of, roots_of}}
 
 unfoldable pub rows : List Vector
 rows ="""
@@ -84,9 +84,9 @@ def printed(result):
 def maker(s, ground):
     """How a row begins: what makes the vector, its unit, and the site or the zone."""
     if isinstance(ground, limits.Basin):
-        return f'basinVector {s} {ZONES[ground.zone]}'
+        return f'basin_vector {s} {ZONES[ground.zone]}'
     _, *numbers, cls = first_line(ground)
-    name = 'siteOfPairs' if limits.of_two_pairs(ground) else 'siteOf'
+    name = 'site_of_pairs' if limits.of_two_pairs(ground) else 'site_of'
     return f'vector {s} ({name} {" ".join(map(str, numbers))} {CLASSES[cls]})'
 
 
@@ -115,9 +115,9 @@ def row(result, roots):
     values = [*chain[:4], *chain.storeys]
     kind, *frame_values = result.frame
     return ' '.join((
-        f'{maker(result.s, result.ground)} (frameOf {KINDS[kind]} {" ".join(map(str, frame_values))})',
+        f'{maker(result.s, result.ground)} (frame_of {KINDS[kind]} {" ".join(map(str, frame_values))})',
         f'{numbers(result.weights)} {numbers(result.heights)}',
-        '(rootsOf ' + ' '.join(f'{root.numerator} {root.denominator}' for root in roots) + ')',
+        '(roots_of ' + ' '.join(f'{root.numerator} {root.denominator}' for root in roots) + ')',
         numbers(printed(result)),
         fractions(values),
     ))

@@ -1,4 +1,5 @@
-// Standard output and a reader as the programs use them: bytes and numbers go out one by one, and what is read in fills cells.
+// Bytes and numbers for standard output, and what a reader gives, for the programs that the gate runs. What leaves a program no contract can
+// say; of a reader whose bytes are known, those that came stand in the cells in their order, and no other is gone.
 #![tactic(auto)]
 
 ghost use Rattle.std.specs.Prelude.{take};
