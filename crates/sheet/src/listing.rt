@@ -26,7 +26,7 @@ pub fn put_levels(
     overturnings: &[u64],
 ) -> usize
     requires levelled { Levelled forces.now shears.now overturnings.now }
-    requires overturnings_in_bounds { at + length (all_levels forces.now shears.now overturnings.now) ≤ length out.old }
+    requires levels_fit { at + length (all_levels forces.now shears.now overturnings.now) ≤ length out.old }
     ensures value { result ≡ at + length (all_levels forces.now shears.now overturnings.now) }
     ensures out_after { out.new ≡ spliced out.old at (all_levels forces.now shears.now overturnings.now) }
 {

@@ -29,7 +29,7 @@ pub put_levels-requires : goal.put_levels-requires
 put_levels-requires c =
     let w = began c.args.f c.args.out.now c.requires.0 c.requires.1 c.put_line-p.ensures.out_after c.put_line-p.ensures.value in
     let all = room c.args.f c.args.out.now c.requires.0 c.requires.1 in
-    record { levelled = c.requires.0; overturnings_in_bounds = omega (arith, w, all) }
+    record { levelled = c.requires.0; levels_fit = omega (arith, w, all) }
 
 pub returns : goal.returns
 unfolding results_listing
