@@ -7,7 +7,7 @@ usage: python3 -m tests.papers
   the path before it
 - every name in backticks is declared somewhere; one with `::` in its crate and module; a theorem, and what a column 'definition',
   'theorem' or 'held by' names, in one of the files that its row or paragraph names. A landing note names what there was, and is held to its
-  links and paths alone
+  links and paths alone; what was where before the port (docs/PORT.md, docs/PORT-NAMES.md) to its links alone
 - docs/MAP.md links every landing note
 - docs/PROMISES.md names each public function: by its name in a row or paragraph of its crate, or by `module::*`
 - docs/WRONG.md lists each must-fail edit and no other, says which of code and definition it changes, and 'tried' of those that the gate
@@ -26,12 +26,14 @@ from tests.papers.paper import LINK, Paper
 
 DOCS = ROOT / 'docs'
 NOTES = sorted(DOCS.glob('landings/*.md'))
+PORT = sorted(DOCS.glob('PORT*.md'))
 
 
 def every_paper():
-    """The files that are checked; of a landing note not the names."""
-    named = [*(ROOT / name for name in ('README.md', 'CHANGELOG.md', 'CONTRIBUTING.md')), *sorted(DOCS.glob('*.md')), *sorted(DOCS.glob('manual/*.md'))]
-    return [*map(Paper, named), *(Paper(path, named=False) for path in NOTES)]
+    """The files that are checked; of a landing note not the names, of the pages of the port neither names nor paths."""
+    pages = sorted({*DOCS.glob('*.md')} - {*PORT})
+    named = [*(ROOT / name for name in ('README.md', 'CHANGELOG.md', 'CONTRIBUTING.md')), *pages, *sorted(DOCS.glob('manual/*.md'))]
+    return [*map(Paper, named), *(Paper(path, named=False) for path in NOTES), *(Paper(path, named=False, placed=False) for path in PORT)]
 
 
 def unlinked():

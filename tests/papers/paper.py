@@ -31,8 +31,8 @@ FILES = CRATE_NAMES | {path.name for path in ROOT.iterdir()} | {path.stem for pa
 class Paper:
     """One file of text, read from the top; what is wrong with it."""
 
-    def __init__(self, path, named=True):
-        self.named = named
+    def __init__(self, path, named=True, placed=True):
+        self.named, self.placed = named, placed
         self.path, self.wrong, self.counted = path, [], {'links': 0, 'paths': 0, 'names': 0}
         self.bases, self.head = [], []
 
@@ -96,7 +96,7 @@ class Paper:
         text = re.sub(r'https?://\S+', '', text)
         for target in LINK.findall(text):
             found.append((self.path.parent / target).resolve())
-        for token in PATH.findall(LINK.sub(' ', text)):
+        for token in PATH.findall(LINK.sub(' ', text)) if self.placed else ():
             token = token.rstrip('.')
             if STANDS_FOR_ANY.search(token) or not self.looks_like_path(token):
                 continue
