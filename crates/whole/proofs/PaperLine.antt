@@ -6,6 +6,7 @@ use Prim.Native.Nat.{ℕ, ◌+◌, ◌-◌, ◌*◌, ◌/◌, ◌≤◌, ◌<◌
 use native.Mathlib.Nat.{mul-le-mul, le_of_mul-le-mul_right, dvd-zero, div-mul_cancel}
 use native.Mathlib.Omega.{arith}
 use Rattle.whole.specs.declared.Fraction.{Fraction}
+use Rattle.whole.specs.Root.{Radicand}
 use Rattle.whole.specs.Digits.{Left, Found, taken, Digit, Place}
 use Rattle.whole.proofs.Root.{le_of_square, radicand}
 use Rattle.whole.proofs.Places.{place_positive, tenth, zeros_next}
@@ -19,12 +20,12 @@ pub record Line (s : ℕ) (ρ : Fraction) (last p left k : ℕ) : Type 0 where
   pub found : Found s ρ p k
   pub rest : Left s ρ k left
 
-module _ (s : ℕ) (ρ : Fraction) (hs : s ≤ 10_000_000) (hd : 0 < ρ.den) (hn : ρ.num ≤ 11 * ρ.den) where
+module _ (s : ℕ) (ρ : Fraction) (q : Radicand s ρ) where
   -- what fits is at most 4·10⁷
   pub fits_small : (k : ℕ) → ρ.den * (k * k) ≤ s * s * ρ.num → k ≤ 40_000_000
   fits_small k h =
       le_of_square k 40_000_000
-      (le_of_mul-le-mul_right {k = ρ.den} (omega (arith, h, radicand s ρ.num ρ.den hs hn)) hd)
+      (le_of_mul-le-mul_right {k = ρ.den} (omega (arith, h, radicand s ρ.num ρ.den q.unit_most q.most)) q.positive)
 
   -- before the first digit: no multiple of 10⁸ but 0 fits, and all is left
   pub first_line : (last : ℕ) → last ≤ 10_000_000 → Line s ρ last 100_000_000 (s * s * ρ.num) 0
@@ -53,9 +54,6 @@ module _ (s : ℕ) (ρ : Fraction) (hs : s ≤ 10_000_000) (hd : 0 < ρ.den) (hn
 
       pub next_small : p / 10 ≤ 10_000_000
       next_small = omega (arith, next.1, line.below)
-
-      pub next_less : p / 10 < p
-      next_less = omega (arith, next.1, next_positive)
 
       found_before : Found s ρ (10 * (p / 10)) k
       found_before = subst (λ (q : ℕ). Found s ρ q k) next.1 line.found

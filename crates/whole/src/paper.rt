@@ -4,8 +4,10 @@
 // takes no more than is left: at the place p it takes d (k + c p)² - d k². Where s is a power of ten, what is left ends, from the place s
 // on, in two zeros for each digit still to come. On paper they are not written: two of them are brought down for each digit.
 ghost use Rattle.std.specs.Prelude.{◌≡◌, ◌*◌, ◌≤◌, ◌<◌};
-ghost use Rattle.whole.specs.Fraction.{over};
+ghost use Rattle.whole.specs.Root.{Radicand};
 ghost use Rattle.whole.specs.Digits.{Left, Found, taken, Digit, Place};
+
+use crate::Fraction;
 
 // The place of the first digit: no root reaches 4 * 10^7.
 pub const FIRST: u64 = 10_000_000;
@@ -13,7 +15,7 @@ pub const FIRST: u64 = 10_000_000;
 const DIGIT_MOST: u64 = 9;
 
 // The digits found, with zeros behind them, and what is left beside them.
-#[derive(Clone, Copy)]
+#[derive(Clone, Copy, PartialEq, Eq, Debug)]
 pub struct Digits {
     pub found: u64,
     pub left: u64,
@@ -28,33 +30,31 @@ fn taken(d: u64, k: u64, x: u64) -> u64
 }
 
 // The digit at the place p: a trial by one division, since c takes at least c times what 1 takes there, and corrected downward while it takes
-// more than is left.
+// more than is left. The loop counts no index: c is the digit itself, and a range from the trial down to 1 would need a line for 0.
 fn digit(d: u64, k: u64, p: u64, left: u64) -> u64
     requires { (0 < d) × (d ≤ 1000) × (k ≤ 40_000_000) × (0 < p) × (p ≤ 10_000_000) × (left < taken d k (10 * p)) }
     ensures { Digit d k p left result }
 {
-    let mut c = left / taken(d, k, p);
-    if DIGIT_MOST < c {
-        c = DIGIT_MOST;
-    }
+    let mut c = (left / taken(d, k, p)).min(DIGIT_MOST);
     while left < taken(d, k, c * p) {
         c -= 1;
     }
     c
 }
 
-// The digits of the lower root down to a last place.
-pub fn digits_down_to(s: u64, num: u64, den: u64, last: u64) -> Digits
-    requires { (0 < s) × (s ≤ 10_000_000) × (0 < den) × (den ≤ 1000) × (num ≤ 11 * den) × Place last × (last ≤ 10_000_000) }
-    ensures { Found s (over num den) last result.found × Left s (over num den) result.found result.left }
+// The digits of the lower root of a square in s-ths, down to a last place: p goes down by tenths. The digits and what is left stay two numbers
+// in the loop: as `Digits` they would be taken apart and put together anew at each place.
+pub fn digits_down_to(s: u64, square: Fraction, last: u64) -> Digits
+    requires { Radicand s square × Place last × (last ≤ 10_000_000) }
+    ensures { Found s square last result.found × Left s square result.found result.left }
 {
     let mut k = 0;
-    let mut left = s * s * num;
+    let mut left = s * s * square.num;
     let mut p = 10 * FIRST;
     while last < p {
         p /= 10;
-        let x = digit(den, k, p, left) * p;
-        left -= taken(den, k, x);
+        let x = digit(square.den, k, p, left) * p;
+        left -= taken(square.den, k, x);
         k += x;
     }
     Digits { found: k, left }

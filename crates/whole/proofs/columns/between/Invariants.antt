@@ -1,13 +1,11 @@
--- `whole::columns::between` meets its contract. The invariant: x is past the i-th column, and what the whole table gives at x
--- is what its columns from the i-th on give. Assumes nothing.
+-- `whole::columns::between` meets its contract. The invariant: x is past the column p, and what the whole table gives at x is what p and the columns
+-- behind it give. Assumes nothing.
 use mathlib.Core.Path.{◌≡◌}
-use Prim.Native.Nat.{◌-◌, ◌≤◌, ◌<◌}
-use lib.ListN.{length, get_or, drop}
-use Rattle.whole.specs.Line.{between, column, place}
+use mathlib.Core.List.{◌∷◌}
+use Prim.Native.Nat.{◌<◌}
+use lib.ListN.{drop}
+use Rattle.whole.specs.Line.{between, place}
 use Rattle.whole.proofs.columns.between.Given as goal
 
-abbrev pub invariant-loop-i : goal.invariant-loop-i
-invariant-loop-i l = (l.i ≤ 4) × (length l.t ≡ 5) × (between l.t l.x ≡ between (drop l.i l.t) l.x) × (place (get_or l.t l.i (column 0 0)) < l.x)
-
-abbrev pub decreases-loop-i : goal.decreases-loop-i
-decreases-loop-i l = 4 - l.i
+abbrev pub invariant-loop-q : goal.invariant-loop-q
+invariant-loop-q l = (place l.p < l.x) × (between l.fn.t l.x ≡ between (l.p ∷ drop l.q-index l.q-items) l.x)

@@ -40,9 +40,6 @@ loop-width-init c =
     let e : c.args.m * 0 ^ c.args.p ≡ 0 = rw (z, mul-zero) in
     (c.requires.2, omega arith, omega arith, subst (λ (t : ℕ). c.args.n < c.args.m * t ^ c.args.p) (omega arith) c.requires.4)
 
-pub overflow_add-lo : goal.overflow_add-lo
-overflow_add-lo c = omega (arith, c.loop-width.invariant.1)
-
 pub power-requires : goal.power-requires
 power-requires c =
     let a = c.args in
@@ -54,15 +51,6 @@ overflow_mul-m c =
     let a = c.args in
     let l = c.loop-width in
     omega (arith, ap (λ (x : ℕ). a.m * x) c.power.ensures, term_fits a.m a.p a.top (l.lo + l.width / 2) c.requires.0 (omega (arith, l.invariant.1)) c.requires.3)
-
-pub overflow_add-lo-then-m-power : goal.overflow_add-lo-then-m-power
-overflow_add-lo-then-m-power c = omega (arith, c.loop-width.invariant.1)
-
-pub overflow_sub-width : goal.overflow_sub-width
-overflow_sub-width c = omega arith
-
-pub loop-width-smaller : goal.loop-width-smaller
-loop-width-smaller c = omega (arith, c.loop-width-test.true)
 
 pub loop-width-preserved : goal.loop-width-preserved
 loop-width-preserved c =

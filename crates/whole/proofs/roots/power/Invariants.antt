@@ -1,10 +1,7 @@
--- `whole::roots::power` meets its contract: r is k ^ i at each turn. Assumes nothing.
+-- `whole::roots::power` meets its contract: r is k ^ counter at each turn. Assumes nothing.
 use mathlib.Core.Path.{◌≡◌}
-use Prim.Native.Nat.{◌-◌, ◌^◌, ◌≤◌}
+use Prim.Native.Nat.{◌^◌}
 use Rattle.whole.proofs.roots.power.Given as goal
 
-abbrev pub invariant-loop-i : goal.invariant-loop-i
-invariant-loop-i l = (l.i ≤ l.p) × (l.r ≡ l.k ^ l.i)
-
-abbrev pub decreases-loop-i : goal.decreases-loop-i
-decreases-loop-i l = l.p - l.i
+abbrev pub invariant-loop : goal.invariant-loop
+invariant-loop l = l.r ≡ l.k ^ l.counter

@@ -1,30 +1,21 @@
--- `whole::signs::floor_div` meets its contract: the quotient toward 0, or one less where the remainder is below 0.
--- Assumes nothing.
-use mathlib.Core.Path.{sym, subst, ◌∙◌}
-use lib.IntN.{ℤ}
+-- `whole::signs::floor_div` meets its contract: over a number above 0, `div_euclid` rounds toward minus infinity. Assumes nothing.
+use mathlib.Core.Path.{◌≡◌, refl, ◌∙◌}
+use Prim.Native.Nat.{ℕ}
+use lib.IntN.{ℤ, pos, negsuc}
 use mir.Syntax.{w64}
-use mir.Val.{SFits}
 use mir.Facts.{to_z_pos, to_z-of_z}
-use Rattle.whole.proofs.Floor.{quot_fits, floor_fits, floor_less, floor_same, read_quot, read_rem}
+use Rattle.std.specs.Int.{int_div_euclid}
+use Rattle.whole.specs.Signed.{floor}
+use Rattle.whole.proofs.Floor.{back}
 use Rattle.whole.proofs.signs.floor_div.Goals as goal
 
-pub nonzero_div-q : goal.nonzero_div-q
-nonzero_div-q c = rw (to_z-of_z {w = w64} c.ranges.n, to_z_pos w64 c.requires.1) (c.requires.0, quot_fits _ _ c.ranges.n)
-
-pub nonzero_rem-r : goal.nonzero_rem-r
-nonzero_rem-r c = rw (to_z-of_z {w = w64} c.ranges.n, to_z_pos w64 c.requires.1) (c.requires.0, quot_fits _ _ c.ranges.n)
-
-pub overflow_sub-result : goal.overflow_sub-result
-overflow_sub-result c =
-    let e = floor_less c.args.n c.args.d c.requires.0 (rw (read_rem c.args.n c.args.d c.ranges.n c.requires.1) at c.if-r-lt0.true) in
-    rw (read_quot c.args.n c.args.d c.ranges.n c.requires.1) (subst (λ (z : ℤ). SFits w64 z) (sym e) (floor_fits c.args.n c.args.d c.ranges.n))
-
-pub returns-then-r-lt0 : goal.returns-then-r-lt0
-returns-then-r-lt0 c =
-    let e = floor_less c.args.n c.args.d c.requires.0 (rw (read_rem c.args.n c.args.d c.ranges.n c.requires.1) at c.if-r-lt0.true) in
-    rw (read_quot c.args.n c.args.d c.ranges.n c.requires.1, e) (to_z-of_z (floor_fits c.args.n c.args.d c.ranges.n))
+floor_is : (z : ℤ) (d : ℕ) → int_div_euclid z (pos d) ≡ floor z d
+unfolding floor
+floor_is (pos a) d = refl
+floor_is (negsuc a) d = refl
 
 pub returns : goal.returns
 returns c =
-    read_quot c.args.n c.args.d c.ranges.n c.requires.1
-    ∙ floor_same c.args.n c.args.d c.requires.0 (rw (read_rem c.args.n c.args.d c.ranges.n c.requires.1) at c.if-r-lt0.false)
+    back _ c.div_euclid.type_inv
+    ∙ (rw (to_z-of_z {w = w64} c.ranges.n, to_z_pos w64 c.requires.1) at c.div_euclid.ensures)
+    ∙ floor_is c.args.n c.args.d
