@@ -11,7 +11,8 @@ use native.Mathlib.Omega.{arith}
 use lib.Dec.{leb}
 use lib.IntN.{ℤ, pos}
 use lib.ListN.{length, get_or, drop}
-use lib.Seq.{drop-cons, drop-length}
+use lib.Seq.{drop-cons}
+use Rattle.std.proofs.Math.ListN.{drop_of_length-le}
 use borrow.Author.Tests.{leb-true, leb-false, lt-leb}
 use Rattle.whole.specs.Signed.{size}
 use Rattle.limits.specs.Displacement.{judged_displacement, displaced}
@@ -28,9 +29,9 @@ module _ (zs : List ℤ) (p i : ℕ) (h : i < length zs) where
   unfolding displaced
   displaced_step = rw (add-one i, drop-cons zs i (pos 0) h)
 
-pub displaced_end : (zs : List ℤ) (p : ℕ) → displaced p (drop (length zs) zs) ≡ accepted tt
+pub displaced_end : (zs : List ℤ) (p i : ℕ) → length zs ≤ i → displaced p (drop i zs) ≡ accepted tt
 unfolding displaced
-displaced_end zs p = rw (drop-length zs)
+displaced_end zs p i h = rw (drop_of_length-le zs h)
 
 -- ---- refusals
 pub displaced_up_to : (m : ℕ) → NoLater 23 m → (p : ℕ) (zs : List ℤ) → UpTo m (displaced p zs)

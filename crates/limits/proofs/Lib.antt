@@ -1,8 +1,8 @@
 pub mod Examples
 pub mod Passed
 pub mod Listed
-pub mod Stages
 pub mod Lists
+pub mod Exit
 pub mod Unique
 pub mod FramePassed
 pub mod Spread

@@ -1,27 +1,14 @@
--- Whether a number is among the values from the i-th on.
+-- Whether a number is among the values: what the library's `contains` answers.
 -- Assumes nothing.
-use mathlib.Core.Path.{◌≡◌, ◌∙◌}
-use mathlib.Core.Bool.{true, false, ◌||◌}
-use mathlib.Core.List.{List}
-use Prim.Native.Nat.{ℕ, ◌+◌, ◌<◌}
-use native.Mathlib.Numerals.{add-one}
+use mathlib.Core.Path.{◌≡◌, refl, ap}
+use mathlib.Core.List.{List, [], ◌∷◌}
+use mathlib.Core.Bool.{◌||◌}
+use Prim.Native.Nat.{ℕ}
 use lib.Dec.{eqb}
-use lib.ListN.{length, get_or, drop}
-use lib.Seq.{drop-cons, drop-length}
-use borrow.Author.Tests.{eq-eqb, ne_eqb}
+use Rattle.std.specs.List.{list_any}
 use Rattle.limits.specs.Ranges.{among}
 
-module _ (vs : List ℕ) (x i : ℕ) (h : i < length vs) where
-  step : among (drop i vs) x ≡ (eqb (get_or vs i 0) x || among (drop (i + 1) vs) x)
-  unfolding among
-  step = rw (add-one i, drop-cons vs i 0 h)
-
-  pub found : get_or vs i 0 ≡ x → among (drop i vs) x ≡ true
-  found e = step ∙ rw (eq-eqb _ _ e)
-
-  pub passed : (get_or vs i 0 ≡ x → ⊥) → among (drop i vs) x ≡ among (drop (i + 1) vs) x
-  passed e = step ∙ rw (ne_eqb _ _ e)
-
-pub none_left : (vs : List ℕ) (x : ℕ) → among (drop (length vs) vs) x ≡ false
+pub any_among : (vs : List ℕ) (x : ℕ) → list_any (λ y. eqb y x) vs ≡ among vs x
 unfolding among
-none_left vs x = rw (drop-length vs)
+any_among [] x = refl
+any_among (v ∷ vs) x = ap (λ b. eqb v x || b) (any_among vs x)

@@ -3,16 +3,13 @@
 --   judged_on_site v     5 to 7: the site of values v, as a ground
 --   judged_in_basin n    18: the zone of number n, as a ground
 --   judged_ground v      the one or the other: 18 stands where 5 to 7 stand
---   ground_outcome a     what the code's answer a says
 use Rattle.std.specs.Prelude.{ℕ}
 use Rattle.limits.specs.declared.ground.Ground.{Ground}
 use Rattle.limits.specs.declared.ground.Ground.TheVariants.{Site as OnSite, Basin as InBasin}
-use Rattle.limits.specs.declared.ground.GroundAnswer.{GroundAnswer}
-use Rattle.limits.specs.declared.ground.GroundAnswer.TheVariants.{Taken, Refused}
 use Rattle.limits.specs.declared.ground.GroundValues.{GroundValues}
 use Rattle.limits.specs.declared.ground.GroundValues.TheVariants.{Site, Basin}
 use Rattle.limits.specs.declared.site.SiteValues.{SiteValues}
-use Rattle.limits.specs.Outcome.{Outcome, accepted, refused, ◌>>=◌}
+use Rattle.limits.specs.Outcome.{Outcome, accepted, ◌>>=◌}
 use Rattle.limits.specs.Site.{judged_site}
 use Rattle.limits.specs.Zone.{judged_zone}
 
@@ -29,7 +26,3 @@ judged_in_basin n = do
 abbrev pub judged_ground : GroundValues → Outcome Ground
 judged_ground (Site v) = judged_on_site v
 judged_ground (Basin n) = judged_in_basin n
-
-abbrev pub ground_outcome : GroundAnswer → Outcome Ground
-ground_outcome (Taken g) = accepted g
-ground_outcome (Refused r) = refused r.number r.place

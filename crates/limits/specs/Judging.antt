@@ -6,20 +6,17 @@
 --   judged_distribution v t ws hs room     of the distribution: levels (1 to 4), base shear (19), period (20)
 --   judged_row_levels start count ws hs    of the levels that a row of a district names in the store ws and hs: its stretch (21), then 1 to 4, with no buffer
 --   judged_row G f start count ws hs       of such a row: these, ground, frame
---   given_outcome a                        what the code's answer a says
 use Rattle.std.specs.Prelude.{List, ℕ, length}
 use Rattle.limits.specs.declared.frame.FrameValues.{FrameValues}
 use Rattle.limits.specs.declared.ground.GroundValues.{GroundValues}
 use Rattle.limits.specs.declared.judging.Given.{Given}
-use Rattle.limits.specs.declared.judging.GivenAnswer.{GivenAnswer}
-use Rattle.limits.specs.declared.judging.GivenAnswer.TheVariants.{Taken, Refused}
 use Rattle.limits.specs.Building.{judged_building}
 use Rattle.limits.specs.District.{stretch, judged_stretch}
 use Rattle.limits.specs.Frame.{judged_frame}
 use Rattle.limits.specs.Ground.{judged_ground}
 use Rattle.limits.specs.Handed.{judged_handed}
 use Rattle.limits.specs.Levels.{judged_levels}
-use Rattle.limits.specs.Outcome.{Outcome, accepted, refused, Done, ◌>>=◌, ◌>>◌}
+use Rattle.limits.specs.Outcome.{Outcome, accepted, Done, ◌>>=◌, ◌>>◌}
 
 abbrev pub judged_given : Outcome Done → (ground : GroundValues) → FrameValues → Outcome Given
 judged_given o G f = do
@@ -46,7 +43,3 @@ judged_row_levels start count ws hs = do
 
 unfoldable pub judged_row : GroundValues → FrameValues → ℕ → ℕ → List ℕ → List ℕ → Outcome Given
 judged_row G f start count ws hs = judged_given (judged_row_levels start count ws hs) G f
-
-abbrev pub given_outcome : GivenAnswer → Outcome Given
-given_outcome (Taken g) = accepted g
-given_outcome (Refused r) = refused r.number r.place

@@ -6,14 +6,11 @@
 --   raised b p hs      4: the first height that is not 1 to 2,000 dm or not above the one below it, b below the first
 --   judged_levels ws hs room    1, 2, 3, 4 in turn; room is the length of the shortest result buffer
 --   top_height hs       h, the top height: the last of the heights
---   level_outcome a     what the code's answer a says
 use Rattle.std.specs.Prelude.{List, [], ◌∷◌, ℕ, ◌+◌, ltb, length}
 use Rattle.limits.specs.declared.level.Level.{Level}
-use Rattle.limits.specs.declared.level.LevelAnswer.{LevelAnswer}
-use Rattle.limits.specs.declared.level.LevelAnswer.TheVariants.{Taken, Refused}
 use Rattle.limits.specs.Lengths.{same_length, roomy}
 use Rattle.limits.specs.Ranges.{within}
-use Rattle.limits.specs.Outcome.{Outcome, accepted, refused, Done, require, ◌>>◌}
+use Rattle.limits.specs.Outcome.{Outcome, accepted, Done, require, ◌>>◌}
 
 abbrev pub counted : ℕ → Outcome Done
 counted n = within 1 50 n 1 0
@@ -56,7 +53,3 @@ abbrev pub top_height : List ℕ → ℕ
 top_height [] = 0
 top_height (h ∷ []) = h
 top_height (h ∷ (k ∷ hs)) = top_height (k ∷ hs)
-
-abbrev pub level_outcome : LevelAnswer → Outcome Level
-level_outcome (Taken l) = accepted l
-level_outcome (Refused r) = refused r.number r.place

@@ -1,3 +1,4 @@
+pub mod Number
 pub mod Outcome
 pub mod Order
 pub mod Ranges
@@ -15,6 +16,7 @@ pub mod Site
 pub mod Zone
 pub mod Ground
 pub mod Kind
+pub mod LayerKind
 pub mod Frame
 pub mod Judging
 pub mod DriftJudging

@@ -1,17 +1,16 @@
 -- What comes back: document 01's number and place, with values where data is accepted.
 --   Outcome A            accepted with a value, or refused with a number and a place
 --   number, place        0 on success
---   refusal_of o         what is refused: number and place, zeros where data is accepted
 --   zeros n              n zeros
 --   values f n           the values f of what is accepted; n zeros where data is refused
 --   do a; b              judgments taken one after the other: the first that refuses is the outcome
 --   Done                 the value of a judgment that hands on none
 --   require t n p        passes where the test t holds, else refused with number n at place p
---   verdict_outcome v    what the code's answer v says, and so for each answer that is an enum
-use Rattle.std.specs.Prelude.{Bool, true, false, List, [], ◌∷◌, ℕ, zero, suc}
+--   Answer A             what the code answers: a value, or the refusal
+--   outcome r            what the answer r says
+--   done_only o          what is left of an outcome without its value
+use Rattle.std.specs.Prelude.{Bool, true, false, List, [], ◌∷◌, ℕ, zero, suc, Result, Ok, Err}
 use Rattle.limits.specs.declared.refusal.Refusal.{Refusal}
-use Rattle.limits.specs.declared.refusal.Verdict.{Verdict}
-use Rattle.limits.specs.declared.refusal.Verdict.TheVariants.{Passed, Refused}
 
 pub data Outcome (A : Type 0) : Type 0 where
   accepted : A → Outcome A
@@ -24,10 +23,6 @@ number (refused n p) = n
 abbrev pub place : {A : Type 0} → Outcome A → ℕ
 place (accepted a) = 0
 place (refused n p) = p
-
-abbrev pub refusal_of : {A : Type 0} → Outcome A → Refusal
-refusal_of (accepted a) = record { number = 0; place = 0 }
-refusal_of (refused n p) = record { number = n; place = p }
 
 abbrev pub zeros : ℕ → List ℕ
 zeros zero = []
@@ -54,6 +49,15 @@ abbrev pub require : Bool → ℕ → ℕ → Outcome Done
 require true n p = accepted tt
 require false n p = refused n p
 
-abbrev pub verdict_outcome : Verdict → Outcome Done
-verdict_outcome Passed = accepted tt
-verdict_outcome (Refused r) = refused r.number r.place
+abbrev pub Answer : Type 0 → Type 0
+Answer A = Result A Refusal
+
+abbrev pub outcome : {A : Type 0} → Answer A → Outcome A
+outcome (Ok a) = accepted a
+outcome (Err r) = refused r.number r.place
+
+-- what is left of an outcome without its value
+abbrev pub done_only : {A : Type 0} → Outcome A → Outcome Done
+done_only o = do
+  a ← o
+  accepted tt

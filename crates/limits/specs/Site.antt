@@ -1,18 +1,30 @@
 -- Numbers 5 to 7: the site.
+--   site_values ns         the values that nine numbers write, in sheet order
 --   judged_mapped v        5: a mapped value that is not listed, places 1 to 4 in sheet order
 --   judged_near_fault v    6: N_A not 1.00 to 1.50, place 1; N_V not 1.00 to 2.00, place 2; those of the MCE level, places 3 and 4
 --   site_of v c            the judged site of values v and class c
 --   judged_site v          5, 6, 7 in turn
---   site_outcome a         what the code's answer a says
-use Rattle.std.specs.Prelude.{[], ◌∷◌}
+use Rattle.std.specs.Prelude.{List, [], ◌∷◌, ℕ, get_or}
 use Rattle.limits.specs.declared.class.Class.{Class}
 use Rattle.limits.specs.declared.site.Site.{Site}
-use Rattle.limits.specs.declared.site.SiteAnswer.{SiteAnswer}
-use Rattle.limits.specs.declared.site.SiteAnswer.TheVariants.{Taken, Refused}
 use Rattle.limits.specs.declared.site.SiteValues.{SiteValues}
 use Rattle.limits.specs.Class.{judged_class}
-use Rattle.limits.specs.Outcome.{Outcome, accepted, refused, Done, ◌>>=◌, ◌>>◌}
+use Rattle.limits.specs.Outcome.{Outcome, accepted, Done, ◌>>=◌, ◌>>◌}
 use Rattle.limits.specs.Ranges.{within, listed}
+
+abbrev pub site_values : List ℕ → SiteValues
+site_values ns =
+    record {
+      ssd = get_or ns 0 0;
+      s1d = get_or ns 1 0;
+      ssm = get_or ns 2 0;
+      s1m = get_or ns 3 0;
+      nad = get_or ns 4 0;
+      nvd = get_or ns 5 0;
+      nam = get_or ns 6 0;
+      nvm = get_or ns 7 0;
+      class = get_or ns 8 0;
+    }
 
 abbrev pub site_of : SiteValues → Class → Site
 site_of v c =
@@ -48,7 +60,3 @@ judged_site v = do
   judged_near_fault v
   c ← judged_class v.class
   accepted (site_of v c)
-
-abbrev pub site_outcome : SiteAnswer → Outcome Site
-site_outcome (Taken s) = accepted s
-site_outcome (Refused r) = refused r.number r.place

@@ -1,58 +1,30 @@
 // The site class: 7.
 ghost use Rattle.std.specs.Prelude.{◌≡◌};
-ghost use Rattle.limits.specs.Class.{judged_class, class_outcome};
-ghost use Rattle.limits.specs.Outcome.{refusal_of};
+ghost use Rattle.limits.specs.Class.{judged_class};
+ghost use Rattle.limits.specs.Outcome.{outcome};
 
-use crate::refusal::Refusal;
+use crate::refusal::{Number, Refusal};
 
-// The site class of Table 3.
-#[derive(Clone, Copy)]
+// The site class of Table 3, by its number.
+#[derive(Clone, Copy, Debug, PartialEq, Eq)]
 pub enum Class {
-    Hard,
-    Normal,
-    Soft,
+    Hard = 1,
+    Normal = 2,
+    Soft = 3,
 }
 
-#[derive(Clone, Copy)]
-pub enum ClassAnswer {
-    Taken(Class),
-    Refused(Refusal),
-}
+impl TryFrom<u64> for Class {
+    type Error = Refusal;
 
-impl ClassAnswer {
-    // What it refuses with; where it refuses nothing, zeros.
-    pub fn refusal(self) -> Refusal
-        ensures { result ≡ refusal_of (class_outcome self) }
-    {
-        match self {
-            ClassAnswer::Taken(_) => Refusal::none(),
-            ClassAnswer::Refused(r) => r,
+    ghost try_from_gives = { λ number answer. outcome answer ≡ judged_class number };
+
+    #[tactic(auto, unfolding(crate::specs::Class::judged_class))]
+    fn try_from(number: u64) -> Result<Class, Refusal> {
+        match number {
+            1 => Ok(Class::Hard),
+            2 => Ok(Class::Normal),
+            3 => Ok(Class::Soft),
+            _ => Err(Number::Class.into()),
         }
-    }
-}
-
-impl Class {
-    pub const HARD: u64 = 1;
-
-    pub const NORMAL: u64 = 2;
-
-    pub const SOFT: u64 = 3;
-
-    pub fn judged(number: u64) -> ClassAnswer
-        ensures { class_outcome result ≡ judged_class number }
-    {
-        if number == Self::HARD {
-            return ClassAnswer::Taken(Class::Hard);
-        }
-        if number == Self::NORMAL {
-            return ClassAnswer::Taken(Class::Normal);
-        }
-        if number == Self::SOFT {
-            return ClassAnswer::Taken(Class::Soft);
-        }
-        ClassAnswer::Refused(Refusal {
-            number: Refusal::CLASS,
-            place: Refusal::NOWHERE,
-        })
     }
 }

@@ -1,9 +1,10 @@
 // A district: up to 256 jobs that name stretches of one store of levels; 21 of a stretch, 22 of the whole call.
 ghost use Rattle.std.specs.Prelude.{◌≡◌};
 ghost use Rattle.limits.specs.District.{judged_stretch, judged_district};
-ghost use Rattle.limits.specs.Outcome.{verdict_outcome};
+ghost use Rattle.limits.specs.Outcome.{outcome};
 
-use crate::refusal::{Refusal, Verdict};
+use crate::ranges::require;
+use crate::refusal::{Number, Refusal};
 
 // A stretch of a store: where it starts, from 0, and how many levels it has.
 #[derive(Clone, Copy)]
@@ -14,18 +15,14 @@ pub struct Stretch {
 
 impl Stretch {
     // 21, in a store of so many levels: start and count are not added, as the sum could wrap.
-    pub fn judged(store: u64, start: u64, count: u64) -> Verdict
-        ensures { verdict_outcome result ≡ judged_stretch store start count }
+    #[tactic(auto, unfolding(crate::specs::District::judged_stretch))]
+    pub fn judged(self, store: u64) -> Result<(), Refusal>
+        ensures { outcome result ≡ judged_stretch store self.start self.count }
     {
-        if start <= store {
-            if count <= store - start {
-                return Verdict::Passed;
-            }
-        }
-        Verdict::Refused(Refusal {
-            number: Refusal::STRETCH,
-            place: Refusal::NOWHERE,
-        })
+        require(
+            self.start <= store && self.count <= store - self.start,
+            Number::Stretch.into(),
+        )
     }
 }
 
@@ -39,19 +36,13 @@ impl District {
     pub const JOBS_MOST: usize = 256;
 
     // 22, of the whole call: how many jobs, weights and heights of the store, and rows it has.
-    pub fn judged(jobs: usize, weights: usize, heights: usize, rows: usize) -> Verdict
-        ensures { verdict_outcome result ≡ judged_district jobs weights heights rows }
+    #[tactic(auto, unfolding(crate::specs::District::judged_district))]
+    pub fn judged(jobs: usize, weights: usize, heights: usize, rows: usize) -> Result<(), Refusal>
+        ensures { outcome result ≡ judged_district jobs weights heights rows }
     {
-        if jobs <= Self::JOBS_MOST {
-            if heights == weights {
-                if jobs <= rows {
-                    return Verdict::Passed;
-                }
-            }
-        }
-        Verdict::Refused(Refusal {
-            number: Refusal::DISTRICT,
-            place: Refusal::NOWHERE,
-        })
+        require(
+            jobs <= Self::JOBS_MOST && heights == weights && jobs <= rows,
+            Number::District.into(),
+        )
     }
 }

@@ -1,7 +1,7 @@
 // All that is judged of drift and of accidental moments, and in which order.
 ghost use Rattle.std.specs.Prelude.{◌≡◌};
 ghost use Rattle.limits.specs.DriftJudging.{judged_drift, judged_moments};
-ghost use Rattle.limits.specs.Outcome.{verdict_outcome};
+ghost use Rattle.limits.specs.Outcome.{outcome};
 
 use crate::displacement::displaced;
 use crate::drift_limit::DriftLimit;
@@ -9,36 +9,28 @@ use crate::judging::judged_distribution;
 use crate::lengths::{roomy, same_length};
 use crate::levels::{counted, raised};
 use crate::plan::Plan;
-use crate::refusal::Verdict;
+use crate::refusal::Refusal;
 
 // 1, on the heights, 2, 4, 23 and 24 in turn, with room cells in the result buffer.
-pub fn judged_drift(heights: &[u64], displacements: &[i64], limit: u64, room: usize) -> Verdict
-    ensures { verdict_outcome result ≡ judged_drift heights.now displacements.now limit room }
+#[tactic(auto, unfolding(crate::specs::DriftJudging::judged_drift))]
+pub fn judged_drift(
+    heights: &[u64],
+    displacements: &[i64],
+    limit: u64,
+    room: usize,
+) -> Result<(), Refusal>
+    ensures { outcome result ≡ judged_drift heights.now displacements.now limit room }
 {
-    let count = counted(heights.len());
-    let Verdict::Passed = count else {
-        return count;
-    };
-    let lengths = same_length(heights.len(), displacements.len());
-    let Verdict::Passed = lengths else {
-        return lengths;
-    };
-    let cells = roomy(heights.len(), room);
-    let Verdict::Passed = cells else {
-        return cells;
-    };
-    let height = raised(heights);
-    let Verdict::Passed = height else {
-        return height;
-    };
-    let displacement = displaced(displacements);
-    let Verdict::Passed = displacement else {
-        return displacement;
-    };
+    counted(heights.len())?;
+    same_length(heights.len(), displacements.len())?;
+    roomy(heights.len(), room)?;
+    raised(heights)?;
+    displaced(displacements)?;
     DriftLimit::judged(limit)
 }
 
 // As the distribution is judged, then 26, with room cells in the shorter result buffer.
+#[tactic(auto, unfolding(crate::specs::DriftJudging::judged_moments))]
 pub fn judged_moments(
     shear: u64,
     period: u64,
@@ -46,12 +38,9 @@ pub fn judged_moments(
     heights: &[u64],
     dimension: u64,
     room: usize,
-) -> Verdict
-    ensures { verdict_outcome result ≡ judged_moments shear period weights.now heights.now dimension room }
+) -> Result<(), Refusal>
+    ensures { outcome result ≡ judged_moments shear period weights.now heights.now dimension room }
 {
-    let v = judged_distribution(shear, period, weights, heights, room);
-    let Verdict::Passed = v else {
-        return v;
-    };
+    judged_distribution(shear, period, weights, heights, room)?;
     Plan::judged_dimension(dimension)
 }

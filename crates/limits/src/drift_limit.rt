@@ -1,10 +1,10 @@
 // The limit by which drift is judged: 24.
 ghost use Rattle.std.specs.Prelude.{◌≡◌};
 ghost use Rattle.limits.specs.DriftLimit.{judged_drift_limit};
-ghost use Rattle.limits.specs.Outcome.{verdict_outcome};
+ghost use Rattle.limits.specs.Outcome.{outcome};
 
 use crate::ranges::within;
-use crate::refusal::{Refusal, Verdict};
+use crate::refusal::{Number, Refusal};
 
 // A limit of the drift angle, in ten-thousandths.
 #[derive(Clone, Copy)]
@@ -18,15 +18,9 @@ impl DriftLimit {
     pub const MOST: u64 = 10_000;
 
     // 24.
-    pub fn judged(limit: u64) -> Verdict
-        ensures { verdict_outcome result ≡ judged_drift_limit limit }
+    pub fn judged(limit: u64) -> Result<(), Refusal>
+        ensures { outcome result ≡ judged_drift_limit limit }
     {
-        within(
-            Self::LEAST,
-            Self::MOST,
-            limit,
-            Refusal::DRIFT_LIMIT,
-            Refusal::NOWHERE,
-        )
+        within(Self::LEAST, Self::MOST, limit, Number::DriftLimit.into())
     }
 }

@@ -1,11 +1,11 @@
 // A floor: its largest and its average displacement in 0.01 mm, without a sign; 23 and 25.
 ghost use Rattle.std.specs.Prelude.{◌≡◌};
 ghost use Rattle.limits.specs.Floor.{judged_unsigned, judged_average, judged_floor};
-ghost use Rattle.limits.specs.Outcome.{verdict_outcome};
+ghost use Rattle.limits.specs.Outcome.{outcome};
 
 use crate::displacement::Displacement;
 use crate::ranges::within;
-use crate::refusal::{Refusal, Verdict};
+use crate::refusal::{Number, Refusal};
 
 #[derive(Clone, Copy)]
 pub struct Floor {
@@ -19,43 +19,36 @@ impl Floor {
     pub const AVERAGE_LEAST: u64 = 1;
 
     // 23, of either displacement.
-    fn judged_unsigned(d: u64) -> Verdict
-        ensures { verdict_outcome result ≡ judged_unsigned d }
+    fn judged_unsigned(d: u64) -> Result<(), Refusal>
+        ensures { outcome result ≡ judged_unsigned d }
     {
         within(
             Self::DISPLACEMENT_LEAST,
             Displacement::SIZE_MOST,
             d,
-            Refusal::DISPLACEMENT,
-            Refusal::NOWHERE,
+            Number::Displacement.into(),
         )
     }
 
     // 25: an average of 0, or above the largest.
-    fn judged_average(largest: u64, average: u64) -> Verdict
-        ensures { verdict_outcome result ≡ judged_average largest average }
+    fn judged_average(self) -> Result<(), Refusal>
+        ensures { outcome result ≡ judged_average self.largest self.average }
     {
         within(
             Self::AVERAGE_LEAST,
-            largest,
-            average,
-            Refusal::AVERAGE,
-            Refusal::NOWHERE,
+            self.largest,
+            self.average,
+            Number::Average.into(),
         )
     }
 
     // 23, of the largest and of the average displacement, then 25.
-    pub fn judged(largest: u64, average: u64) -> Verdict
-        ensures { verdict_outcome result ≡ judged_floor largest average }
+    #[tactic(auto, unfolding(crate::specs::Floor::judged_floor))]
+    pub fn judged(self) -> Result<(), Refusal>
+        ensures { outcome result ≡ judged_floor self.largest self.average }
     {
-        let l = Self::judged_unsigned(largest);
-        let Verdict::Passed = l else {
-            return l;
-        };
-        let a = Self::judged_unsigned(average);
-        let Verdict::Passed = a else {
-            return a;
-        };
-        Self::judged_average(largest, average)
+        Self::judged_unsigned(self.largest)?;
+        Self::judged_unsigned(self.average)?;
+        self.judged_average()
     }
 }

@@ -1,11 +1,11 @@
 // The frame line of a job: kind, calculated period, R, I and alpha-y, with their limits and their judgments, 8 to 12.
-ghost use Rattle.std.specs.Prelude.{◌≡◌};
-ghost use Rattle.limits.specs.Frame.{judged_period, judged_frame, frame_outcome};
-ghost use Rattle.limits.specs.Outcome.{refusal_of, verdict_outcome};
+ghost use Rattle.std.specs.Prelude.{◌≡◌, ◌≤◌, length};
+ghost use Rattle.limits.specs.Frame.{frame_values, judged_period, judged_frame};
+ghost use Rattle.limits.specs.Outcome.{outcome};
 
-use crate::kind::{Kind, KindAnswer};
+use crate::kind::Kind;
 use crate::ranges::{listed, within};
-use crate::refusal::{Refusal, Verdict};
+use crate::refusal::{Number, Refusal};
 
 // The frame line as it comes: kind; calculated period in ms; R, I and alpha-y in 0.01.
 #[derive(Clone, Copy)]
@@ -17,6 +17,22 @@ pub struct FrameValues {
     pub alpha: u64,
 }
 
+impl FrameValues {
+    // Of the five numbers of a frame line, in its order.
+    pub fn of(numbers: &[u64]) -> FrameValues
+        requires { 5 ≤ length numbers.now }
+        ensures { result ≡ frame_values numbers.now }
+    {
+        FrameValues {
+            kind: numbers[0],
+            calculated: numbers[1],
+            r: numbers[2],
+            i: numbers[3],
+            alpha: numbers[4],
+        }
+    }
+}
+
 // The frame line, judged.
 #[derive(Clone, Copy)]
 pub struct Frame {
@@ -25,24 +41,6 @@ pub struct Frame {
     pub r: u64,
     pub i: u64,
     pub alpha: u64,
-}
-
-#[derive(Clone, Copy)]
-pub enum FrameAnswer {
-    Taken(Frame),
-    Refused(Refusal),
-}
-
-impl FrameAnswer {
-    // What it refuses with; where it refuses nothing, zeros.
-    pub fn refusal(self) -> Refusal
-        ensures { result ≡ refusal_of (frame_outcome self) }
-    {
-        match self {
-            FrameAnswer::Taken(_) => Refusal::none(),
-            FrameAnswer::Refused(r) => r,
-        }
-    }
 }
 
 impl Frame {
@@ -63,59 +61,37 @@ impl Frame {
     pub const PERIOD_MOST: u64 = 60_000;
 
     // 12: the calculated period.
-    fn judged_period(calculated: u64) -> Verdict
-        ensures { verdict_outcome result ≡ judged_period calculated }
+    #[tactic(auto, unfolding(crate::specs::Frame::judged_period))]
+    fn judged_period(calculated: u64) -> Result<(), Refusal>
+        ensures { outcome result ≡ judged_period calculated }
     {
         if calculated == Self::NO_PERIOD {
-            return Verdict::Passed;
+            return Ok(());
         }
-        let most = Self::PERIOD_MOST;
         within(
             Self::PERIOD_LEAST,
-            most,
+            Self::PERIOD_MOST,
             calculated,
-            Refusal::PERIOD,
-            Refusal::NOWHERE,
+            Number::Period.into(),
         )
     }
 
     // 8 to 12 in turn.
-    pub fn judged(v: FrameValues) -> FrameAnswer
-        ensures { frame_outcome result ≡ judged_frame v }
+    #[tactic(auto, unfolding(crate::specs::Frame::judged_frame))]
+    pub fn judged(v: FrameValues) -> Result<Frame, Refusal>
+        ensures { outcome result ≡ judged_frame v }
     {
-        let ductility = within(
-            Self::R_LEAST,
-            Self::R_MOST,
-            v.r,
-            Refusal::R,
-            Refusal::NOWHERE,
-        );
-        let Verdict::Passed = ductility else {
-            return FrameAnswer::Refused(ductility.refusal());
-        };
-        let importance = listed(&Self::I_VALUES, v.i, Refusal::I, Refusal::NOWHERE);
-        let Verdict::Passed = importance else {
-            return FrameAnswer::Refused(importance.refusal());
-        };
-        let alpha = within(
+        within(Self::R_LEAST, Self::R_MOST, v.r, Number::R.into())?;
+        listed(&Self::I_VALUES, v.i, Number::I.into())?;
+        within(
             Self::ALPHA_LEAST,
             Self::ALPHA_MOST,
             v.alpha,
-            Refusal::ALPHA_Y,
-            Refusal::NOWHERE,
-        );
-        let Verdict::Passed = alpha else {
-            return FrameAnswer::Refused(alpha.refusal());
-        };
-        let k = Kind::judged(v.kind);
-        let KindAnswer::Taken(kind) = k else {
-            return FrameAnswer::Refused(k.refusal());
-        };
-        let period = Self::judged_period(v.calculated);
-        let Verdict::Passed = period else {
-            return FrameAnswer::Refused(period.refusal());
-        };
-        FrameAnswer::Taken(Frame {
+            Number::AlphaY.into(),
+        )?;
+        let kind = Kind::try_from(v.kind)?;
+        Self::judged_period(v.calculated)?;
+        Ok(Frame {
             kind,
             calculated: v.calculated,
             r: v.r,

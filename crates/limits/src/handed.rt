@@ -1,10 +1,10 @@
 // What is handed to the distribution beside the levels: 19 and 20.
 ghost use Rattle.std.specs.Prelude.{◌≡◌};
 ghost use Rattle.limits.specs.Handed.{judged_handed};
-ghost use Rattle.limits.specs.Outcome.{verdict_outcome};
+ghost use Rattle.limits.specs.Outcome.{outcome};
 
 use crate::ranges::within;
-use crate::refusal::{Refusal, Verdict};
+use crate::refusal::{Number, Refusal};
 
 // A base shear in N, and a period in ms.
 #[derive(Clone, Copy)]
@@ -23,25 +23,21 @@ impl Handed {
     pub const PERIOD_MOST: u64 = 9_999;
 
     // 19, of the base shear, then 20, of the period.
-    pub fn judged(shear: u64, period: u64) -> Verdict
-        ensures { verdict_outcome result ≡ judged_handed shear period }
+    #[tactic(auto, unfolding(crate::specs::Handed::judged_handed))]
+    pub fn judged(self) -> Result<(), Refusal>
+        ensures { outcome result ≡ judged_handed self.shear self.period }
     {
-        let base = within(
+        within(
             Self::SHEAR_LEAST,
             Self::SHEAR_MOST,
-            shear,
-            Refusal::BASE_SHEAR,
-            Refusal::NOWHERE,
-        );
-        let Verdict::Passed = base else {
-            return base;
-        };
+            self.shear,
+            Number::BaseShear.into(),
+        )?;
         within(
             Self::PERIOD_LEAST,
             Self::PERIOD_MOST,
-            period,
-            Refusal::PERIOD_HANDED,
-            Refusal::NOWHERE,
+            self.period,
+            Number::PeriodHanded.into(),
         )
     }
 }

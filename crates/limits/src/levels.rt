@@ -1,78 +1,57 @@
 // The levels of a job, judged together: 1 to 4. Drift judges their number and their heights.
 ghost use Rattle.std.specs.Prelude.{◌≡◌};
 ghost use Rattle.limits.specs.Levels.{counted, weighed, raised, judged_levels};
-ghost use Rattle.limits.specs.Outcome.{verdict_outcome};
+ghost use Rattle.limits.specs.Outcome.{outcome};
 
 use crate::lengths::{roomy, same_length};
 use crate::level::Level;
 use crate::ranges::within;
-use crate::refusal::{Refusal, Verdict};
+use crate::refusal::{Number, Refusal};
 
 // 1: the number of levels.
-pub fn counted(levels: usize) -> Verdict
-    ensures { verdict_outcome result ≡ counted levels }
+pub fn counted(levels: usize) -> Result<(), Refusal>
+    ensures { outcome result ≡ counted levels }
 {
     within(
         Level::FEWEST,
         Level::MOST,
         levels as u64,
-        Refusal::LEVELS,
-        Refusal::NOWHERE,
+        Number::Levels.into(),
     )
 }
 
 // 3: the weights.
-pub fn weighed(weights: &[u64]) -> Verdict
-    ensures { verdict_outcome result ≡ weighed 1 weights.now }
+#[tactic(auto, using(crate::proofs::Lists::weights_step, crate::proofs::Lists::weights_end))]
+pub fn weighed(weights: &[u64]) -> Result<(), Refusal>
+    ensures { outcome result ≡ weighed 1 weights.now }
 {
-    let mut i = 0;
-    while i < weights.len() {
-        let v = Level::judged_weight(weights[i], i as u64 + 1);
-        let Verdict::Passed = v else {
-            return v;
-        };
-        i += 1;
+    for (i, &weight) in weights.iter().enumerate() {
+        Level::judged_weight(weight, i as u64 + 1)?;
     }
-    Verdict::Passed
+    Ok(())
 }
 
 // 4: the heights.
-pub fn raised(heights: &[u64]) -> Verdict
-    ensures { verdict_outcome result ≡ raised 0 1 heights.now }
+#[tactic(auto, using(crate::proofs::Lists::heights_step, crate::proofs::Lists::heights_end))]
+pub fn raised(heights: &[u64]) -> Result<(), Refusal>
+    ensures { outcome result ≡ raised 0 1 heights.now }
 {
     let mut below = Level::BASE;
-    let mut i = 0;
-    while i < heights.len() {
-        let h = heights[i];
-        let v = Level::judged_height(below, h, i as u64 + 1);
-        let Verdict::Passed = v else {
-            return v;
-        };
-        below = h;
-        i += 1;
+    for (i, &height) in heights.iter().enumerate() {
+        Level::judged_height(below, height, i as u64 + 1)?;
+        below = height;
     }
-    Verdict::Passed
+    Ok(())
 }
 
 // 1 to 4 in turn, with room cells in the shortest result buffer.
-pub fn judged_levels(weights: &[u64], heights: &[u64], room: usize) -> Verdict
-    ensures { verdict_outcome result ≡ judged_levels weights.now heights.now room }
+#[tactic(auto, unfolding(crate::specs::Levels::judged_levels))]
+pub fn judged_levels(weights: &[u64], heights: &[u64], room: usize) -> Result<(), Refusal>
+    ensures { outcome result ≡ judged_levels weights.now heights.now room }
 {
-    let count = counted(weights.len());
-    let Verdict::Passed = count else {
-        return count;
-    };
-    let lengths = same_length(weights.len(), heights.len());
-    let Verdict::Passed = lengths else {
-        return lengths;
-    };
-    let cells = roomy(weights.len(), room);
-    let Verdict::Passed = cells else {
-        return cells;
-    };
-    let weight = weighed(weights);
-    let Verdict::Passed = weight else {
-        return weight;
-    };
+    counted(weights.len())?;
+    same_length(weights.len(), heights.len())?;
+    roomy(weights.len(), room)?;
+    weighed(weights)?;
     raised(heights)
 }

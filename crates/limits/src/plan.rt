@@ -1,10 +1,10 @@
 // The plan of a building: 26, of its dimension across the direction of the forces.
 ghost use Rattle.std.specs.Prelude.{◌≡◌};
-ghost use Rattle.limits.specs.Outcome.{verdict_outcome};
+ghost use Rattle.limits.specs.Outcome.{outcome};
 ghost use Rattle.limits.specs.Plan.{judged_dimension};
 
 use crate::ranges::within;
-use crate::refusal::{Refusal, Verdict};
+use crate::refusal::{Number, Refusal};
 
 // A dimension in dm.
 #[derive(Clone, Copy)]
@@ -18,15 +18,14 @@ impl Plan {
     pub const DIMENSION_MOST: u64 = 5_000;
 
     // 26.
-    pub fn judged_dimension(dimension: u64) -> Verdict
-        ensures { verdict_outcome result ≡ judged_dimension dimension }
+    pub fn judged_dimension(dimension: u64) -> Result<(), Refusal>
+        ensures { outcome result ≡ judged_dimension dimension }
     {
         within(
             Self::DIMENSION_LEAST,
             Self::DIMENSION_MOST,
             dimension,
-            Refusal::DIMENSION,
-            Refusal::NOWHERE,
+            Number::Dimension.into(),
         )
     }
 }

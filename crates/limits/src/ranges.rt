@@ -1,11 +1,19 @@
 // Whether a number is allowed: from a least to a most, or one of listed values.
 ghost use Rattle.std.specs.Prelude.{◌≡◌};
-ghost use Rattle.limits.specs.Outcome.{verdict_outcome};
+ghost use Rattle.limits.specs.Outcome.{outcome, require};
 ghost use Rattle.limits.specs.Ranges.{in_range, among, within, listed};
 
-use crate::refusal::{Refusal, Verdict};
+use crate::refusal::Refusal;
+
+// Passes where a test holds, else refuses.
+pub fn require(passes: bool, refusal: Refusal) -> Result<(), Refusal>
+    ensures { outcome result ≡ require passes refusal.number refusal.place }
+{
+    if passes { Ok(()) } else { Err(refusal) }
+}
 
 // Whether x is from least to most.
+#[tactic(auto, unfolding(crate::specs::Ranges::in_range))]
 pub fn in_range(least: u64, most: u64, x: u64) -> bool
     ensures { result ≡ in_range least most x }
 {
@@ -16,32 +24,21 @@ pub fn in_range(least: u64, most: u64, x: u64) -> bool
 pub fn among(values: &[u64], x: u64) -> bool
     ensures { result ≡ among values.now x }
 {
-    let mut i = 0;
-    while i < values.len() {
-        if values[i] == x {
-            return true;
-        }
-        i += 1;
-    }
-    false
+    values.contains(&x)
 }
 
 // Passes x from least to most, else refuses it.
-pub fn within(least: u64, most: u64, x: u64, number: u64, place: u64) -> Verdict
-    ensures { verdict_outcome result ≡ within least most x number place }
+#[tactic(auto, unfolding(crate::specs::Ranges::within))]
+pub fn within(least: u64, most: u64, x: u64, refusal: Refusal) -> Result<(), Refusal>
+    ensures { outcome result ≡ within least most x refusal.number refusal.place }
 {
-    if in_range(least, most, x) {
-        return Verdict::Passed;
-    }
-    Verdict::Refused(Refusal { number, place })
+    require(in_range(least, most, x), refusal)
 }
 
 // Passes x where it is one of the values, else refuses it.
-pub fn listed(values: &[u64], x: u64, number: u64, place: u64) -> Verdict
-    ensures { verdict_outcome result ≡ listed values.now x number place }
+#[tactic(auto, unfolding(crate::specs::Ranges::listed))]
+pub fn listed(values: &[u64], x: u64, refusal: Refusal) -> Result<(), Refusal>
+    ensures { outcome result ≡ listed values.now x refusal.number refusal.place }
 {
-    if among(values, x) {
-        return Verdict::Passed;
-    }
-    Verdict::Refused(Refusal { number, place })
+    require(among(values, x), refusal)
 }

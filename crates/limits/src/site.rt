@@ -1,12 +1,12 @@
 // The site line of a job: mapped values, near-fault factors and class, with their limits and their judgments, 5 to 7.
-ghost use Rattle.std.specs.Prelude.{◌≡◌};
-ghost use Rattle.limits.specs.Site.{judged_mapped, judged_near_fault, judged_site, site_outcome};
-ghost use Rattle.limits.specs.Outcome.{refusal_of, verdict_outcome};
+ghost use Rattle.std.specs.Prelude.{◌≡◌, ◌≤◌, length};
+ghost use Rattle.limits.specs.Site.{site_values, judged_mapped, judged_near_fault, judged_site};
+ghost use Rattle.limits.specs.Outcome.{outcome};
 ghost use Rattle.limits.specs.Ranges.{within, listed};
 
-use crate::class::{Class, ClassAnswer};
+use crate::class::Class;
 use crate::ranges::{listed, within};
-use crate::refusal::{Refusal, Verdict};
+use crate::refusal::{Number, Refusal};
 
 // The site line as it comes: S_S and S_1 of the design level, S_S and S_1 of the MCE level, in 0.01 g; N_A and N_V of the
 // design level, N_A and N_V of the MCE level, in 0.01; class.
@@ -23,6 +23,26 @@ pub struct SiteValues {
     pub class: u64,
 }
 
+impl SiteValues {
+    // Of the nine numbers of a site line, in its order.
+    pub fn of(numbers: &[u64]) -> SiteValues
+        requires { 9 ≤ length numbers.now }
+        ensures { result ≡ site_values numbers.now }
+    {
+        SiteValues {
+            ssd: numbers[0],
+            s1d: numbers[1],
+            ssm: numbers[2],
+            s1m: numbers[3],
+            nad: numbers[4],
+            nvd: numbers[5],
+            nam: numbers[6],
+            nvm: numbers[7],
+            class: numbers[8],
+        }
+    }
+}
+
 // The site line, judged.
 #[derive(Clone, Copy)]
 pub struct Site {
@@ -35,24 +55,6 @@ pub struct Site {
     pub nam: u64,
     pub nvm: u64,
     pub class: Class,
-}
-
-#[derive(Clone, Copy)]
-pub enum SiteAnswer {
-    Taken(Site),
-    Refused(Refusal),
-}
-
-impl SiteAnswer {
-    // What it refuses with; where it refuses nothing, zeros.
-    pub fn refusal(self) -> Refusal
-        ensures { result ≡ refusal_of (site_outcome self) }
-    {
-        match self {
-            SiteAnswer::Taken(_) => Refusal::none(),
-            SiteAnswer::Refused(r) => r,
-        }
-    }
 }
 
 impl Site {
@@ -90,78 +92,48 @@ impl Site {
     pub const AT_NV_MCE: u64 = 4;
 
     // 5: the mapped values.
-    pub fn judged_mapped(v: SiteValues) -> Verdict
-        ensures { verdict_outcome result ≡ judged_mapped v }
+    #[tactic(auto, unfolding(crate::specs::Site::judged_mapped))]
+    pub fn judged_mapped(v: SiteValues) -> Result<(), Refusal>
+        ensures { outcome result ≡ judged_mapped v }
     {
-        let a = Self::mapped(&Self::SS_DESIGN, v.ssd, Self::AT_SS_DESIGN);
-        let Verdict::Passed = a else {
-            return a;
-        };
-        let b = Self::mapped(&Self::S1_DESIGN, v.s1d, Self::AT_S1_DESIGN);
-        let Verdict::Passed = b else {
-            return b;
-        };
-        let c = Self::mapped(&Self::SS_MCE, v.ssm, Self::AT_SS_MCE);
-        let Verdict::Passed = c else {
-            return c;
-        };
+        Self::mapped(&Self::SS_DESIGN, v.ssd, Self::AT_SS_DESIGN)?;
+        Self::mapped(&Self::S1_DESIGN, v.s1d, Self::AT_S1_DESIGN)?;
+        Self::mapped(&Self::SS_MCE, v.ssm, Self::AT_SS_MCE)?;
         Self::mapped(&Self::S1_MCE, v.s1m, Self::AT_S1_MCE)
     }
 
-    fn mapped(values: &[u64], x: u64, place: u64) -> Verdict
-        ensures { verdict_outcome result ≡ listed values.now x 5 place }
+    fn mapped(values: &[u64], x: u64, place: u64) -> Result<(), Refusal>
+        ensures { outcome result ≡ listed values.now x 5 place }
     {
-        listed(values, x, Refusal::MAPPED, place)
+        listed(values, x, Refusal::at(Number::Mapped, place))
     }
 
     // 6: the near-fault factors, of the design level, then of the MCE level.
-    pub fn judged_near_fault(v: SiteValues) -> Verdict
-        ensures { verdict_outcome result ≡ judged_near_fault v }
+    #[tactic(auto, unfolding(crate::specs::Site::judged_near_fault))]
+    pub fn judged_near_fault(v: SiteValues) -> Result<(), Refusal>
+        ensures { outcome result ≡ judged_near_fault v }
     {
-        let a = Self::judged_na(v.nad, Self::AT_NA_DESIGN);
-        let Verdict::Passed = a else {
-            return a;
-        };
-        let b = Self::judged_nv(v.nvd, Self::AT_NV_DESIGN);
-        let Verdict::Passed = b else {
-            return b;
-        };
-        let c = Self::judged_na(v.nam, Self::AT_NA_MCE);
-        let Verdict::Passed = c else {
-            return c;
-        };
-        Self::judged_nv(v.nvm, Self::AT_NV_MCE)
+        Self::near_fault(Self::NA_LEAST, Self::NA_MOST, v.nad, Self::AT_NA_DESIGN)?;
+        Self::near_fault(Self::NV_LEAST, Self::NV_MOST, v.nvd, Self::AT_NV_DESIGN)?;
+        Self::near_fault(Self::NA_LEAST, Self::NA_MOST, v.nam, Self::AT_NA_MCE)?;
+        Self::near_fault(Self::NV_LEAST, Self::NV_MOST, v.nvm, Self::AT_NV_MCE)
     }
 
-    fn judged_na(x: u64, place: u64) -> Verdict
-        ensures { verdict_outcome result ≡ within 100 150 x 6 place }
+    fn near_fault(least: u64, most: u64, x: u64, place: u64) -> Result<(), Refusal>
+        ensures { outcome result ≡ within least most x 6 place }
     {
-        within(Self::NA_LEAST, Self::NA_MOST, x, Refusal::NEAR_FAULT, place)
-    }
-
-    fn judged_nv(x: u64, place: u64) -> Verdict
-        ensures { verdict_outcome result ≡ within 100 200 x 6 place }
-    {
-        within(Self::NV_LEAST, Self::NV_MOST, x, Refusal::NEAR_FAULT, place)
+        within(least, most, x, Refusal::at(Number::NearFault, place))
     }
 
     // 5, 6, 7 in turn.
-    pub fn judged(v: SiteValues) -> SiteAnswer
-        ensures { site_outcome result ≡ judged_site v }
+    #[tactic(auto, unfolding(crate::specs::Site::judged_site))]
+    pub fn judged(v: SiteValues) -> Result<Site, Refusal>
+        ensures { outcome result ≡ judged_site v }
     {
-        let m = Self::judged_mapped(v);
-        let Verdict::Passed = m else {
-            return SiteAnswer::Refused(m.refusal());
-        };
-        let n = Self::judged_near_fault(v);
-        let Verdict::Passed = n else {
-            return SiteAnswer::Refused(n.refusal());
-        };
-        let c = Class::judged(v.class);
-        let ClassAnswer::Taken(class) = c else {
-            return SiteAnswer::Refused(c.refusal());
-        };
-        SiteAnswer::Taken(Site {
+        Self::judged_mapped(v)?;
+        Self::judged_near_fault(v)?;
+        let class = Class::try_from(v.class)?;
+        Ok(Site {
             ssd: v.ssd,
             s1d: v.s1d,
             ssm: v.ssm,

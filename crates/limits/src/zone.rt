@@ -1,64 +1,32 @@
 // The micro-zone of the Taipei Basin: 18.
 ghost use Rattle.std.specs.Prelude.{◌≡◌};
-ghost use Rattle.limits.specs.Zone.{judged_zone, zone_outcome};
-ghost use Rattle.limits.specs.Outcome.{refusal_of};
+ghost use Rattle.limits.specs.Outcome.{outcome};
+ghost use Rattle.limits.specs.Zone.{judged_zone};
 
-use crate::refusal::Refusal;
+use crate::refusal::{Number, Refusal};
 
-// The micro-zone of Table 4.
-#[derive(Clone, Copy)]
+// The micro-zone of Table 4, by its number.
+#[derive(Clone, Copy, Debug, PartialEq, Eq)]
 pub enum Zone {
-    One,
-    Two,
-    Three,
-    Four,
+    One = 1,
+    Two = 2,
+    Three = 3,
+    Four = 4,
 }
 
-#[derive(Clone, Copy)]
-pub enum ZoneAnswer {
-    Taken(Zone),
-    Refused(Refusal),
-}
+impl TryFrom<u64> for Zone {
+    type Error = Refusal;
 
-impl ZoneAnswer {
-    // What it refuses with; where it refuses nothing, zeros.
-    pub fn refusal(self) -> Refusal
-        ensures { result ≡ refusal_of (zone_outcome self) }
-    {
-        match self {
-            ZoneAnswer::Taken(_) => Refusal::none(),
-            ZoneAnswer::Refused(r) => r,
+    ghost try_from_gives = { λ number answer. outcome answer ≡ judged_zone number };
+
+    #[tactic(auto, unfolding(crate::specs::Zone::judged_zone))]
+    fn try_from(number: u64) -> Result<Zone, Refusal> {
+        match number {
+            1 => Ok(Zone::One),
+            2 => Ok(Zone::Two),
+            3 => Ok(Zone::Three),
+            4 => Ok(Zone::Four),
+            _ => Err(Number::Zone.into()),
         }
-    }
-}
-
-impl Zone {
-    pub const ONE: u64 = 1;
-
-    pub const TWO: u64 = 2;
-
-    pub const THREE: u64 = 3;
-
-    pub const FOUR: u64 = 4;
-
-    pub fn judged(number: u64) -> ZoneAnswer
-        ensures { zone_outcome result ≡ judged_zone number }
-    {
-        if number == Self::ONE {
-            return ZoneAnswer::Taken(Zone::One);
-        }
-        if number == Self::TWO {
-            return ZoneAnswer::Taken(Zone::Two);
-        }
-        if number == Self::THREE {
-            return ZoneAnswer::Taken(Zone::Three);
-        }
-        if number == Self::FOUR {
-            return ZoneAnswer::Taken(Zone::Four);
-        }
-        ZoneAnswer::Refused(Refusal {
-            number: Refusal::ZONE,
-            place: Refusal::NOWHERE,
-        })
     }
 }
