@@ -12,13 +12,12 @@ use lib.ListN.{length, get_or}
 use borrow.Author.Tests.{eqb-true, ne_eqb, eq-eqb}
 use Rattle.whole.specs.Cells.{sum}
 use Rattle.whole.proofs.Choice.{by_test}
-use Rattle.limits.specs.declared.class.ClassAnswer.{ClassAnswer}
+use Rattle.limits.specs.declared.class.Class.{Class}
 use Rattle.limits.specs.FirstRefusal.{FirstRefusal}
 use Rattle.limits.specs.Lengths.{same_length}
 use Rattle.limits.specs.Order.{InOrder, Before}
-use Rattle.limits.specs.Outcome.{Outcome, accepted, refused, require, ◌>>=◌, ◌>>◌}
+use Rattle.limits.specs.Outcome.{Outcome, accepted, refused, require, ◌>>=◌, ◌>>◌, Answer, outcome}
 use Rattle.limits.specs.Ranges.{within}
-use Rattle.limits.specs.Class.{class_outcome}
 use Rattle.soil.specs.declared.class.ClassLimits.{ClassLimits}
 use Rattle.soil.specs.Applies.{Allowed, measured, cohesive, cohesionless, soft_clay, Applies, lists, layers, thickness, depth, layer}
 use Rattle.soil.specs.Class.{table3}
@@ -158,7 +157,7 @@ pub class_first : (l : ClassLimits) (ds ks xs : List ℕ) → FirstRefusal (Appl
 class_first l ds ks xs = first_refusal (Applies ds ks xs) (site_class l ds ks xs) (stops ds ks xs l) (class_told ds ks xs l)
 
 -- ---- of an answer of `site_class`
-pub log_first : (ds ks xs : List ℕ) (a : ClassAnswer) → Answers ds ks xs a → FirstRefusal (Applies ds ks xs) (class_outcome a)
+pub log_first : (ds ks xs : List ℕ) (a : Answer Class) → Answers ds ks xs a → FirstRefusal (Applies ds ks xs) (outcome a)
 log_first ds ks xs a e = subst (FirstRefusal (Applies ds ks xs)) (sym e) (class_first table3 ds ks xs)
 
 -- ---- of any outcome that gives the first refusal of a log, by any class limits or an answer: the first number is the lowest

@@ -2,6 +2,7 @@ pub mod ByTable
 pub mod Cubes
 pub mod Strength
 pub mod TablesHold
+pub mod ByKind
 pub mod Speeds
 pub mod Layers
 pub mod Adding

@@ -2,7 +2,8 @@
 -- Assumes nothing.
 use mathlib.Core.Path.{◌≡◌, sym, subst, ◌∙◌}
 use mathlib.Core.List.{List}
-use Prim.Native.Nat.{ℕ, ◌≤◌}
+use Prim.Native.Nat.{ℕ, ◌*◌, ◌^◌, ◌≤◌, ◌<◌}
+use native.Mathlib.Omega.{arith}
 use lib.ListN.{length}
 use borrow.Author.Tests.{eqb-true}
 use Rattle.whole.specs.Cells.{sum}
@@ -12,9 +13,9 @@ use Rattle.limits.specs.Outcome.{accepted}
 use Rattle.limits.specs.declared.class.Class.{Class}
 use Rattle.soil.specs.declared.class.ClassLimits.{ClassLimits}
 use Rattle.soil.specs.declared.times.Times.{Times}
-use Rattle.soil.specs.Class.{class_of}
+use Rattle.soil.specs.Class.{table3, class_of}
 use Rattle.soil.specs.Log.{counted, thick, deep, judged_log, site_class}
-use Rattle.soil.specs.Times.{ns_at_unit, times, judged_times}
+use Rattle.soil.specs.Times.{Matched, ns_at_unit, times, judged_times}
 use Rattle.soil.specs.Velocity.{velocities}
 use Rattle.soil.proofs.Adding.{up_most, down_most, added_most}
 use Rattle.limits.proofs.Passed.{one_value, then_passed, bind_passed, require_passed, within_passed}
@@ -45,6 +46,12 @@ log_sound ds k x e =
       depth = eqb-true (sum ds) 3_000 (require_passed _ 14 0 t.1);
     }
 
+-- its kinds and values can be looked at
+pub log_matched : (ds ks xs : List ℕ) → accepted tt ≡ judged_log ds (length ks) (length xs) → Matched ds ks xs
+log_matched ds ks xs e =
+    let s = log_sound ds (length ks) (length xs) (sym e) in
+    record { kinds = s.kinds; values = s.values; depth = omega arith }
+
 -- no time is more than its ns at 1 dm/s
 pub times_most : (ds ks xs : List ℕ) (t : Times) → judged_times ds ks xs ≡ accepted t
     → (t.up ≤ ns_at_unit (sum ds)) × (t.down ≤ ns_at_unit (sum ds))
@@ -54,6 +61,11 @@ times_most ds ks xs t e =
     let p = velocities_positive 1 ks xs a.0 a.1 in
     subst (λ (t : Times). (t.up ≤ ns_at_unit (sum ds)) × (t.down ≤ ns_at_unit (sum ds))) (one_value a.2)
     (added_most up up_most ds a.0 p, added_most down down_most ds a.0 p)
+
+-- so the class limits times the sums of a log fit
+pub limits_fit : (ds ks xs : List ℕ) (t : Times) → Matched ds ks xs → accepted t ≡ judged_times ds ks xs
+    → (table3.hard * t.up < 2 ^ 64) × (table3.soft * t.down < 2 ^ 64)
+limits_fit ds ks xs t m e = let b = times_most ds ks xs t (sym e) in (omega arith, omega arith)
 
 -- ---- the class of a log with velocities vs
 module _ (l : ClassLimits) (ds ks xs vs : List ℕ) (given : velocities 1 ks xs ≡ accepted vs) where

@@ -1,8 +1,8 @@
--- The three tables hold their rules where each entry fits and the next whole number does not.
+-- The three tables hold their rules where each entry fits and the next whole number does not, and those of the code do.
 --   all_largest cs ls qs    `each_largest` of the tables of cohesive soil, of cohesionless soil and of soft clay: one test that the checker
 --                          computes over all their entries
 -- Assumes nothing.
-use mathlib.Core.Path.{◌≡◌}
+use mathlib.Core.Path.{◌≡◌, refl}
 use mathlib.Core.Bool.{Bool, ◌&&◌}
 use mathlib.Core.List.{List}
 use Prim.Native.Nat.{ℕ, ◌*◌, ◌^◌}
@@ -10,6 +10,7 @@ use native.Mathlib.Omega.{arith}
 use lib.Dec.{T}
 use lib.ListN.{length}
 use mir.Facts.{and_yes}
+use Rattle.soil.specs.declared.tables.TheConstants.{COHESIVE, COHESIONLESS, SOFT_CLAY}
 use Rattle.soil.specs.Velocity.{Tables}
 use Rattle.soil.proofs.ByTable.{each_largest}
 use Rattle.soil.proofs.Cubes.{cube_table}
@@ -30,3 +31,8 @@ tables_hold cs ls qs hc hl hq t =
       cohesionless = cube_table 800 1 50 ls (omega arith) (omega arith) hl b.0;
       soft_clay = strength_table qs hq b.1;
     }
+
+-- those of the code, all entries at once, by computing the test
+pub tables : Tables COHESIVE COHESIONLESS SOFT_CLAY
+unfolding all_largest each_largest
+tables = tables_hold _ _ _ refl refl refl tt

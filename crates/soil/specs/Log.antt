@@ -8,11 +8,9 @@
 use Rattle.std.specs.Prelude.{◌≡◌, not, List, [], ◌∷◌, ℕ, ◌+◌, eqb, length}
 use Rattle.whole.specs.Cells.{sum}
 use Rattle.limits.specs.declared.class.Class.{Class}
-use Rattle.limits.specs.declared.class.ClassAnswer.{ClassAnswer}
 use Rattle.limits.specs.Lengths.{same_length}
-use Rattle.limits.specs.Outcome.{Outcome, accepted, Done, require, ◌>>=◌, ◌>>◌}
+use Rattle.limits.specs.Outcome.{Outcome, accepted, Done, require, ◌>>=◌, ◌>>◌, Answer, outcome}
 use Rattle.limits.specs.Ranges.{within}
-use Rattle.limits.specs.Class.{class_outcome}
 use Rattle.soil.specs.declared.class.ClassLimits.{ClassLimits}
 use Rattle.soil.specs.Class.{table3, class_of}
 use Rattle.soil.specs.Times.{judged_times}
@@ -43,5 +41,5 @@ site_class l ds ks xs = do
   t ← judged_times ds ks xs
   accepted (class_of l t)
 
-abbrev pub Answers : List ℕ → List ℕ → List ℕ → ClassAnswer → Type 0
-Answers ds ks xs a = class_outcome a ≡ site_class table3 ds ks xs
+abbrev pub Answers : List ℕ → List ℕ → List ℕ → Answer Class → Type 0
+Answers ds ks xs a = outcome a ≡ site_class table3 ds ks xs

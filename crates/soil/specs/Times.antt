@@ -4,14 +4,11 @@
 --   times ds vs              U, of the times each rounded up, and L, of the times each rounded down
 --   judged_times ds ks xs    the same of kinds ks and values xs, or 15
 --   Matched ds ks xs         a kind and a value for each thickness, and no more than 3,000 cm
---   times_outcome a          what the code's answer a says
 use Rattle.std.specs.Prelude.{◌≡◌, List, [], ◌∷◌, ℕ, ◌+◌, ◌*◌, ◌≤◌, length}
 use Rattle.whole.specs.Cells.{sum}
 use Rattle.whole.specs.Rounding.{up, down}
-use Rattle.limits.specs.Outcome.{Outcome, accepted, refused, ◌>>=◌}
+use Rattle.limits.specs.Outcome.{Outcome, accepted, ◌>>=◌}
 use Rattle.soil.specs.declared.times.Times.{Times}
-use Rattle.soil.specs.declared.times.TimesAnswer.{TimesAnswer}
-use Rattle.soil.specs.declared.times.TimesAnswer.TheVariants.{Taken, Refused}
 use Rattle.soil.specs.Velocity.{velocities}
 
 abbrev pub ns_at_unit : ℕ → ℕ
@@ -34,7 +31,3 @@ pub record Matched (ds ks xs : List ℕ) : Type 0 where
   pub kinds : length ks ≡ length ds
   pub values : length xs ≡ length ds
   pub depth : sum ds ≤ 3_000
-
-abbrev pub times_outcome : TimesAnswer → Outcome Times
-times_outcome (Taken t) = accepted t
-times_outcome (Refused r) = refused r.number r.place

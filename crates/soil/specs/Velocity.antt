@@ -11,7 +11,6 @@
 --   velocity kind value p          kind 1: measured; 2: cohesive, N from 2 to 25, v³ ≤ 1000³·N; 3: cohesionless, N from 1 to
 --                                  50, v³ ≤ 800³·N; 4: soft clay, q from 1 to 400; any other kind is 15 at p
 --   velocities p ks xs    of all layers, of kinds ks and values xs; the first layer stands at place p
---   velocity_outcome a    what the code's answer a says
 -- ℕ's subtraction stops at 0; no value that passes is below least.
 use Rattle.std.specs.Prelude.{◌≡◌, List, [], ◌∷◌, ℕ, ◌+◌, ◌-◌, ◌*◌, ◌^◌, leb, eqb, get_or}
 use Rattle.whole.specs.Cells.{cells}
@@ -19,8 +18,6 @@ use Rattle.whole.specs.Choice.{pick}
 use Rattle.whole.specs.Search.{largest}
 use Rattle.limits.specs.Outcome.{Outcome, accepted, refused, ◌>>=◌, ◌>>◌}
 use Rattle.limits.specs.Ranges.{within}
-use Rattle.soil.specs.declared.velocity.VelocityAnswer.{VelocityAnswer}
-use Rattle.soil.specs.declared.velocity.VelocityAnswer.TheVariants.{Taken, Refused}
 
 unfoldable pub cube_root : ℕ → ℕ → ℕ
 cube_root s N = largest (λ v. leb (v ^ 3) (s ^ 3 * N))
@@ -65,7 +62,3 @@ velocities p (k ∷ ks) (x ∷ xs) = do
   v ← velocity k x p
   vs ← velocities (p + 1) ks xs
   accepted (v ∷ vs)
-
-abbrev pub velocity_outcome : VelocityAnswer → Outcome ℕ
-velocity_outcome (Taken v) = accepted v
-velocity_outcome (Refused r) = refused r.number r.place

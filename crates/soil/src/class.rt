@@ -33,6 +33,7 @@ impl ClassLimits {
 }
 
 // Hard by U, soft by L, else normal.
+#[tactic(auto, unfolding(crate::specs::Class::class_of))]
 pub fn class_of(limits: ClassLimits, times: Times) -> Class
     requires { (limits.hard * times.up < 2 ^ 64) × (limits.soft * times.down < 2 ^ 64) }
     ensures { result ≡ class_of limits times }

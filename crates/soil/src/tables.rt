@@ -1,13 +1,14 @@
-// Velocities by blow count N and by unconfined compression strength q, in dm/s. Their rules are those of `Tables` (specs/Velocity.antt).
+// Velocities by blow count N and by unconfined compression strength q, in dm/s. Their rules are those of `Tables` (specs/Velocity.antt). They are
+// statics, as a constant table is laid out anew by each function that names it.
 
 // (3.a), cohesive soil: those of N = 2, 3, .. 25.
-pub const COHESIVE: [u16; 24] = [
+pub static COHESIVE: [u16; 24] = [
     1_259, 1_442, 1_587, 1_709, 1_817, 1_912, 2_000, 2_080, 2_154, 2_223, 2_289, 2_351, 2_410,
     2_466, 2_519, 2_571, 2_620, 2_668, 2_714, 2_758, 2_802, 2_843, 2_884, 2_924,
 ];
 
 // (3.b), cohesionless soil: those of N = 1, 2, .. 50.
-pub const COHESIONLESS: [u16; 50] = [
+pub static COHESIONLESS: [u16; 50] = [
     800, 1_007, 1_153, 1_269, 1_367, 1_453, 1_530, 1_600, 1_664, 1_723, 1_779, 1_831, 1_881, 1_928,
     1_972, 2_015, 2_057, 2_096, 2_134, 2_171, 2_207, 2_241, 2_275, 2_307, 2_339, 2_369, 2_400,
     2_429, 2_457, 2_485, 2_513, 2_539, 2_566, 2_591, 2_616, 2_641, 2_665, 2_689, 2_712, 2_735,
@@ -15,7 +16,7 @@ pub const COHESIONLESS: [u16; 50] = [
 ];
 
 // (3.a), soft clay: those of q = 1, 2, .. 400, in 0.01 kgf/cm².
-pub const SOFT_CLAY: [u16; 400] = [
+pub static SOFT_CLAY: [u16; 400] = [
     228, 293, 339, 376, 408, 435, 460, 483, 504, 523, 542, 559, 575, 591, 606, 620, 634, 647, 659,
     672, 684, 695, 706, 717, 728, 738, 748, 758, 768, 777, 787, 796, 805, 813, 822, 830, 838, 847,
     854, 862, 870, 878, 885, 892, 900, 907, 914, 921, 928, 934, 941, 948, 954, 961, 967, 973, 980,
