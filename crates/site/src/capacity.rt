@@ -1,4 +1,5 @@
 // The ductility capacity and the square of its root, of an R in 0.01.
+// Each is an equation of its own in the rules: one function would take their numerals as arguments, and hide which is which.
 ghost use Rattle.std.specs.Prelude.{◌≡◌, ◌≤◌};
 ghost use Rattle.site.specs.Capacity.{design_capacity, design_square, basin_capacity, basin_square, mce_capacity, mce_square};
 

@@ -1,8 +1,9 @@
 // Site coefficients, and A and B: functions of the class and of S in the same call, and of nothing else.
+// Those of S_S and of S_1 differ in one word: a function over both would need a trait and two types, longer than the four are.
 ghost use Rattle.std.specs.Prelude.{◌≡◌, ◌≤◌};
 ghost use Rattle.site.specs.Coefficients.{fa, fv, acceleration_a, acceleration_b};
 
-use crate::table2;
+use crate::table2::Table2;
 use limits::class::Class;
 use whole::columns::between;
 
@@ -10,22 +11,14 @@ use whole::columns::between;
 pub fn fa(class: Class, s: u64) -> u64
     ensures { result ≡ fa class s }
 {
-    match class {
-        Class::Hard => between(table2::HARD_A, s),
-        Class::Normal => between(table2::NORMAL_A, s),
-        Class::Soft => between(table2::SOFT_A, s),
-    }
+    between(Table2::of(class).a, s)
 }
 
 // F_v in ten-thousandths.
 pub fn fv(class: Class, s: u64) -> u64
     ensures { result ≡ fv class s }
 {
-    match class {
-        Class::Hard => between(table2::HARD_V, s),
-        Class::Normal => between(table2::NORMAL_V, s),
-        Class::Soft => between(table2::SOFT_V, s),
-    }
+    between(Table2::of(class).v, s)
 }
 
 // A = F_a S_S in 10⁻⁸ g.

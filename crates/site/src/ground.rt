@@ -8,6 +8,7 @@ use crate::hazard::Hazards;
 use crate::site_hazards::site_hazards;
 use limits::ground::Ground;
 
+// R is a number judged with its frame: a type of the judged R would be built of `Frame::r` for this one call.
 pub fn ground_hazards(ground: Ground, r: u64) -> Hazards
     requires { AllowedGround ground × (100 ≤ r) × (r ≤ 600) }
     ensures { result ≡ ground_hazards ground r }

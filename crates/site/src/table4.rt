@@ -4,17 +4,14 @@ ghost use Rattle.site.specs.Table4.{corner_period};
 
 use limits::zone::Zone;
 
-// In ms, by zone 1 to 4.
-pub const CORNERS: [u64; 4] = [1_600, 1_300, 1_050, 850];
-
 // T0 of a zone, in ms.
 pub fn corner_period(zone: Zone) -> u64
     ensures { result ≡ corner_period zone }
 {
     match zone {
-        Zone::One => CORNERS[0],
-        Zone::Two => CORNERS[1],
-        Zone::Three => CORNERS[2],
-        Zone::Four => CORNERS[3],
+        Zone::One => 1_600,
+        Zone::Two => 1_300,
+        Zone::Three => 1_050,
+        Zone::Four => 850,
     }
 }
