@@ -12,37 +12,24 @@ use response::UNIT;
 use response::period::period_of;
 use site::hazard::Hazards;
 
-fn larger(a: u64, b: u64) -> u64
-    ensures { result ≡ max a b }
-{
-    if a <= b {
-        return b;
-    }
-    a
-}
-
 // The figures of three hazards at a period: s is the unit.
 pub fn figures_at(s: u64, k: Hazards, f: Frame, w: u64, t: u64) -> Figures
     requires { Shearing s k t × AllowedFrame f × (w ≤ total_most) }
     ensures { result ≡ figures_at s k f w t }
 {
-    let lines = k.lines;
-    let design = k.design;
-    let mce = k.mce;
-    let plain = k.star;
-    let v = newtons(s, k.divisor, f, w, modified_at(s, lines, design, t));
-    let vm = newtons(s, k.divisor, f, w, modified_at(s, lines, mce, t));
-    let star = newtons(s, k.stardivisor, f, w, blended_at(s, lines, plain, t));
-    let vd = larger(larger(v, vm), star);
+    let v = newtons(s, k.divisor, f, w, modified_at(s, k.lines, k.design, t));
+    let vm = newtons(s, k.divisor, f, w, modified_at(s, k.lines, k.mce, t));
+    let star = newtons(s, k.stardivisor, f, w, blended_at(s, k.lines, k.star, t));
+    let vd = v.max(vm).max(star);
     Figures { v, vm, star, vd, t }
 }
 
+// Weight and height are judged numbers: types of them would be built of W and h for this one call.
 // The five figures of three hazards, whatever made them, a judged frame, a total weight in kN and a top height in dm.
 pub fn base_figures(hazards: Hazards, frame: Frame, weight: u64, height: u64) -> Figures
     requires { Reached hazards × AllowedFrame frame × (weight ≤ total_most) × (1 ≤ height) × (height ≤ 2000) }
     ensures { result ≡ base_figures hazards frame weight height }
 {
-    let kind = frame.kind;
-    let t = period_of(kind, frame.calculated, height);
+    let t = period_of(frame.kind, frame.calculated, height);
     figures_at(UNIT, hazards, frame, weight, t)
 }

@@ -8,8 +8,9 @@ ghost use Rattle.base_shear.specs.Ready.{Ready};
 ghost use Rattle.base_shear.specs.Shears.{blended_at, modified_at, newtons, ratio_at};
 
 use limits::frame::Frame;
-use response::factor::{lower_factor, upper_factor};
+use response::factor::factor;
 use response::ratio::{blended, modified, ratio};
+use response::side::{Lower, Upper};
 use response::spectrum::spectrum;
 use site::hazard::Hazard;
 use site::lines::Lines;
@@ -18,7 +19,7 @@ use whole::quotients::up;
 // What a unit is made of, so that 10⁴ s-ths cancel against the ten tenths and the 1000 N of a kN.
 const CANCELS: u64 = 10_000;
 
-// I x W / (n / 10 alpha-y), up, of x s-ths.
+// I x W / (n / 10 alpha-y), up, of x s-ths. An invariant of `Frame` in place of `AllowedFrame` would narrow `newtons_rise`: it is of any frames.
 pub fn newtons(s: u64, n: u64, f: Frame, w: u64, x: u64) -> u64
     requires { (s / 10_000 * 10_000 ≡ s) × (0 < s) × (s ≤ 10_000_000) × (0 < n) × (n ≤ 100) × AllowedFrame f × (w ≤ total_most) × (x ≤ 100_000_000) }
     ensures { result ≡ newtons s n f w x }
@@ -26,15 +27,13 @@ pub fn newtons(s: u64, n: u64, f: Frame, w: u64, x: u64) -> u64
     up(f.i * x * w, n * (s / CANCELS) * f.alpha)
 }
 
-// q of a hazard.
+// q of a hazard. Unit, hazard and T are arguments, as of the definition `ratio_at`: a struct of the three would be built for one call.
 pub fn ratio_at(s: u64, h: Hazard, t: u64) -> u64
     requires { FineUnit s × Ready s h t }
     ensures { result ≡ ratio_at s h t }
 {
     let sa = spectrum(s, h.a, h.b, t);
-    let capacity = h.capacity;
-    let square = h.square;
-    let f = lower_factor(s, h.a, h.b, t, capacity, square);
+    let f = factor::<Lower>(s, h, t);
     ratio(s, sa, f)
 }
 
@@ -52,8 +51,6 @@ pub fn blended_at(s: u64, l: Lines, h: Hazard, t: u64) -> u64
     ensures { (result ≡ blended_at s l h t) × (result ≤ 100_000_000) }
 {
     let sa = spectrum(s, h.a, h.b, t);
-    let capacity = h.capacity;
-    let square = h.square;
-    let f = upper_factor(s, h.a, h.b, t, capacity, square);
+    let f = factor::<Upper>(s, h, t);
     blended(l, sa, f)
 }

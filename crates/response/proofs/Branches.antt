@@ -1,17 +1,18 @@
 -- The printed factors are the mean, rounded; what 1, the root and the capacity weigh, by where T lies.
 -- Assumes nothing.
-use mathlib.Core.Path.{◌≡◌, ap}
+use mathlib.Core.Path.{◌≡◌, ap, ◌∙◌}
 use Prim.Native.Nat.{ℕ, ◌-◌, ◌*◌, ◌≤◌, ◌<◌}
 use native.Mathlib.Nat.{mul-pos}
 use native.Mathlib.Omega.{arith}
 use borrow.Author.Tests.{le-leb, lt-leb}
+use lib.IntN.{ℤ}
 use Rattle.whole.specs.declared.Fraction.{Fraction}
 use Rattle.whole.specs.Fraction.{over, up_in, down_in}
 use Rattle.whole.specs.Root.{lower_root, upper_root}
 use Rattle.whole.specs.Signed.{Signed, natural}
 use Rattle.whole.proofs.Choice.{by_leb}
-use Rattle.whole.proofs.SignedSame.{floor_stands, ceiling_stands}
 use Rattle.response.specs.Factor.{factor, lower_factor, upper_factor}
+use Rattle.response.specs.Side.{Rounds, Prints, lower_rounds, lower_prints, upper_rounds, upper_prints}
 use Rattle.response.proofs.Mean.{Weights, total, mean, weights, factor_stands}
 
 -- ---- no divisor is 0
@@ -41,20 +42,22 @@ pub mean_positive : (A B T : ℕ) (r c : Fraction) → 0 < B → 0 < r.den → 0
 mean_positive A B T r c pb pr pc = mul-pos (weights_positive A B T pb) (mul-pos pr pc)
 
 -- ---- the printed factors are the mean, rounded
+pub is_mean : {q o : ℕ → ℕ → ℕ} {z : ℤ → ℕ → ℤ} {root : ℕ → Fraction → ℕ} {f : ℕ → ℕ → ℕ → ℕ → Fraction → Fraction → ℕ}
+    → Rounds q o z → Prints z root f → (s A B T : ℕ) (c ρ : Fraction) → 0 < s → 0 < A → 0 < B → 0 < c.den →
+    let m = mean (weights A B T) (over (root s ρ) s) c in
+    f s A B T c ρ ≡ q (s * m.num) m.den
+is_mean {root = root} rounds prints s A B T c ρ ps pa pb pc =
+    let r = over (root s ρ) s in
+    prints.printed s A B T c ρ
+    ∙ ap natural (rounds.stands (factor A B T c r) (mean (weights A B T) r c) (factor_positive A B T r c pa pb ps pc)
+    (mean_positive A B T r c pb ps pc) (factor_stands A B T r c) s)
+
 module _ (s A B T : ℕ) (c ρ : Fraction) (ps : 0 < s) (pa : 0 < A) (pb : 0 < B) (pc : 0 < c.den) where
   pub lower_is_mean : lower_factor s A B T c ρ ≡ down_in s (mean (weights A B T) (over (lower_root s ρ) s) c)
-  unfolding lower_factor
-  lower_is_mean =
-      let r = over (lower_root s ρ) s in
-      ap natural (floor_stands (factor A B T c r) (mean (weights A B T) r c) (factor_positive A B T r c pa pb ps pc)
-      (mean_positive A B T r c pb ps pc) (factor_stands A B T r c) s)
+  lower_is_mean = is_mean lower_rounds lower_prints s A B T c ρ ps pa pb pc
 
   pub upper_is_mean : upper_factor s A B T c ρ ≡ up_in s (mean (weights A B T) (over (upper_root s ρ) s) c)
-  unfolding upper_factor
-  upper_is_mean =
-      let r = over (upper_root s ρ) s in
-      ap natural (ceiling_stands (factor A B T c r) (mean (weights A B T) r c) (factor_positive A B T r c pa pb ps pc)
-      (mean_positive A B T r c pb ps pc) (factor_stands A B T r c) s)
+  upper_is_mean = is_mean upper_rounds upper_prints s A B T c ρ ps pa pb pc
 
 -- ---- what each weighs, by where T lies
 module _ (A B T : ℕ) where

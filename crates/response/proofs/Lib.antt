@@ -6,6 +6,7 @@ pub mod Values
 pub mod Printed
 pub mod Spectra
 pub mod Reached
+pub mod Fallen
 pub mod Most
 pub mod Bent
 pub mod Exact

@@ -1,16 +1,16 @@
 -- What the reach of the leaves gives their proofs: where the roots lie, and which products fit.
 -- Assumes nothing.
-use mathlib.Core.Path.{◌≡◌, refl, ap}
+use mathlib.Core.Path.{◌≡◌, refl, sym, ap, subst}
 use Prim.Native.Nat.{ℕ, ◌-◌, ◌*◌, ◌/◌, ◌^◌, ◌≤◌, ◌<◌}
-use native.Mathlib.Nat.{mul-le-mul, mul-le-mul_left, le_of_mul-le-mul_right, div-le_self}
+use native.Mathlib.Nat.{le_trans, mul-le-mul, mul-le-mul_left, mul-le-mul_right, le_of_mul-le-mul_right}
 use native.Mathlib.Omega.{arith}
+use lib.IntN.{ℤ}
 use Rattle.whole.specs.declared.Fraction.{Fraction}
 use Rattle.whole.specs.Fraction.{over}
 use Rattle.whole.specs.Root.{lower_root, upper_root}
-use Rattle.whole.specs.Rounding.{up, down}
 use Rattle.whole.proofs.Root.{radicand, unit_most, lower_most}
-use Rattle.whole.proofs.Rounding.{up_most, down_most}
 use Rattle.response.specs.Reach.{FineUnit, Shape, Ductile}
+use Rattle.response.specs.Side.{Rounds, Between}
 use Rattle.response.specs.Unit.{unit}
 use Rattle.response.proofs.Spectra.{left_positive}
 
@@ -21,9 +21,6 @@ unit_fine = record { positive = omega arith; most = omega arith; divides = refl 
 module _ (s : ℕ) (u : FineUnit s) where
   pub parts_positive : 0 < 100_000_000 / s
   parts_positive = left_positive (100_000_000 / s) s 100_000_000 u.divides (omega arith)
-
-  pub parts_most : 100_000_000 / s ≤ 100_000_000
-  parts_most = div-le_self 100_000_000 s
 
 -- ---- a capacity n/d and a square m/e
 pub ductile_of : (s n d m e : ℕ)
@@ -43,9 +40,11 @@ ductile_of s n d m e h t r =
       root_most = r;
     }
 
--- ---- T·A
-pub ta_most : (a b t : ℕ) → Shape a b t → t * a ≤ 101_800_000_000_000
-ta_most a b t h = mul-le-mul h.t_most h.a_most
+-- ---- what the code of the factor needs of a root k
+pub record Rooted (s : ℕ) (c : Fraction) (k : ℕ) : Type 0 where
+  pub least : s ≤ k
+  pub most : k ≤ 60_000_000
+  pub thirds : 3 * k ≤ 3 * s / c.den * c.num
 
 -- ---- capacity and roots
 module _ (s : ℕ) (c ρ : Fraction) (u : FineUnit s) (d : Ductile s c ρ) where
@@ -60,49 +59,44 @@ module _ (s : ℕ) (c ρ : Fraction) (u : FineUnit s) (d : Ductile s c ρ) where
   pub roots_ordered : lower_root s ρ ≤ upper_root s ρ
   roots_ordered = lower_most s ρ small d.square_positive
 
-  pub root_small : upper_root s ρ ≤ 60_000_000
-  root_small =
-      let h : s * c.num ≤ 60_000_000 * c.den = omega (arith, mul-le-mul u.most d.cap_most) in
-      le_of_mul-le-mul_right {k = c.den} (omega (arith, d.root_most)) d.cap_positive
-
   -- the capacity in thirds of the unit is whole
   pub thirds_exact : 3 * s / c.den * c.num * c.den ≡ 3 * (s * c.num)
   thirds_exact = omega (arith, ap (λ (z : ℕ). z * c.num) d.thirds)
-
-  pub thirds_least : 3 * upper_root s ρ ≤ 3 * s / c.den * c.num
-  thirds_least =
-      le_of_mul-le-mul_right {k = c.den} (omega (arith, thirds_exact, d.root_most)) d.cap_positive
 
   thirds_most : 3 * s / c.den * c.num ≤ 18 * s
   thirds_most =
       le_of_mul-le-mul_right {k = c.den} (omega (arith, thirds_exact, mul-le-mul_left s d.cap_most)) d.cap_positive
 
-  -- what the root rises by, times how far T is past 0.6·T0
+  -- what a root rises by, times how far T is past 0.6·T0
   module _ (a b t k : ℕ) (h : Shape a b t) (lo : s ≤ k) (below : t * a < 1000 * b) where
     rise_small : 3 * s / c.den * c.num - 3 * k ≤ 150_000_000
-    rise_small =
-        let m = u.most in
-        omega (arith, thirds_most)
-
-    way_small : t * a - 600 * b ≤ 80_000_000_000
-    way_small =
-        let m = h.b_most in
-        omega arith
+    rise_small = omega (arith, thirds_most, u.most)
 
     pub rise_fits : (3 * s / c.den * c.num - 3 * k) * (t * a - 600 * b) ≤ 12_000_000_000_000_000_000
-    rise_fits = mul-le-mul rise_small way_small
+    rise_fits =
+        let way : t * a - 600 * b ≤ 80_000_000_000 = omega (arith, h.b_most) in
+        mul-le-mul rise_small way
 
-    way_whole : (3 * s / c.den * c.num - 3 * k) * (t * a - 600 * b) ≤ 1200 * b * 150_000_000
-    way_whole =
-        let w : t * a - 600 * b ≤ 1200 * b = omega arith in
-        omega (arith, mul-le-mul rise_small w)
+    -- and over 0.4·T0, rounded to a side
+    pub risen_most : {q o : ℕ → ℕ → ℕ} {z : ℤ → ℕ → ℤ} → Rounds q o z
+        → q ((3 * s / c.den * c.num - 3 * k) * (t * a - 600 * b)) (1200 * b) ≤ 150_000_000
+    risen_most rounds =
+        let way : t * a - 600 * b ≤ 1200 * b = omega arith in
+        rounds.most _ (1200 * b) 150_000_000 (omega (arith, h.b_positive)) (omega (arith, mul-le-mul rise_small way))
 
-    pub risen_down : down ((3 * s / c.den * c.num - 3 * k) * (t * a - 600 * b)) (1200 * b) ≤ 150_000_000
-    risen_down =
-        let p = h.b_positive in
-        down_most _ (1200 * b) 150_000_000 (omega arith) way_whole
+  -- the root to a side
+  module _ {root : ℕ → Fraction → ℕ} (between : Between root) where
+    least : s ≤ root s ρ
+    least = le_trans root_least (between.between s ρ small d.square_positive).0
 
-    pub risen_up : up ((3 * s / c.den * c.num - 3 * k) * (t * a - 600 * b)) (1200 * b) ≤ 150_000_000
-    risen_up =
-        let p = h.b_positive in
-        up_most _ (1200 * b) 150_000_000 (omega arith) way_whole
+    below : root s ρ * c.den ≤ s * c.num
+    below = le_trans (mul-le-mul_right c.den (between.between s ρ small d.square_positive).1) d.root_most
+
+    most : root s ρ ≤ 60_000_000
+    most = le_of_mul-le-mul_right {k = c.den} (omega (arith, mul-le-mul u.most d.cap_most, below)) d.cap_positive
+
+    thirds : 3 * root s ρ ≤ 3 * s / c.den * c.num
+    thirds = le_of_mul-le-mul_right {k = c.den} (omega (arith, thirds_exact, below)) d.cap_positive
+
+    pub rooted : (k : ℕ) → k ≡ root s ρ → Rooted s c k
+    rooted k e = subst (Rooted s c) (sym e) (record { least = least; most = most; thirds = thirds })

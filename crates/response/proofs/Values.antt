@@ -1,13 +1,11 @@
--- The mean in s-ths in each of its four branches, as the code works it out; rounded down and up alike.
+-- The mean in s-ths in each of its four branches, as the code works it out.
 -- Assumes nothing.
 use mathlib.Core.Path.{◌≡◌, sym, ap, ◌∙◌}
 use Prim.Native.Nat.{ℕ, ◌+◌, ◌-◌, ◌*◌, ◌≤◌, ◌<◌}
 use native.Mathlib.Nat.{mul-pos}
 use native.Mathlib.Omega.{arith}
 use Rattle.whole.specs.declared.Fraction.{Fraction}
-use Rattle.whole.specs.Fraction.{over, up_in, down_in}
-use Rattle.whole.specs.Rounding.{up, down}
-use Rattle.whole.proofs.Rounding.{up_same, down_same}
+use Rattle.whole.specs.Fraction.{over}
 use Rattle.response.proofs.Mean.{Weights, mean}
 
 -- the mean at the root k/s is N/D s-ths
@@ -15,13 +13,6 @@ pub record Is (s k : ℕ) (c : Fraction) (w : Weights) (N D : ℕ) : Type 0 wher
   pub divisor : 0 < (mean w (over k s) c).den
   pub other : 0 < D
   pub same : s * (mean w (over k s) c).num * D ≡ N * (mean w (over k s) c).den
-
-module _ {s k : ℕ} {c : Fraction} {w : Weights} {N D : ℕ} (e : Is s k c w N D) where
-  pub down_is : down_in s (mean w (over k s) c) ≡ down N D
-  down_is = down_same _ _ N D e.divisor e.other e.same
-
-  pub up_is : up_in s (mean w (over k s) c) ≡ up N D
-  up_is = up_same _ _ N D e.divisor e.other e.same
 
 module _ (s k : ℕ) (c : Fraction) (ps : 0 < s) (pc : 0 < c.den) where
   -- the capacity alone

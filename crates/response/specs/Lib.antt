@@ -7,3 +7,4 @@ pub mod Factor
 pub mod Ratio
 pub mod Figures
 pub mod Reach
+pub mod Side

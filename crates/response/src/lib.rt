@@ -5,6 +5,7 @@
 pub mod factor;
 pub mod period;
 pub mod ratio;
+pub mod side;
 pub mod spectrum;
 
 // Ten-millionths.

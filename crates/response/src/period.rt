@@ -15,8 +15,7 @@ pub fn coefficient(kind: Kind) -> u64
 {
     match kind {
         Kind::Steel => 85,
-        Kind::Concrete => 70,
-        Kind::Braced => 70,
+        Kind::Concrete | Kind::Braced => 70,
         Kind::Other => 50,
     }
 }
@@ -29,7 +28,8 @@ pub fn approximate(kind: Kind, h: u64) -> u64
     largest(1000, 4, power(coefficient(kind), 4) * power(h, 3), PAST)
 }
 
-// With a calculated period the smaller of it and 14 t / 10 rounded down; else t.
+// With a calculated period the smaller of it and 14 t / 10 rounded down; else t. 0 is 'none', in the definition `in_use` too.
+#[tactic(auto, unfolding(crate::specs::Period::in_use))]
 pub fn in_use(calculated: u64, t: u64) -> u64
     requires { t ≤ 1_000_000 }
     ensures { result ≡ in_use calculated t }
@@ -37,11 +37,7 @@ pub fn in_use(calculated: u64, t: u64) -> u64
     if calculated == Frame::NO_PERIOD {
         return t;
     }
-    let most = down(14 * t, 10);
-    if calculated <= most {
-        return calculated;
-    }
-    most
+    calculated.min(down(14 * t, 10))
 }
 
 pub fn period_of(kind: Kind, calculated: u64, h: u64) -> u64

@@ -9,6 +9,7 @@ use whole::quotients::up;
 // A whole g in the unit of A and B.
 const G: u64 = 100_000_000;
 
+// A type of fine units in place of `FineUnit` would be taken apart again for `ratio`, `modified` and `newtons`, which ask less of s.
 pub fn spectrum(s: u64, a: u64, b: u64, t: u64) -> u64
     requires { FineUnit s × Shape a b t }
     ensures { result ≡ spectrum s a b t }

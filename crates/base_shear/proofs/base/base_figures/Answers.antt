@@ -1,14 +1,10 @@
 -- `base_shear::base::base_figures` meets its contract. Assumes nothing.
-use mathlib.Core.Path.{sym, ap, subst, ◌∙◌}
+use mathlib.Core.Path.{sym, subst}
 use Prim.Native.Nat.{ℕ}
 use Rattle.base_shear.specs.Ready.{Shearing}
-use Rattle.base_shear.specs.Shears.{figures_at}
 use Rattle.response.proofs.Periods.{period_bounds}
 use Rattle.response.specs.Unit.{unit}
 use Rattle.base_shear.proofs.base.base_figures.Goals as goal
-
-pub period_of-t-requires : goal.period_of-t-requires
-period_of-t-requires c = (c.requires.3, c.requires.4)
 
 pub figures_at-requires : goal.figures_at-requires
 figures_at-requires c =
@@ -16,8 +12,3 @@ figures_at-requires c =
     let p = c.requires in
     let t = period_bounds a.frame.kind a.frame.calculated a.height p.3 p.4 in
     (subst (λ (t : ℕ). Shearing unit a.hazards t) (sym c.period_of-t.ensures) (p.0.shearing _ t.1), p.1, p.2)
-
-pub returns : goal.returns
-returns c =
-    let a = c.args in
-    c.figures_at.ensures ∙ ap (figures_at unit a.hazards a.frame a.weight) c.period_of-t.ensures

@@ -10,18 +10,12 @@ use Rattle.base_shear.proofs.shears.modified_at.Goals as goal
 pub modified-requires : goal.modified-requires
 modified-requires c =
     let a = c.args in
-    let h = a.h in
     let u = c.requires.0 in
-    let q = ratio_at_most a.s h a.t u c.requires.2 in
-    let m = u.most in
-    (c.requires.1, m, omega (arith, c.ratio_at.ensures))
+    (c.requires.1, u.most, omega (arith, c.ratio_at.ensures, ratio_at_most a.s a.h a.t u c.requires.2, u.most))
 
 pub returns : goal.returns
 returns c =
     let a = c.args in
-    let h = a.h in
     let u = c.requires.0 in
-    let q = ratio_at_most a.s h a.t u c.requires.2 in
-    let m = u.most in
     let e = c.modified.ensures ∙ ap (modified a.s a.l) c.ratio_at.ensures in
-    (e, omega (arith, e, modified_most a.s a.l (ratio_at a.s h a.t) c.requires.1))
+    (e, omega (arith, e, modified_most a.s a.l (ratio_at a.s a.h a.t) c.requires.1, ratio_at_most a.s a.h a.t u c.requires.2, u.most))

@@ -1,7 +1,7 @@
 -- `base_shear::shears::newtons` meets its contract: 10⁴ cancels. Assumes nothing.
 use mathlib.Core.Path.{◌≡◌, ap, ◌∙◌}
-use Prim.Native.Nat.{ℕ, ◌*◌, ◌/◌, ◌≤◌, ◌<◌}
-use native.Mathlib.Nat.{mul-le-mul, mul-pos}
+use Prim.Native.Nat.{ℕ, ◌*◌, ◌/◌, ◌<◌}
+use native.Mathlib.Nat.{mul-pos}
 use native.Mathlib.Omega.{arith}
 use Rattle.base_shear.specs.Shears.{newtons}
 use Rattle.response.proofs.Spectra.{left_positive}
@@ -11,39 +11,6 @@ use Rattle.base_shear.proofs.shears.newtons.Goals as goal
 -- the two quotients are one number
 crossed : (x n u al s : ℕ) → u * 10_000 ≡ s → x * (n * s * al) ≡ 10_000 * x * (n * u * al)
 crossed x n u al s e = omega (arith, ap (λ (z : ℕ). x * n * al * z) e)
-
-pub overflow_mul-f : goal.overflow_mul-f
-overflow_mul-f c =
-    let p = c.requires in
-    omega (arith, mul-le-mul p.5.i.1 p.7)
-
-pub overflow_mul-f-2 : goal.overflow_mul-f-2
-overflow_mul-f-2 c =
-    let p = c.requires in
-    omega (arith, mul-le-mul (mul-le-mul p.5.i.1 p.7) p.6)
-
-pub overflow_mul-n : goal.overflow_mul-n
-overflow_mul-n c =
-    let a = c.args in
-    let p = c.requires in
-    let u = a.s / 10_000 in
-    let us : u ≤ 1000 = omega (arith, p.0, p.2) in
-    omega (arith, mul-le-mul p.4 us)
-
-pub overflow_mul-n-2 : goal.overflow_mul-n-2
-overflow_mul-n-2 c =
-    let a = c.args in
-    let p = c.requires in
-    let u = a.s / 10_000 in
-    let us : u ≤ 1000 = omega (arith, p.0, p.2) in
-    omega (arith, mul-le-mul (mul-le-mul p.4 us) p.5.alpha.1)
-
-pub up-requires : goal.up-requires
-up-requires c =
-    let a = c.args in
-    let p = c.requires in
-    let u = a.s / 10_000 in
-    mul-pos (mul-pos p.3 (left_positive u 10_000 a.s p.0 p.1)) (omega (arith, p.5.alpha.0))
 
 pub returns : goal.returns
 unfolding newtons

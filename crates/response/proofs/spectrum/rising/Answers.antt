@@ -1,20 +1,11 @@
 -- `response::spectrum::rising` meets its contract. Assumes nothing.
 use mathlib.Core.Path.{ap, ◌∙◌}
-use Prim.Native.Nat.{ℕ, ◌+◌, ◌*◌, ◌/◌, ◌%◌}
-use native.Mathlib.Nat.{mul-le-mul, mod-lt}
+use Prim.Native.Nat.{ℕ, ◌+◌, ◌*◌, ◌/◌}
+use native.Mathlib.Nat.{mul-le-mul}
 use native.Mathlib.Omega.{arith}
 use Rattle.response.proofs.Spectra.{in_parts, quotient_most, rest_most}
 use Rattle.whole.specs.Rounding.{up}
 use Rattle.response.proofs.spectrum.rising.Goals as goal
-
-pub overflow_add-q : goal.overflow_add-q
-overflow_add-q c = omega (arith, quotient_most c.args.b c.args.ta c.requires.3)
-
-pub overflow_mul-q : goal.overflow_mul-q
-overflow_mul-q c = omega (arith, mul-le-mul {n₁ = 400 + 3 * c.args.ta / c.args.b} {m₁ = c.args.a} {n₂ = 1000} {m₂ = 200_000_000} (omega (arith, quotient_most c.args.b c.args.ta c.requires.3)) c.requires.0)
-
-pub overflow_mul-r : goal.overflow_mul-r
-overflow_mul-r c = omega (arith, mul-le-mul {n₁ = 3 * c.args.ta % c.args.b} {m₁ = c.args.a} {n₂ = 200_000_000} {m₂ = 200_000_000} (omega (arith, mod-lt (3 * c.args.ta) c.requires.1)) c.requires.0)
 
 pub overflow_add-q-2 : goal.overflow_add-q-2
 overflow_add-q-2 c =
