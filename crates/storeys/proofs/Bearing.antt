@@ -1,7 +1,7 @@
 -- What levels bear, out of what those above the lowest bear: a bottom that is lower by d adds d times the forces together. So 01's sum
 -- over the levels from x upward is had in one pass from the roof down.
 -- Assumes nothing.
-use mathlib.Core.Path.{◌≡◌, sym, ap, ap₂, subst, ◌∙◌}
+use mathlib.Core.Path.{◌≡◌, refl, sym, ap, ap₂, subst, ◌∙◌}
 use mathlib.Core.List.{List, [], ◌∷◌}
 use Prim.Native.Nat.{ℕ, suc, ◌+◌, ◌*◌, ◌-◌, ◌≤◌, ◌<◌}
 use native.Mathlib.Omega.{arith}
@@ -14,9 +14,9 @@ use Rattle.storeys.specs.Storeys.{about, bottom, borne}
 use Rattle.storeys.proofs.Turning.{about_most, bottom_at, rises}
 
 -- above the roof there is nothing
-pub borne_none : (b : ℕ) (fs hs : List ℕ) → record { force = 0; moment = 0 } ≡ borne b (drop (length fs) fs) (drop (length fs) hs)
+pub borne_none : (b : ℕ) (fs hs : List ℕ) (r : Borne) → (r.force ≡ 0) × (r.moment ≡ 0) → r ≡ borne b (drop (length fs) fs) (drop (length fs) hs)
 unfolding about sum
-borne_none b fs hs = rw (drop-length fs)
+borne_none b fs hs r e = rw (drop-length fs) (ap₂ (λ (f m : ℕ). record { force = f; moment = m }) e.0 e.1)
 
 lowered : (b c : ℕ) (fs hs : List ℕ) → length fs ≡ length hs → b ≤ c → ((x : ℕ) → x < length hs → c ≤ get_or hs x 0)
     → about b fs hs ≡ about c fs hs + sum fs * (c - b)
@@ -43,6 +43,11 @@ borne_lowest b (f ∷ fs) (a ∷ hs) t s l =
     let e : 0 + (x + 1) ≡ suc x = omega arith in
     subst (λ (n : ℕ). a ≤ get_or (a ∷ hs) n 0) e (rises (a ∷ hs) t.rising 0 (x + 1) (omega arith)) in
     ap (λ (m : ℕ). record { force = f + sum fs; moment = m }) (omega (arith, lowered b a fs hs (omega (arith, t.same)) l up))
+
+pub sum_lowest : (fs : List ℕ) → get_or fs 0 0 + sum (drop 1 fs) ≡ sum fs
+unfolding sum
+sum_lowest [] = refl
+sum_lowest (f ∷ fs) = refl
 
 pub borne_most : (b : ℕ) (fs hs : List ℕ) → Turning fs hs → (sum fs ≤ 1_400_000_000) × (about b fs hs ≤ 2_800_000_000_000)
 borne_most b fs hs t = (t.load, omega (arith, about_most b fs hs 2_000 t.tall, t.load))

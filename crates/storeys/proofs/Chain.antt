@@ -1,12 +1,14 @@
 -- What a caller with judged levels has: each stage's asking is met by the data or by the stage before it.
 -- Assumes nothing.
-use mathlib.Core.Path.{◌≡◌, ◌∙◌}
-use mathlib.Core.List.{List}
+use mathlib.Core.Path.{◌≡◌, ap, ◌∙◌}
+use mathlib.Core.List.{List, ◌++◌}
 use Prim.Native.Nat.{ℕ, ◌≤◌, ◌<◌}
 use native.Mathlib.Nat.{mul-le-mul_right}
 use native.Mathlib.Omega.{arith}
-use lib.ListN.{length, get_or}
-use Rattle.whole.proofs.Cells.{cells_length}
+use lib.ListN.{length, get_or, take}
+use Rattle.std.proofs.lemmas.List.{append-nil, drop_all}
+use Rattle.whole.specs.Cells.{laid}
+use Rattle.whole.proofs.Cells.{cells_length, laid_part}
 use Rattle.storeys.specs.Reach.{Load, Weighing, Rising, Turning, Standing}
 use Rattle.storeys.specs.Storeys.{shear_under, shears, force, forces}
 use Rattle.storeys.proofs.Roof.{roof_at_most_one}
@@ -26,6 +28,21 @@ shears_length T v ws hs = cells_length (shear_under T v ws hs) (length ws)
 
 pub forces_length : (us : List ℕ) → length (forces us) ≡ length us
 forces_length us = cells_length (force us) (length us)
+
+-- ---- the first cells of a lent buffer b in which they were laid, handed on
+pub shears_laid : (T v : ℕ) (ws hs old : List ℕ) {b : List ℕ} → b ≡ laid (shears T v ws hs) old → take (length ws) b ≡ shears T v ws hs
+shears_laid T v ws hs old e = rw e (laid_part (shears T v ws hs) old (length ws) (shears_length T v ws hs))
+
+-- laid in a buffer of no further cell, they are all that it holds
+pub shears_whole : (T v : ℕ) (ws hs old : List ℕ) {b : List ℕ} → length old ≤ length ws → b ≡ laid (shears T v ws hs) old → b ≡ shears T v ws hs
+shears_whole T v ws hs old room e =
+    let us = shears T v ws hs in
+    e ∙ ap (λ (l : List ℕ). us ++ l) (drop_all (length us) old (omega (arith, shears_length T v ws hs))) ∙ append-nil us
+
+pub forces_laid : (T v : ℕ) (ws hs old : List ℕ) {b : List ℕ} → b ≡ laid (forces (shears T v ws hs)) old
+    → take (length ws) b ≡ forces (shears T v ws hs)
+forces_laid T v ws hs old e =
+    let us = shears T v ws hs in rw e (laid_part (forces us) old (length ws) (forces_length us ∙ shears_length T v ws hs))
 
 pub turning_of : (T v : ℕ) (ws hs : List ℕ) → Load T v → Standing ws hs → Turning (forces (shears T v ws hs)) hs
 turning_of T v ws hs l s =

@@ -6,3 +6,4 @@ pub mod Turning
 pub mod Bearing
 pub mod Chain
 pub mod Unique
+pub mod Laying

@@ -1,7 +1,8 @@
--- F_t is not above V, whatever part of V it is, as long as that part is at most 1; and the part is a quarter at most, at every T.
+-- F_t is not above V, whatever part of V it is, as long as that part is at most 1; and the part is a quarter at most, at every T. Nor is a share
+-- above what is shared.
 -- Assumes nothing.
 use Prim.Native.Nat.{ℕ, ◌*◌, ◌≤◌, ◌<◌}
-use native.Mathlib.Nat.{mul-le-mul_right, min-le_right}
+use native.Mathlib.Nat.{mul-le-mul_left, mul-le-mul_right, min-le_right}
 use native.Mathlib.Omega.{arith}
 use Rattle.whole.specs.declared.Fraction.{Fraction}
 use Rattle.whole.specs.Fraction.{over, AtMost}
@@ -15,6 +16,9 @@ part_most t v p h = up_most (t.num * v) t.den v p (mul-le-mul_right v h)
 
 pub roof_most : (T v : ℕ) → RoofAtMostOne T → roof_force T v ≤ v
 roof_most T v h = part_most (roof_part T) v (omega arith) h
+
+pub share_most : (r a p : ℕ) → 0 < p → a ≤ p → up (r * a) p ≤ r
+share_most r a p pos h = up_most (r * a) p r pos (omega (arith, mul-le-mul_left r h))
 
 -- ---- the part at every T
 part_at_most_25000 : (T : ℕ) → (roof_part T).num ≤ 25_000

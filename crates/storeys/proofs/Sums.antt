@@ -25,6 +25,11 @@ pub sum_level : (ws hs : List ℕ) (x : ℕ) → x < length ws → x < length hs
     → weight_height (drop x ws) (drop x hs) ≡ get_or ws x 0 * get_or hs x 0 + weight_height (drop (x + 1) ws) (drop (x + 1) hs)
 sum_level ws hs x w h = rw add-one (ap₂ weight_height (drop-cons ws x 0 w) (drop-cons hs x 0 h) ∙ cons _ _ _ _)
 
+-- P of all levels is the lowest level's part and P of those above it
+pub lowest_level : (ws hs : List ℕ) → 0 < length ws → length ws ≡ length hs
+    → weight_height ws hs ≡ get_or ws 0 0 * get_or hs 0 0 + weight_height (drop 1 ws) (drop 1 hs)
+lowest_level ws hs l e = sum_level ws hs 0 l (omega arith)
+
 -- above the roof there is nothing
 pub sum_end : (ws hs : List ℕ) → weight_height (drop (length ws) ws) (drop (length ws) hs) ≡ 0
 unfolding weight_height

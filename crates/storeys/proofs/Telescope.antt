@@ -13,10 +13,10 @@ use borrow.Author.Tests.{leb-true, leb-false}
 use Rattle.whole.specs.Cells.{cells, sum}
 use Rattle.whole.specs.Rounding.{up}
 use Rattle.whole.proofs.Cells.{cells_at, cells_past, past_end, sum_cells_more}
-use Rattle.whole.proofs.Rounding.{up_exact, up_mono, up_most}
+use Rattle.whole.proofs.Rounding.{up_exact, up_mono}
 use Rattle.storeys.specs.Reach.{Falling}
 use Rattle.storeys.specs.Storeys.{RoofAtMostOne, roof_force, weight_height, shear_under, shears, force, forces}
-use Rattle.storeys.proofs.Roof.{roof_most}
+use Rattle.storeys.proofs.Roof.{roof_most, share_most}
 use Rattle.storeys.proofs.Sums.{part_sum, sum_falls}
 
 -- ---- the shears
@@ -44,7 +44,7 @@ shear_most T v ws hs x p h =
     let P = weight_height ws hs in
     let a = weight_height (drop x ws) (drop x hs) in
     let r = v - roof_force T v in
-    omega (arith, up_most (r * a) P r p (omega (arith, mul-le-mul_left r (part_sum ws hs x))), roof_most T v h)
+    omega (arith, share_most r a P p (part_sum ws hs x), roof_most T v h)
 
 -- ---- the forces
 pub shears_fall : (T v : ℕ) (ws hs : List ℕ) → 0 < weight_height ws hs → Falling (shears T v ws hs)

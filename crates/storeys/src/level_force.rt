@@ -9,20 +9,19 @@ pub fn level_force(shears: &[u64], x: usize) -> u64
     requires { Falling shears.now × (x < length shears.now) }
     ensures { result ≡ force shears.now x }
 {
-    if x + 1 < shears.len() {
-        return shears[x] - shears[x + 1];
+    match shears.get(x + 1) {
+        Some(above) => shears[x] - above,
+        None => shears[x],
     }
-    shears[x]
 }
 
 // The force of every level, into the first cells of out.
+#[tactic(auto, using(crate::proofs::Laying::laid_by_place))]
 pub fn fill_forces(shears: &[u64], out: &mut [u64])
     requires { Falling shears.now × (length shears.now ≤ length out.old) }
     ensures { out.new ≡ laid (forces shears.now) out.old }
 {
-    let mut x = 0;
-    while x < shears.len() {
-        out[x] = level_force(shears, x);
-        x += 1;
+    for (x, cell) in out[..shears.len()].iter_mut().enumerate() {
+        *cell = level_force(shears, x);
     }
 }

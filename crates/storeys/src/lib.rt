@@ -1,4 +1,5 @@
 // The storeys: roof force, shears, forces, overturning.
+// Weights and heights, and T and V, are handed on apart: `Weighing`, `Standing` and `Load` are clauses of public functions that docs/PROMISES.md names.
 #![tactic(auto)]
 
 pub mod level_force;

@@ -16,18 +16,15 @@ const WHOLE: u64 = 100_000;
 // A quarter of WHOLE.
 const QUARTER: u64 = 25_000;
 
-// The part of V at the roof, in 100,000: none up to 700 ms, above that the smaller of 0.07 (T in s) and a quarter. T is compared by a
-// quotient, so that no product of it can wrap.
+// The part of V at the roof, in 100,000: none up to 700 ms, above that the smaller of 0.07 (T in s) and a quarter. The product saturates,
+// so that no T is asked for to be small.
 pub fn roof_part(t: u64) -> u64
     ensures { result ≡ (roof_part t).num }
 {
     if t <= NONE_UP_TO {
         return 0;
     }
-    if t <= QUARTER / PART {
-        return PART * t;
-    }
-    QUARTER
+    PART.saturating_mul(t).min(QUARTER)
 }
 
 // F_t: that part of V, up.

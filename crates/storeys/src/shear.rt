@@ -10,6 +10,7 @@ use crate::weight_height::{above_lowest, weight_height};
 use whole::quotients::up;
 
 // F_t + (V - F_t) P_x / P, quotient up.
+#[tactic(auto, using(crate::proofs::Roof::share_most))]
 pub fn shared(ft: u64, v: u64, px: u64, p: u64) -> u64
     requires { (ft ≤ v) × (v ≤ 1_400_000_000) × (px ≤ p) × (0 < p) × (p ≤ 2_000_000_000) }
     ensures { result ≡ ft + up ((v - ft) * px) p }
@@ -25,10 +26,8 @@ pub fn fill_shears(t: u64, v: u64, weights: &[u64], heights: &[u64], out: &mut [
     let ft = roof_force(t, v);
     let p = weight_height(weights, heights);
     let mut px = p;
-    let mut x = 0;
-    while x < weights.len() {
-        out[x] = shared(ft, v, px, p);
+    for (x, cell) in out[..weights.len()].iter_mut().enumerate() {
+        *cell = shared(ft, v, px, p);
         px = above_lowest(px, &weights[x..], &heights[x..]);
-        x += 1;
     }
 }

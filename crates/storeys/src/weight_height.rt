@@ -8,16 +8,11 @@ pub fn weight_height(weights: &[u64], heights: &[u64]) -> u64
     requires { Weighing weights.now heights.now }
     ensures { result ≡ weight_height weights.now heights.now }
 {
-    let mut p = 0;
-    let mut i = 0;
-    while i < weights.len() {
-        p += weights[i] * heights[i];
-        i += 1;
-    }
-    p
+    weights.iter().zip(heights).map(|(w, h)| w * h).sum()
 }
 
 // P of the levels handed on but the lowest, with that of all at hand.
+#[tactic(auto, using(crate::proofs::Sums::lowest_level))]
 pub fn above_lowest(p: u64, weights: &[u64], heights: &[u64]) -> u64
     requires { Weighing weights.now heights.now × (0 < length weights.now) × (p ≡ weight_height weights.now heights.now) }
     ensures { result ≡ weight_height (drop 1 weights.now) (drop 1 heights.now) }

@@ -1,12 +1,9 @@
--- `storeys::level_force::fill_forces` meets its contract: cell after cell, and the rest untouched. Assumes nothing.
-use Prim.Native.Nat.{◌-◌, ◌≤◌}
-use lib.ListN.{length}
+-- `storeys::level_force::fill_forces` meets its contract: cell after cell. Assumes nothing.
+use mathlib.Core.Path.{◌≡◌}
+use Prim.Native.Nat.{ℕ, ◌<◌}
+use lib.ListN.{get_or}
 use Rattle.storeys.specs.Storeys.{force}
-use Rattle.whole.proofs.Cells.{Filling}
 use Rattle.storeys.proofs.level_force.fill_forces.Given as goal
 
 abbrev pub invariant-loop-x : goal.invariant-loop-x
-invariant-loop-x l = (l.x ≤ length l.shears) × Filling (force l.shears) l.initial.out l.x l.out
-
-abbrev pub decreases-loop-x : goal.decreases-loop-x
-decreases-loop-x l = length l.shears - l.x
+invariant-loop-x l = (k : ℕ) → k < l.x → get_or l.cell-items k 0 ≡ force l.shears k

@@ -1,15 +1,14 @@
--- `storeys::shear::fill_shears` meets its contract: cell after cell, and the rest untouched. The invariant: px is P_x, the sum of
--- what stands from level x on. Assumes nothing.
+-- `storeys::shear::fill_shears` meets its contract: cell after cell. The invariant: px is P_x, the sum of what stands from level x on.
+-- Assumes nothing.
 use mathlib.Core.Path.{◌≡◌}
-use Prim.Native.Nat.{◌-◌, ◌≤◌}
-use lib.ListN.{length, drop}
+use Prim.Native.Nat.{ℕ, ◌<◌}
+use lib.ListN.{drop, get_or}
 use Rattle.storeys.specs.Storeys.{weight_height, shear_under}
-use Rattle.whole.proofs.Cells.{Filling}
 use Rattle.storeys.proofs.shear.fill_shears.Given as goal
 
 abbrev pub invariant-loop-x : goal.invariant-loop-x
 invariant-loop-x l =
-    (l.x ≤ length l.weights) × (l.px ≡ weight_height (drop l.x l.weights) (drop l.x l.heights)) × Filling (shear_under l.t l.v l.weights l.heights) l.initial.out l.x l.out
-
-abbrev pub decreases-loop-x : goal.decreases-loop-x
-decreases-loop-x l = length l.weights - l.x
+    record {
+      rest : l.px ≡ weight_height (drop l.x l.weights) (drop l.x l.heights);
+      written : (k : ℕ) → k < l.x → get_or l.cell-items k 0 ≡ shear_under l.t l.v l.weights l.heights k;
+    }
