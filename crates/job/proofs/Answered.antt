@@ -1,5 +1,6 @@
 -- What an answer of `job`, once it is known, says: of the judgments, of the figures and of the buffers.
 -- Assumes nothing.
+use Rattle.std.specs.Prelude.{Ok, Err}
 use mathlib.Core.Path.{◌≡◌, refl, sym, ap, ◌∙◌}
 use mathlib.Core.List.{List, [], ◌∷◌}
 use Prim.Native.Nat.{ℕ}
@@ -8,14 +9,13 @@ use Rattle.limits.specs.declared.ground.GroundValues.{GroundValues}
 use Rattle.limits.specs.declared.judging.Given.{Given}
 use Rattle.limits.specs.declared.refusal.Refusal.{Refusal}
 use Rattle.limits.specs.Judging.{judged_job}
-use Rattle.limits.specs.Outcome.{Outcome, accepted, refused, number, place, values}
+use Rattle.limits.specs.Outcome.{Outcome, accepted, refused, number, place, values, Answer, outcome}
 use Rattle.limits.proofs.Passed.{never, one_value, one_refusal}
 use Rattle.limits.proofs.Reading.{success, refusal}
 use Rattle.base_shear.specs.declared.Figures.{Figures}
-use Rattle.job.specs.declared.FiguresAnswer.TheVariants.{Taken, Refused}
 use Rattle.job.specs.Distribution.{Buffers, shortest}
 use Rattle.job.specs.Job.{Results, job_figures, results_at, figures_only, written, Answers}
-use Rattle.job.specs.ShearCall.{five, answer_outcome}
+use Rattle.job.specs.ShearCall.{five}
 use Rattle.job.proofs.Stages.{job_refused, job_accepted}
 
 module _ (G : GroundValues) (f : FrameValues) (ws hs : List ℕ) (b : Buffers) where
@@ -26,7 +26,7 @@ module _ (G : GroundValues) (f : FrameValues) (ws hs : List ℕ) (b : Buffers) w
     pub figures : n ≡ job_figures given ws hs
     pub cells : b' ≡ written (accepted (results_at n ws hs)) b
 
-  module _ (n : Figures) (b' : Buffers) (a : Answers G f ws hs b (Taken n) b') where
+  module _ (n : Figures) (b' : Buffers) (a : Answers G f ws hs b (Ok n) b') where
     pub taken_accepted : Accepted n b'
     taken_accepted = go (judged_job G f ws hs (shortest b)) refl
       where
@@ -44,7 +44,7 @@ module _ (G : GroundValues) (f : FrameValues) (ws hs : List ℕ) (b : Buffers) w
             }
         go (refused m p) e = absurd (never (sym (a.0 ∙ ap figures_only (job_refused G f ws hs (shortest b) e))))
 
-  module _ (r : Refusal) (b' : Buffers) (a : Answers G f ws hs b (Refused r) b') where
+  module _ (r : Refusal) (b' : Buffers) (a : Answers G f ws hs b (Err r) b') where
     pub refused_judged : judged_job G f ws hs (shortest b) ≡ refused r.number r.place
     refused_judged = go (judged_job G f ws hs (shortest b)) refl
       where
@@ -61,10 +61,10 @@ module _ (G : GroundValues) (f : FrameValues) (ws hs : List ℕ) (b : Buffers) w
 
 -- the numbers that come back: number and place, and 'figures 0' where data is refused
 pub taken_values : (n : Figures)
-    → (number (answer_outcome (Taken n)) ≡ 0) × (place (answer_outcome (Taken n)) ≡ 0) × (values five 5 (answer_outcome (Taken n)) ≡ five n)
+    → (number (outcome (Ok n)) ≡ 0) × (place (outcome (Ok n)) ≡ 0) × (values five 5 (outcome (Ok n)) ≡ five n)
 taken_values n = success n five 5
 
 pub refused_values : (r : Refusal)
-    → (number (answer_outcome (Refused r)) ≡ r.number) × (place (answer_outcome (Refused r)) ≡ r.place)
-    × (values five 5 (answer_outcome (Refused r)) ≡ 0 ∷ 0 ∷ 0 ∷ 0 ∷ 0 ∷ [])
+    → (number (outcome {A = Figures} (Err r)) ≡ r.number) × (place (outcome {A = Figures} (Err r)) ≡ r.place)
+    × (values five 5 (outcome {A = Figures} (Err r)) ≡ 0 ∷ 0 ∷ 0 ∷ 0 ∷ 0 ∷ [])
 refused_values r = refusal r.number r.place five

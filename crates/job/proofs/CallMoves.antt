@@ -2,6 +2,8 @@
 -- were answered with figures, that T is the same, and the change. Kind, calculated period and height may differ: T is all that they make. Where they do
 -- not, T is the same.
 -- Assumes nothing.
+use Rattle.std.specs.Prelude.{Ok}
+use Rattle.limits.specs.Outcome.{Answer}
 use mathlib.Core.Path.{◌≡◌, sym, ap, subst, subst₂, ◌∙◌}
 use Prim.Native.Nat.{ℕ, ◌≤◌, ◌<◌}
 use native.Mathlib.Omega.{arith}
@@ -21,7 +23,6 @@ use Rattle.base_shear.specs.declared.Figures.{Figures}
 use Rattle.base_shear.specs.Moves.{NoLighter}
 use Rattle.base_shear.specs.Ready.{Reached}
 use Rattle.base_shear.specs.Shears.{figures_at}
-use Rattle.job.specs.declared.FiguresAnswer.TheVariants.{Taken}
 use Rattle.job.specs.Moves.{NoneLower, AsRGrows}
 use Rattle.job.specs.ShearCall.{given_hazards, building_figures, Sheared}
 use Rattle.job.proofs.FiguresMove.{figures_never_lower, figures_as_r_grows}
@@ -38,7 +39,7 @@ record Answered (G : GroundValues) (f : FrameValues) (W h : ℕ) (n : Figures) :
   figures : n ≡ figures_at unit (given_hazards given) given.frame W n.t
   period : n.t ≤ period_most
 
-answered : (G : GroundValues) (f : FrameValues) (W h : ℕ) (n : Figures) → Sheared G f W h (Taken n) → Answered G f W h n
+answered : (G : GroundValues) (f : FrameValues) (W h : ℕ) (n : Figures) → Sheared G f W h (Ok n) → Answered G f W h n
 unfolding figures_at
 answered G f W h n c =
     let a = taken_accepted G f W h n c in
@@ -55,7 +56,7 @@ answered G f W h n c =
     }
 
 -- ---- T is of kind, calculated period and height alone
-module _ (G : GroundValues) (f f' : FrameValues) (W h W' h' : ℕ) (n n' : Figures) (p : Sheared G f W h (Taken n)) (q : Sheared G f' W' h' (Taken n')) where
+module _ (G : GroundValues) (f f' : FrameValues) (W h W' h' : ℕ) (n n' : Figures) (p : Sheared G f W h (Ok n)) (q : Sheared G f' W' h' (Ok n')) where
   pub same_period : f.kind ≡ f'.kind → f.calculated ≡ f'.calculated → h ≡ h' → n.t ≡ n'.t
   same_period kind calculated height =
       let a = answered G f W h n p in
@@ -66,7 +67,7 @@ module _ (G : GroundValues) (f f' : FrameValues) (W h W' h' : ℕ) (n n' : Figur
       a.made ∙ (λ j. period_of (one_kind j) (one_calculated j) (height j)) ∙ sym a'.made
 
 -- ---- two answered calls
-module _ (G : GroundValues) (f f' : FrameValues) (W h W' h' : ℕ) (n n' : Figures) (p : Sheared G f W h (Taken n)) (q : Sheared G f' W' h' (Taken n'))
+module _ (G : GroundValues) (f f' : FrameValues) (W h W' h' : ℕ) (n n' : Figures) (p : Sheared G f W h (Ok n)) (q : Sheared G f' W' h' (Ok n'))
     (same : n.t ≡ n'.t) where
   abbrev a : Answered G f W h n
   a = answered G f W h n p

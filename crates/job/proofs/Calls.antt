@@ -1,7 +1,7 @@
 -- What is proved of a call with buffers holds of every outcome of `job_of`, and of the figures without buffers: there is such a call.
---   answer_of o    the answer that says the outcome o
 --   blank ws       buffers of one cell a level
 -- Assumes nothing.
+use Rattle.std.specs.Prelude.{Ok, Err}
 use mathlib.Core.Path.{◌≡◌, refl, sym, ap, ◌∙◌}
 use mathlib.Core.List.{List}
 use Prim.Native.Nat.{ℕ, min}
@@ -11,21 +11,11 @@ use Rattle.whole.specs.Cells.{cells}
 use Rattle.whole.proofs.Cells.{cells_length}
 use Rattle.limits.specs.declared.frame.FrameValues.{FrameValues}
 use Rattle.limits.specs.declared.ground.GroundValues.{GroundValues}
-use Rattle.limits.specs.Outcome.{Outcome, accepted, refused}
+use Rattle.limits.specs.Outcome.{Outcome, accepted, refused, Answer, outcome}
+use Rattle.limits.proofs.Unique.{answer_of, says_outcome}
 use Rattle.base_shear.specs.declared.Figures.{Figures}
-use Rattle.job.specs.declared.FiguresAnswer.{FiguresAnswer}
-use Rattle.job.specs.declared.FiguresAnswer.TheVariants.{Taken, Refused}
 use Rattle.job.specs.Distribution.{Buffers, shortest}
 use Rattle.job.specs.Job.{job_of, figures_only, written, Figured, Answers}
-use Rattle.job.specs.ShearCall.{answer_outcome}
-
-abbrev pub answer_of : Outcome Figures → FiguresAnswer
-answer_of (accepted n) = Taken n
-answer_of (refused n p) = Refused (record { number = n; place = p })
-
-pub says_outcome : (o : Outcome Figures) → answer_outcome (answer_of o) ≡ o
-says_outcome (accepted n) = refl
-says_outcome (refused n p) = refl
 
 abbrev pub blank : List ℕ → Buffers
 blank ws =
@@ -40,7 +30,7 @@ module _ (G : GroundValues) (f : FrameValues) (ws hs : List ℕ) where
       → Answers G f ws hs b (answer_of (figures_only (job_of G f ws hs (shortest b)))) (written (job_of G f ws hs (shortest b)) b)
   outcome_answers b = (says_outcome _, refl)
 
-  pub figured_answers : (a : FiguresAnswer) → Figured G f ws hs a
+  pub figured_answers : (a : Answer Figures) → Figured G f ws hs a
       → Answers G f ws hs (blank ws) a (written (job_of G f ws hs (length ws)) (blank ws))
   figured_answers a p =
       let room = sym (blank_room ws) in (

@@ -1,6 +1,7 @@
 -- Demand 3 of every accepted job, and of `job` itself: of the base shear that it answers and of the cells of shears that it
 -- writes. The one premise is that it answered with figures.
 -- Assumes nothing.
+use Rattle.std.specs.Prelude.{Ok}
 use mathlib.Core.Path.{◌≡◌, sym, ap, subst}
 use mathlib.Core.List.{List}
 use Prim.Native.Nat.{ℕ}
@@ -10,7 +11,7 @@ use Rattle.limits.specs.declared.ground.GroundValues.{GroundValues}
 use Rattle.limits.specs.declared.judging.Given.{Given}
 use Rattle.limits.specs.Judging.{judged_job}
 use Rattle.limits.specs.Levels.{top_height}
-use Rattle.limits.specs.Outcome.{accepted}
+use Rattle.limits.specs.Outcome.{accepted, Answer}
 use Rattle.limits.proofs.Accepted.{given_allowed}
 use Rattle.limits.proofs.AcceptedCalls.{given_building}
 use Rattle.response.specs.Period.{period_of}
@@ -21,7 +22,6 @@ use Rattle.storeys.specs.Storeys.{shear_under}
 use Rattle.margin.specs.Demand3.{Demand3}
 use Rattle.margin.proofs.Demand3.{of_cells}
 use Rattle.margin.proofs.Reached.{demand3_reached}
-use Rattle.job.specs.declared.FiguresAnswer.TheVariants.{Taken}
 use Rattle.job.specs.Distribution.{Buffers, shortest}
 use Rattle.job.specs.Job.{job_figures, Answers}
 use Rattle.job.specs.ShearCall.{given_hazards}
@@ -48,7 +48,7 @@ module _ (G : GroundValues) (f : FrameValues) (ws hs : List ℕ) (b : Buffers) w
     pub period : n.t ≡ period_of given.frame.kind given.frame.calculated (top_height hs)
     pub kept : Demand3 unit (given_hazards given) given.frame ws hs n.t n.vd (λ x. get_or b'.shears x 0)
 
-  pub demand_3 : (n : Figures) (b' : Buffers) → Answers G f ws hs b (Taken n) b' → Kept n b'
+  pub demand_3 : (n : Figures) (b' : Buffers) → Answers G f ws hs b (Ok n) b' → Kept n b'
   unfolding figures_at
   demand_3 n b' a =
       let t = taken_accepted G f ws hs b n b' a in

@@ -5,6 +5,7 @@
 --   columns_in_millionths g T ws hs    forces, shears and overturning moments of that V_D, at the period T
 --   NotAbove n m          V, V_M, V* and V_D of n are at most those of m
 -- Assumes nothing.
+use Rattle.std.specs.Prelude.{Ok}
 use mathlib.Core.Path.{◌≡◌, sym, subst}
 use mathlib.Core.List.{List}
 use Prim.Native.Nat.{ℕ, ◌+◌, ◌≤◌, ◌<◌}
@@ -17,7 +18,7 @@ use Rattle.limits.specs.declared.judging.Given.{Given}
 use Rattle.limits.specs.Allowed.{AllowedShearCall}
 use Rattle.limits.specs.Judging.{judged_job}
 use Rattle.limits.specs.Levels.{top_height}
-use Rattle.limits.specs.Outcome.{accepted}
+use Rattle.limits.specs.Outcome.{accepted, Answer}
 use Rattle.limits.proofs.Accepted.{given_allowed}
 use Rattle.limits.proofs.AcceptedCalls.{given_building}
 use Rattle.response.specs.Period.{period_of}
@@ -28,7 +29,6 @@ use Rattle.storeys.proofs.Roof.{roof_at_most_one}
 use Rattle.margin.proofs.Finer.{finer_shear_never_above, finer_star_never_above, unit_never_above_millionths}
 use Rattle.margin.proofs.RisesWithBase.{shear_rises, top_force_rises, force_rises_by_one}
 use Rattle.margin.proofs.OverturningRises.{overturning_rises}
-use Rattle.job.specs.declared.FiguresAnswer.TheVariants.{Taken}
 use Rattle.job.specs.Distribution.{Columns, columns_at, Buffers, shortest}
 use Rattle.job.specs.Job.{Answers}
 use Rattle.job.specs.ShearCall.{given_hazards, building_figures}
@@ -78,7 +78,7 @@ module _ (G : GroundValues) (f : FrameValues) (ws hs : List ℕ) (b : Buffers) w
     pub top_force : (x : ℕ) → x + 1 ≡ length ws → get_or b'.forces x 0 ≤ force (columns_in_millionths given n.t ws hs).shears x
 
   -- the one premise is that it answered with figures
-  pub job_not_above : (n : Figures) (b' : Buffers) → Answers G f ws hs b (Taken n) b' → AtMostMillionths n b'
+  pub job_not_above : (n : Figures) (b' : Buffers) → Answers G f ws hs b (Ok n) b' → AtMostMillionths n b'
   job_not_above n b' a =
       let t = taken_accepted G f ws hs b n b' a in
       let g = t.given in

@@ -2,13 +2,14 @@
 -- the ground goes through `given_reached` and `given_bounded`.
 --   Between n    V_D is 1 to 1,125,000,000 N and T is 1 to 6328 ms
 -- Assumes nothing.
-use mathlib.Core.Path.{sym}
+use mathlib.Core.Path.{◌≡◌, sym, subst}
 use mathlib.Core.List.{List}
 use Prim.Native.Nat.{ℕ, ◌*◌, ◌≤◌, ◌<◌}
 use native.Mathlib.Omega.{arith}
 use lib.ListN.{length}
 use Rattle.limits.specs.declared.judging.Given.{Given}
-use Rattle.limits.specs.Allowed.{AllowedLevels, AllowedShearCall, AllowedHanded}
+use Rattle.limits.specs.Allowed.{AllowedLevels, AllowedJob, AllowedShearCall, AllowedHanded}
+use Rattle.limits.proofs.AcceptedCalls.{given_building}
 use Rattle.response.proofs.Periods.{period_bounds}
 use Rattle.base_shear.specs.declared.Figures.{Figures}
 use Rattle.base_shear.specs.Ready.{Bounded, Reached}
@@ -16,6 +17,7 @@ use Rattle.base_shear.specs.Shears.{figures_at}
 use Rattle.base_shear.proofs.Bounds.{base_most, base_least, base_for_each}
 use Rattle.storeys.specs.Reach.{Load, Standing}
 use Rattle.storeys.proofs.Chain.{load_of, standing_of}
+use Rattle.job.specs.Job.{job_figures}
 use Rattle.job.specs.ShearCall.{given_hazards, building_figures}
 use Rattle.base_shear.proofs.GroundReached.{ground_bounded, ground_reached}
 
@@ -57,3 +59,9 @@ between_handed n b = record { shear = (b.0, omega (arith, b.1)); period = omega 
 
 pub load : (n : Figures) → Between n → Load n.t n.vd
 load n b = load_of n.t n.vd (omega (arith, b.3)) (omega (arith, b.1))
+
+-- what the storeys ask of the figures of an allowed job
+pub figures_load : (ws hs : List ℕ) {g : Given} (n : Figures) → AllowedJob g ws hs → n ≡ job_figures g ws hs → Load n.t n.vd
+figures_load ws hs {g} n a e =
+    subst (λ (x : Figures). Load x.t x.vd) (sym e)
+    (load (job_figures g ws hs) (given_between g _ _ (given_building g ws hs a)))

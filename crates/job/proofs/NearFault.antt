@@ -2,6 +2,7 @@
 --   ByPairs v u n m    of site lines v and u with figures n and m: V is the same where the mapped values and the pair of the design level are, V_M where
 --                      those of the MCE level are, and V* where the mapped values of the design level are
 -- Assumes nothing.
+use Rattle.std.specs.Prelude.{Ok}
 use mathlib.Core.Path.{◌≡◌, sym, ap, ◌∙◌}
 use mathlib.Core.List.{List}
 use Prim.Native.Nat.{ℕ}
@@ -17,7 +18,7 @@ use Rattle.limits.specs.Building.{judged_building}
 use Rattle.limits.specs.Frame.{judged_frame}
 use Rattle.limits.specs.Ground.{judged_ground}
 use Rattle.limits.specs.Judging.{judged_shear_call}
-use Rattle.limits.specs.Outcome.{accepted}
+use Rattle.limits.specs.Outcome.{accepted, Answer}
 use Rattle.limits.specs.Class.{judged_class}
 use Rattle.limits.specs.Site.{site_of, judged_mapped, judged_near_fault, judged_site}
 use Rattle.limits.proofs.Passed.{one_value, then_passed, bind_passed}
@@ -27,7 +28,6 @@ use Rattle.site.specs.SiteHazards.{design_hazard, mce_hazard}
 use Rattle.response.specs.Period.{period_of}
 use Rattle.response.specs.Unit.{unit}
 use Rattle.base_shear.specs.Shears.{newtons, modified_at, blended_at, shear, star, figures_at}
-use Rattle.job.specs.declared.FiguresAnswer.TheVariants.{Taken}
 use Rattle.job.specs.Distribution.{Buffers}
 use Rattle.job.specs.Job.{Answers}
 use Rattle.job.specs.ShearCall.{building_figures, Sheared}
@@ -68,7 +68,7 @@ on_line v f W h g e =
 
 -- ---- two shear calls
 module _ (f : FrameValues) (W h : ℕ) (n m : Figures) (v u : SiteValues) (same : v.class ≡ u.class)
-    (p : Sheared (Site v) f W h (Taken n)) (q : Sheared (Site u) f W h (Taken m)) where
+    (p : Sheared (Site v) f W h (Ok n)) (q : Sheared (Site u) f W h (Ok m)) where
   record OneFrame : Type 0 where
     pub class : Class
     pub frame : Frame
@@ -118,6 +118,6 @@ module _ (f : FrameValues) (W h : ℕ) (n m : Figures) (v u : SiteValues) (same 
 
 -- ---- two jobs
 pub job_by_pairs : (f : FrameValues) (ws hs : List ℕ) (b c b' c' : Buffers) (n m : Figures) (v u : SiteValues) → v.class ≡ u.class
-    → Answers (Site v) f ws hs b (Taken n) b' → Answers (Site u) f ws hs c (Taken m) c' → ByPairs v u n m
+    → Answers (Site v) f ws hs b (Ok n) b' → Answers (Site u) f ws hs c (Ok m) c' → ByPairs v u n m
 job_by_pairs f ws hs b c b' c' n m v u same p q =
     call_by_pairs f _ _ n m v u same (job_parted (Site v) f ws hs b n b' p).0 (job_parted (Site u) f ws hs c m c' q).0

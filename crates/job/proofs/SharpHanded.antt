@@ -2,6 +2,7 @@
 -- of 3,568 ms, as the shear call gives them. Under its roof the distribution writes 321 N, and the exact figure from 1,033 N is 319.08 N. The
 -- definition, computed.
 -- Assumes nothing.
+use Rattle.std.specs.Prelude.{Ok}
 use mathlib.Core.Path.{refl}
 use mathlib.Core.List.{List, [], ◌∷◌}
 use Prim.Native.Nat.{ℕ, ◌<◌}
@@ -15,7 +16,6 @@ use Rattle.whole.specs.Root.{lower_root, upper_root}
 use Rattle.whole.specs.Rounding.{up, down}
 use Rattle.whole.specs.Search.{bits_from, largest, smallest}
 use Rattle.whole.specs.Signed.{floor, ceiling}
-use Rattle.limits.specs.declared.refusal.Verdict.TheVariants.{Passed}
 use Rattle.limits.specs.Building.{judged_building}
 use Rattle.limits.specs.Kind.{judged_kind}
 use Rattle.limits.specs.Frame.{judged_period, judged_frame}
@@ -33,14 +33,13 @@ use Rattle.base_shear.specs.Shears.{newtons, shear, star, base, figures_at}
 use Rattle.storeys.specs.Exact.{exact_shear_under}
 use Rattle.storeys.specs.Storeys.{weight_height, about}
 use Rattle.margin.specs.Demand3.{LessBy}
-use Rattle.job.specs.declared.FiguresAnswer.TheVariants.{Taken}
 use Rattle.job.specs.Distribution.{distribution_of, Buffers, Distributed}
 use Rattle.job.specs.ShearCall.{shear_call_of, Sheared}
 use Rattle.job.proofs.SharpMargin.{tall}
 
 -- what the shear call answers for its 13 kN and 200 m, and so the job
 pub tall_sheared : Sheared tall.ground tall.frame 13 2000
-    (Taken (record { v = 1033; vm = 957; star = 774; vd = 1033; t = 3568 }))
+    (Ok (record { v = 1033; vm = 957; star = 774; vd = 1033; t = 3568 }))
 unfolding shear_call_of judged_shear_call judged_building judged_site judged_mapped judged_near_fault judged_class judged_frame judged_kind judged_period
     among listed within in_range between up down largest smallest bits_from lower_root upper_root floor ceiling approximate in_use spectrum
     exact_spectrum factor lower_factor upper_factor ratio modified blended bent newtons shear star base figures_at
@@ -52,7 +51,7 @@ empty = record { forces = 0 ∷ 0 ∷ []; shears = 0 ∷ 0 ∷ []; overturnings 
 abbrev after : Buffers
 after = record { forces = 712 ∷ 321 ∷ []; shears = 1033 ∷ 321 ∷ []; overturnings = 2_028_976 ∷ 16_692 ∷ [] }
 
-pub tall_distributed : Distributed 1033 3568 tall.weights tall.heights empty Passed after
+pub tall_distributed : Distributed 1033 3568 tall.weights tall.heights empty (Ok tt) after
 unfolding distribution_of judged_distribution judged_levels judged_handed weighed raised within in_range cells weight_height about up
 tall_distributed = (refl, refl)
 
@@ -61,7 +60,7 @@ unfolding weight_height
 over_one_newton = lit≤ tt
 
 -- so 'less than one newton above' is false of what the distribution writes
-pub one_newton_false : ((v T : ℕ) (ws hs : List ℕ) (b b' : Buffers) → Distributed v T ws hs b Passed b' → (x : ℕ) → x < length ws
+pub one_newton_false : ((v T : ℕ) (ws hs : List ℕ) (b b' : Buffers) → Distributed v T ws hs b (Ok tt) b' → (x : ℕ) → x < length ws
     → LessBy (get_or b'.shears x 0) (exact_shear_under T ws hs (over v 1) x) (over 1 1)) → ⊥
 unfolding weight_height
 one_newton_false less =

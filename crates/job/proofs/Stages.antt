@@ -1,5 +1,6 @@
 -- What a job answers once its judgments have: the lines of `job_of`; and that its levels are a building, whose figures are the job's.
 -- Assumes nothing.
+use Rattle.std.specs.Prelude.{Ok, Err}
 use mathlib.Core.Path.{◌≡◌, sym, ap, ◌∙◌}
 use mathlib.Core.List.{List}
 use Prim.Native.Nat.{ℕ}
@@ -12,10 +13,9 @@ use Rattle.limits.specs.declared.refusal.Refusal.{Refusal}
 use Rattle.limits.specs.Allowed.{AllowedJob, AllowedShearCall}
 use Rattle.limits.specs.Judging.{judged_job}
 use Rattle.limits.specs.Levels.{top_height}
-use Rattle.limits.specs.Outcome.{Outcome, accepted, refused}
+use Rattle.limits.specs.Outcome.{Outcome, accepted, refused, Answer}
 use Rattle.limits.proofs.AcceptedCalls.{given_building}
 use Rattle.base_shear.specs.declared.Figures.{Figures}
-use Rattle.job.specs.declared.FiguresAnswer.TheVariants.{Taken, Refused}
 use Rattle.job.specs.Distribution.{Buffers, shortest}
 use Rattle.job.specs.Job.{Results, job_figures, results_at, results_of, job_of, figures_only, written, Answers}
 use Rattle.job.specs.ShearCall.{building_figures}
@@ -44,7 +44,7 @@ module _ (G : GroundValues) (f : FrameValues) (ws hs : List ℕ) (room : ℕ) wh
   job_accepted e = simp e
 
   module _ (b : Buffers) (short : room ≡ shortest b) where
-    pub refused_answers : (r : Refusal) → judged_job G f ws hs room ≡ refused r.number r.place → Answers G f ws hs b (Refused r) b
+    pub refused_answers : (r : Refusal) → judged_job G f ws hs room ≡ refused r.number r.place → Answers G f ws hs b (Err r) b
     refused_answers r e =
         let o = ap (λ (n : ℕ). job_of G f ws hs n) (sym short) ∙ job_refused e in
         (sym (ap figures_only o), sym (ap (λ (x : Outcome Results). written x b) o))
@@ -55,7 +55,7 @@ module _ (G : GroundValues) (f : FrameValues) (ws hs : List ℕ) (room : ℕ) wh
         → us ≡ laid (results_at n ws hs).columns.shears b.shears
         → ps ≡ laid (results_at n ws hs).columns.forces b.forces
         → os ≡ laid (results_at n ws hs).columns.overturnings b.overturnings
-        → Answers G f ws hs b (Taken n) (record { forces = ps; shears = us; overturnings = os })
+        → Answers G f ws hs b (Ok n) (record { forces = ps; shears = us; overturnings = os })
     accepted_answers g n {ps} {us} {os} e same eu ep em =
         let o = ap (λ (n : ℕ). job_of G f ws hs n) (sym short) ∙ job_accepted e in
         let cells : record { forces = ps; shears = us; overturnings = os } ≡ written (accepted (results_at n ws hs)) b

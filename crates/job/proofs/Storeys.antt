@@ -1,6 +1,8 @@
 -- The storeys of every accepted job, in the cells that `job` wrote: forces that add up to V_D to the newton, shears that never fall
 -- on the way down, so that no force is below zero, and a lowest shear that is V_D. They are what is said of columns of any base shear.
 -- Assumes nothing.
+use Rattle.std.specs.Prelude.{Ok}
+use Rattle.limits.specs.Outcome.{Answer}
 use mathlib.Core.Path.{◌≡◌}
 use mathlib.Core.List.{List}
 use Prim.Native.Nat.{ℕ, ◌+◌, ◌≤◌, ◌<◌}
@@ -12,14 +14,13 @@ use Rattle.limits.proofs.Accepted.{given_allowed}
 use Rattle.base_shear.specs.declared.Figures.{Figures}
 use Rattle.storeys.specs.Reach.{Standing}
 use Rattle.storeys.specs.Storeys.{shear_under, force, overturning}
-use Rattle.job.specs.declared.FiguresAnswer.TheVariants.{Taken}
 use Rattle.job.specs.Distribution.{columns_at, Buffers, shortest, laid_over}
 use Rattle.job.specs.Job.{Answers}
 use Rattle.job.proofs.Answered.{taken_accepted}
 use Rattle.job.proofs.Columns as columns
 use Rattle.job.proofs.GivenReached.{standing}
 
-module _ (G : GroundValues) (f : FrameValues) (ws hs : List ℕ) (b : Buffers) (n : Figures) (b' : Buffers) (a : Answers G f ws hs b (Taken n) b') where
+module _ (G : GroundValues) (f : FrameValues) (ws hs : List ℕ) (b : Buffers) (n : Figures) (b' : Buffers) (a : Answers G f ws hs b (Ok n) b') where
   -- the cells that were written
   abbrev pub forces_out : List ℕ
   forces_out = take (length ws) b'.forces

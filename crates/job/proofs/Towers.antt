@@ -3,6 +3,7 @@
 -- and two shares rounded up are at most one newton more than their sum's (`share_of_sum`). The premises are that the calls were answered with
 -- figures, and T.
 -- Assumes nothing.
+use Rattle.std.specs.Prelude.{Ok}
 use mathlib.Core.Path.{◌≡◌, refl, sym, ap, subst, ◌∙◌}
 use mathlib.Core.List.{List, [], ◌∷◌}
 use Prim.Native.Nat.{ℕ, ◌+◌, ◌≤◌}
@@ -22,7 +23,6 @@ use Rattle.base_shear.specs.declared.Figures.{Figures}
 use Rattle.base_shear.specs.Share.{base_share, share_of}
 use Rattle.base_shear.specs.Shears.{base, figures_at}
 use Rattle.base_shear.proofs.Share.{reached_share, reached_share_positive}
-use Rattle.job.specs.declared.FiguresAnswer.TheVariants.{Taken}
 use Rattle.job.specs.ShearCall.{given_hazards, building_figures, Sheared}
 use Rattle.job.specs.Towers.{Tower, Called, CalledAt, weight_of, base_of}
 use Rattle.job.proofs.GivenReached.{given_reached}
@@ -64,7 +64,7 @@ module _ (G : GroundValues) (f : FrameValues) where
         (omega (arith, v, rest.0, both.0), omega (arith, v, rest.1, both.1))
 
   -- ---- any number of towers
-  pub towers : (t : Tower) (ts : List Tower) (h : ℕ) (n : Figures) → Sheared G f (weight_of (t ∷ ts)) h (Taken n) → CalledAt G f n.t (t ∷ ts)
+  pub towers : (t : Tower) (ts : List Tower) (h : ℕ) (n : Figures) → Sheared G f (weight_of (t ∷ ts)) h (Ok n) → CalledAt G f n.t (t ∷ ts)
       → (n.vd ≤ base_of (t ∷ ts)) × (base_of (t ∷ ts) ≤ n.vd + length ts)
   towers t ts h n c each =
       let W = weight_of (t ∷ ts) in
@@ -75,12 +75,12 @@ module _ (G : GroundValues) (f : FrameValues) where
 
   -- ---- two towers
   pub two_towers : (W₁ W₂ h₁ h₂ h : ℕ) (n₁ n₂ n : Figures)
-      → Sheared G f W₁ h₁ (Taken n₁) → Sheared G f W₂ h₂ (Taken n₂) → Sheared G f (W₁ + W₂) h (Taken n)
+      → Sheared G f W₁ h₁ (Ok n₁) → Sheared G f W₂ h₂ (Ok n₂) → Sheared G f (W₁ + W₂) h (Ok n)
       → n₁.t ≡ n.t → n₂.t ≡ n.t
       → (n.vd ≤ n₁.vd + n₂.vd) × (n₁.vd + n₂.vd ≤ n.vd + 1)
   two_towers W₁ W₂ h₁ h₂ h n₁ n₂ n c₁ c₂ c e₁ e₂ =
       let one : Tower = record { weight = W₁; height = h₁; figures = n₁ } in
       let other : Tower = record { weight = W₂; height = h₂; figures = n₂ } in
       let sum : W₁ + W₂ ≡ weight_of (one ∷ other ∷ []) = omega arith in
-      let both = towers one (other ∷ []) h n (subst (λ (x : ℕ). Sheared G f x h (Taken n)) sum c) (c₁, e₁, (c₂, e₂, tt)) in
+      let both = towers one (other ∷ []) h n (subst (λ (x : ℕ). Sheared G f x h (Ok n)) sum c) (c₁, e₁, (c₂, e₂, tt)) in
       (omega (arith, both.0), omega (arith, both.1))

@@ -1,6 +1,7 @@
 -- The building of document 01's worked sheet with a heavier roof: V_D rises, and the forces below the roof fall. And with another T, where a heavier
 -- building has a lower V_D, and a larger R a higher V. The definition, computed.
 -- Assumes nothing.
+use Rattle.std.specs.Prelude.{Ok}
 use mathlib.Core.Path.{◌≡◌, refl}
 use mathlib.Core.List.{[], ◌∷◌}
 use Prim.Native.Nat.{ℕ, ◌≤◌, ◌<◌}
@@ -30,7 +31,6 @@ use Rattle.response.specs.Spectrum.{exact_spectrum, spectrum}
 use Rattle.base_shear.specs.declared.Figures.{Figures}
 use Rattle.base_shear.specs.Shears.{newtons, shear, star, base, figures_at}
 use Rattle.storeys.specs.Storeys.{weight_height, about}
-use Rattle.job.specs.declared.FiguresAnswer.TheVariants.{Taken}
 use Rattle.job.specs.Job.{Results, job_of}
 use Rattle.job.specs.Moves.{with_r, with_weight}
 use Rattle.job.specs.ShearCall.{shear_call_of, Sheared}
@@ -65,8 +65,8 @@ heavy =
       columns = record { forces = 161_038 ∷ 322_078 ∷ 659_742 ∷ []; shears = 1_142_858 ∷ 981_820 ∷ 659_742 ∷ []; overturnings = 278_442_000 ∷ 164_156_200 ∷ 65_974_200 ∷ [] };
     }
 
-answered : Sheared plain (frame 0 480) 15_000 300 (Taken of30) × Sheared plain (frame 0 480) 16_000 350 (Taken heavier_of35)
-    × Sheared plain (frame 0 480) 15_000 350 (Taken of35) × Sheared plain (frame 0 481) 15_000 300 (Taken more_ductile_of30)
+answered : Sheared plain (frame 0 480) 15_000 300 (Ok of30) × Sheared plain (frame 0 480) 16_000 350 (Ok heavier_of35)
+    × Sheared plain (frame 0 480) 15_000 350 (Ok of35) × Sheared plain (frame 0 481) 15_000 300 (Ok more_ductile_of30)
 unfolding judged_site judged_mapped judged_near_fault judged_class judged_frame judged_kind judged_period shear_call_of judged_shear_call judged_building within
     in_range among listed between lower_root upper_root up down largest smallest bits_from factor lower_factor upper_factor approximate in_use bent ratio
     modified blended exact_spectrum spectrum newtons shear star base figures_at floor ceiling
@@ -86,14 +86,14 @@ heavier_roof = (worked, refl, omega arith, omega arith, omega arith)
 -- ---- with nothing said of T neither a heavier building nor a larger R moves the figures the one way
 -- 15,000 kN at 30 m have 1,194,458 N, and 16,000 kN at 35 m have 1,134,913 N
 pub heavier_at_any_period_false : ((G : GroundValues) (f : FrameValues) (W h W' h' : ℕ) (n n' : Figures)
-    → Sheared G f W h (Taken n) → Sheared G f W' h' (Taken n') → W ≤ W' → n.vd ≤ n'.vd) → ⊥
+    → Sheared G f W h (Ok n) → Sheared G f W' h' (Ok n') → W ≤ W' → n.vd ≤ n'.vd) → ⊥
 heavier_at_any_period_false p =
     let h = p plain (frame 0 480) 15_000 300 16_000 350 of30 heavier_of35 answered.0 answered.1 (omega arith) in
     omega (arith, h)
 
 -- R = 4.80 at 35 m has V = 903,380 N, and R = 4.81 at 30 m has V = 1,012,253 N
 pub larger_r_at_any_period_false : ((G : GroundValues) (f : FrameValues) (W h r h' : ℕ) (n n' : Figures)
-    → Sheared G f W h (Taken n) → Sheared G (with_r f r) W h' (Taken n') → f.r ≤ r → n'.v ≤ n.v) → ⊥
+    → Sheared G f W h (Ok n) → Sheared G (with_r f r) W h' (Ok n') → f.r ≤ r → n'.v ≤ n.v) → ⊥
 larger_r_at_any_period_false p =
     let h = p plain (frame 0 480) 15_000 350 481 300 of35 more_ductile_of30 answered.2 answered.3 (omega arith) in
     omega (arith, h)

@@ -1,6 +1,7 @@
 -- The building of document 01's worked sheet with a larger R. V* rises, on its site, near a fault and in zone 3 of the Taipei Basin, while V, V_M and V_D
 -- fall. Where V* is the largest V_D stays, so a larger R does not always lower it. The definition, computed.
 -- Assumes nothing.
+use Rattle.std.specs.Prelude.{Ok}
 use mathlib.Core.Path.{refl}
 use mathlib.Core.List.{List}
 use Prim.Native.Nat.{ℕ, ◌<◌}
@@ -29,7 +30,6 @@ use Rattle.response.specs.Spectrum.{exact_spectrum, spectrum}
 use Rattle.base_shear.specs.declared.Figures.{Figures}
 use Rattle.base_shear.specs.Shears.{newtons, shear, star, base, figures_at}
 use Rattle.storeys.specs.Storeys.{weight_height, about}
-use Rattle.job.specs.declared.FiguresAnswer.TheVariants.{Taken}
 use Rattle.job.specs.Job.{job_of, Figured}
 use Rattle.job.specs.Moves.{with_r}
 use Rattle.job.proofs.WorkedSheet.{site_with, plain, frame, weights, heights, figures}
@@ -64,7 +64,7 @@ abbrev site600 : Figures
 site600 = figures 741_759 654_763 1_071_429 1_071_429 1000
 
 abbrev Job : GroundValues → FrameValues → Figures → Type 0
-Job s f n = Figured s f weights heights (Taken n)
+Job s f n = Figured s f weights heights (Ok n)
 
 answered : Job plain (frame 1000 100) site100 × Job plain (frame 1000 175) site175
     × Job near_fault (frame 500 100) near_fault100 × Job near_fault (frame 500 400) near_fault400
@@ -95,7 +95,7 @@ star_rises_in_basin = (answered.4, answered.5, omega arith, omega arith, omega a
 
 -- ---- V_D does not always fall: R = 4.80 and R = 6.00 have 1,071,429 N
 pub larger_r_always_lowers_false : ((G : GroundValues) (f : FrameValues) (ws hs : List ℕ) (r : ℕ) (n n' : Figures)
-    → Figured G f ws hs (Taken n) → Figured G (with_r f r) ws hs (Taken n') → f.r < r → n'.vd < n.vd) → ⊥
+    → Figured G f ws hs (Ok n) → Figured G (with_r f r) ws hs (Ok n') → f.r < r → n'.vd < n.vd) → ⊥
 larger_r_always_lowers_false p =
     let h = p plain (frame 1000 480) weights heights 600 site480 site600 answered.6 answered.7 (omega arith) in
     omega (arith, h)

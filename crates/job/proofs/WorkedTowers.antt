@@ -1,6 +1,7 @@
 -- The building of document 01's worked sheet, 15,000 kN and 30 m, split into towers, on its site and in zone 3 of the Taipei Basin: both ends of what
 -- towers add up to are reached. Where the T of a tower is not that of the whole, neither end need hold. The definition, computed.
 -- Assumes nothing.
+use Rattle.std.specs.Prelude.{Ok}
 use mathlib.Core.Path.{◌≡◌, refl}
 use mathlib.Core.List.{List, [], ◌∷◌}
 use Prim.Native.Nat.{ℕ, ◌+◌, ◌≤◌}
@@ -27,7 +28,6 @@ use Rattle.response.specs.Ratio.{bent, ratio, modified, blended}
 use Rattle.response.specs.Spectrum.{exact_spectrum, spectrum}
 use Rattle.base_shear.specs.declared.Figures.{Figures}
 use Rattle.base_shear.specs.Shears.{newtons, shear, star, base, figures_at}
-use Rattle.job.specs.declared.FiguresAnswer.TheVariants.{Taken}
 use Rattle.job.specs.ShearCall.{shear_call_of, Sheared}
 use Rattle.job.specs.Towers.{Tower, Called, CalledAt, weight_of, base_of}
 use Rattle.job.proofs.WorkedSheet.{plain, frame, figures}
@@ -124,7 +124,7 @@ one_newton_more_in_basin = (in_basin_lem.0, in_basin_lem.2, refl, refl)
 abbrev AtAnyPeriod : (ℕ → ℕ → ℕ → Type 0) → Type 0
 AtAnyPeriod P =
     (G : GroundValues) (f : FrameValues) (W₁ W₂ h₁ h₂ h : ℕ) (n₁ n₂ n : Figures)
-    → Sheared G f W₁ h₁ (Taken n₁) → Sheared G f W₂ h₂ (Taken n₂) → Sheared G f (W₁ + W₂) h (Taken n)
+    → Sheared G f W₁ h₁ (Ok n₁) → Sheared G f W₂ h₂ (Ok n₂) → Sheared G f (W₁ + W₂) h (Ok n)
     → P n₁.vd n₂.vd n.vd
 
 -- 15 m and 30 m: 718,116 + 535,715 = 1,253,831 N, and the whole has 1,071,429 N at 30 m

@@ -3,16 +3,14 @@
 --   Columns                           per level, lowest first, force, shear and overturning
 --   columns_at T v ws hs              those of the base shear v at the period T
 --   distribution_of v T ws hs room    the three columns, or the first refusal; room is the length of the shortest result buffer
---   done_only o                       what is left of an outcome without its value
 --   Buffers, shortest b               what three lent buffers hold, and the length of the shortest
 --   laid_over c b                     what they hold with each level's cell written, the rest as it was
 --   filled o b                        what they hold after: so where data is accepted; where it is refused, all as it was
 --   Distributed v T ws hs b a b'      a is the answer, and b' what the buffers hold that held b
 use Rattle.std.specs.Prelude.{◌≡◌, List, ℕ, min, length}
 use Rattle.whole.specs.Cells.{laid}
-use Rattle.limits.specs.declared.refusal.Verdict.{Verdict}
 use Rattle.limits.specs.Judging.{judged_distribution}
-use Rattle.limits.specs.Outcome.{Outcome, accepted, refused, Done, verdict_outcome, ◌>>=◌, ◌>>◌}
+use Rattle.limits.specs.Outcome.{Outcome, Answer, accepted, refused, Done, outcome, done_only, ◌>>=◌, ◌>>◌}
 use Rattle.storeys.specs.Storeys.{shears, forces, overturnings}
 
 pub record Columns : Type 0 where
@@ -29,11 +27,6 @@ unfoldable pub distribution_of : ℕ → ℕ → List ℕ → List ℕ → ℕ �
 distribution_of v T ws hs room = do
   judged_distribution v T ws hs room
   accepted (columns_at T v ws hs)
-
-abbrev pub done_only : {A : Type 0} → Outcome A → Outcome Done
-done_only o = do
-  a ← o
-  accepted tt
 
 pub record Buffers : Type 0 where
   pub forces : List ℕ
@@ -55,7 +48,7 @@ abbrev pub filled : Outcome Columns → Buffers → Buffers
 filled (accepted c) b = laid_over c b
 filled (refused n p) b = b
 
-abbrev pub Distributed : ℕ → ℕ → List ℕ → List ℕ → Buffers → Verdict → Buffers → Type 0
+abbrev pub Distributed : ℕ → ℕ → List ℕ → List ℕ → Buffers → Answer Done → Buffers → Type 0
 Distributed v T ws hs b a b' =
     let o = distribution_of v T ws hs (shortest b) in
-    (verdict_outcome a ≡ done_only o) × (b' ≡ filled o b)
+    (outcome a ≡ done_only o) × (b' ≡ filled o b)

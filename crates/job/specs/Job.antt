@@ -17,11 +17,10 @@ use Rattle.limits.specs.declared.ground.GroundValues.{GroundValues}
 use Rattle.limits.specs.declared.judging.Given.{Given}
 use Rattle.limits.specs.Judging.{judged_job}
 use Rattle.limits.specs.Levels.{top_height}
-use Rattle.limits.specs.Outcome.{Outcome, accepted, ◌>>=◌}
+use Rattle.limits.specs.Outcome.{Outcome, Answer, accepted, outcome, ◌>>=◌}
 use Rattle.base_shear.specs.declared.Figures.{Figures}
-use Rattle.job.specs.declared.FiguresAnswer.{FiguresAnswer}
 use Rattle.job.specs.Distribution.{Columns, columns_at, Buffers, shortest, filled}
-use Rattle.job.specs.ShearCall.{building_figures, answer_outcome}
+use Rattle.job.specs.ShearCall.{building_figures}
 
 pub record Results : Type 0 where
   pub figures : Figures
@@ -54,10 +53,10 @@ columns_only o = do
 abbrev pub written : Outcome Results → Buffers → Buffers
 written o b = filled (columns_only o) b
 
-abbrev pub Figured : GroundValues → FrameValues → List ℕ → List ℕ → FiguresAnswer → Type 0
-Figured G f ws hs a = answer_outcome a ≡ figures_only (job_of G f ws hs (length ws))
+abbrev pub Figured : GroundValues → FrameValues → List ℕ → List ℕ → Answer Figures → Type 0
+Figured G f ws hs a = outcome a ≡ figures_only (job_of G f ws hs (length ws))
 
-abbrev pub Answers : GroundValues → FrameValues → List ℕ → List ℕ → Buffers → FiguresAnswer → Buffers → Type 0
+abbrev pub Answers : GroundValues → FrameValues → List ℕ → List ℕ → Buffers → Answer Figures → Buffers → Type 0
 Answers G f ws hs b a b' =
     let o = job_of G f ws hs (shortest b) in
-    (answer_outcome a ≡ figures_only o) × (b' ≡ written o b)
+    (outcome a ≡ figures_only o) × (b' ≡ written o b)

@@ -3,20 +3,17 @@
 --   building_figures g W h    the five figures of a judged ground and frame: V, V_M, V*, V_D and T
 --   shear_call_of G f W h     the five figures, or the first refusal
 --   five n                    the figures in the listing's order: the values of an answer
---   answer_outcome a          what the code's answer a says
 --   Sheared G f W h a         a is the answer
 use Rattle.std.specs.Prelude.{◌≡◌, List, [], ◌∷◌, ℕ}
 use Rattle.limits.specs.declared.frame.FrameValues.{FrameValues}
 use Rattle.limits.specs.declared.ground.GroundValues.{GroundValues}
 use Rattle.limits.specs.declared.judging.Given.{Given}
 use Rattle.limits.specs.Judging.{judged_shear_call}
-use Rattle.limits.specs.Outcome.{Outcome, accepted, refused, ◌>>=◌}
+use Rattle.limits.specs.Outcome.{Outcome, Answer, accepted, outcome, ◌>>=◌}
 use Rattle.site.specs.Ground.{ground_hazards}
 use Rattle.site.specs.declared.hazard.Hazards.{Hazards}
 use Rattle.base_shear.specs.declared.Figures.{Figures}
 use Rattle.base_shear.specs.Shears.{base_figures}
-use Rattle.job.specs.declared.FiguresAnswer.{FiguresAnswer}
-use Rattle.job.specs.declared.FiguresAnswer.TheVariants.{Taken, Refused}
 
 abbrev pub given_hazards : Given → Hazards
 given_hazards g = ground_hazards g.ground g.frame.r
@@ -32,9 +29,5 @@ shear_call_of G f W h = do
 abbrev pub five : Figures → List ℕ
 five n = n.v ∷ n.vm ∷ n.star ∷ n.vd ∷ n.t ∷ []
 
-abbrev pub answer_outcome : FiguresAnswer → Outcome Figures
-answer_outcome (Taken n) = accepted n
-answer_outcome (Refused r) = refused r.number r.place
-
-abbrev pub Sheared : GroundValues → FrameValues → ℕ → ℕ → FiguresAnswer → Type 0
-Sheared G f W h a = answer_outcome a ≡ shear_call_of G f W h
+abbrev pub Sheared : GroundValues → FrameValues → ℕ → ℕ → Answer Figures → Type 0
+Sheared G f W h a = outcome a ≡ shear_call_of G f W h

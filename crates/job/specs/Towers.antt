@@ -4,11 +4,10 @@
 --   CalledAt G f T ts    so it is of each of ts, and T is the period in use of each
 --   weight_of ts         their total weights, added
 --   base_of ts           their V_D, added
-use Rattle.std.specs.Prelude.{◌≡◌, List, [], ◌∷◌, ℕ, ◌+◌}
+use Rattle.std.specs.Prelude.{◌≡◌, List, [], ◌∷◌, ℕ, ◌+◌, Ok}
 use Rattle.limits.specs.declared.frame.FrameValues.{FrameValues}
 use Rattle.limits.specs.declared.ground.GroundValues.{GroundValues}
 use Rattle.base_shear.specs.declared.Figures.{Figures}
-use Rattle.job.specs.declared.FiguresAnswer.TheVariants.{Taken}
 use Rattle.job.specs.ShearCall.{Sheared}
 
 pub record Tower : Type 0 where
@@ -17,7 +16,7 @@ pub record Tower : Type 0 where
   pub figures : Figures
 
 abbrev pub Called : GroundValues → FrameValues → Tower → Type 0
-Called G f t = Sheared G f t.weight t.height (Taken t.figures)
+Called G f t = Sheared G f t.weight t.height (Ok t.figures)
 
 abbrev pub CalledAt : GroundValues → FrameValues → ℕ → List Tower → Type 0
 CalledAt G f T [] = Unit {0}

@@ -3,24 +3,14 @@ ghost use Rattle.std.specs.Prelude.{◌≡◌, min};
 ghost use Rattle.job.specs.Distribution.{Distributed};
 
 use limits::judging::judged_distribution;
-use limits::refusal::Verdict;
+use limits::refusal::Refusal;
 use storeys::storey::fill_storeys;
-
-// The length of the shorter of two buffers.
-pub fn shorter(a: usize, b: usize) -> usize
-    ensures { result ≡ min a b }
-{
-    if a <= b {
-        return a;
-    }
-    b
-}
 
 // The length of the shortest of three buffers.
 pub fn shortest(forces: usize, shears: usize, overturnings: usize) -> usize
     ensures { result ≡ min (min forces shears) overturnings }
 {
-    shorter(shorter(forces, shears), overturnings)
+    forces.min(shears).min(overturnings)
 }
 
 // A base shear in N at a period in ms: a force, a shear and an overturning moment of each level in the lent buffers.
@@ -32,14 +22,11 @@ pub fn distribution(
     forces: &mut [u64],
     shears: &mut [u64],
     overturnings: &mut [u64],
-) -> Verdict
+) -> Result<(), Refusal>
     ensures { Distributed shear period weights.now heights.now (record { forces = forces.old; shears = shears.old; overturnings = overturnings.old }) result (record { forces = forces.new; shears = shears.new; overturnings = overturnings.new }) }
 {
     let room = shortest(forces.len(), shears.len(), overturnings.len());
-    let v = judged_distribution(shear, period, weights, heights, room);
-    let Verdict::Passed = v else {
-        return v;
-    };
+    judged_distribution(shear, period, weights, heights, room)?;
     fill_storeys(
         period,
         shear,
@@ -49,5 +36,5 @@ pub fn distribution(
         forces,
         overturnings,
     );
-    Verdict::Passed
+    Ok(())
 }

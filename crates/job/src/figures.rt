@@ -1,19 +1,18 @@
 // The five figures of a building, and of a job.
 ghost use Rattle.std.specs.Prelude.{◌≡◌, ◌≤◌, ◌<◌, length};
 ghost use Rattle.whole.specs.Cells.{sum};
-ghost use Rattle.limits.specs.Allowed.{AllowedShearCall};
+ghost use Rattle.limits.specs.Allowed.{AllowedJob, AllowedShearCall};
 ghost use Rattle.limits.specs.Building.{total_most};
 ghost use Rattle.limits.specs.Levels.{top_height};
-ghost use Rattle.job.specs.Job.{Figured};
+ghost use Rattle.job.specs.Job.{Figured, job_figures};
 ghost use Rattle.job.specs.ShearCall.{building_figures};
 
-use crate::FiguresAnswer;
 use base_shear::Figures;
 use base_shear::base::base_figures;
 use limits::frame::FrameValues;
 use limits::ground::GroundValues;
-use limits::judging::{Given, GivenAnswer, judged_given};
-use limits::levels::judged_levels;
+use limits::judging::{Given, judged_job};
+use limits::refusal::Refusal;
 use site::ground::ground_hazards;
 
 // W: the weights of all levels.
@@ -21,13 +20,7 @@ pub fn total_weight(weights: &[u64]) -> u64
     requires { sum weights.now ≤ total_most }
     ensures { result ≡ sum weights.now }
 {
-    let mut w = 0;
-    let mut i = 0;
-    while i < weights.len() {
-        w += weights[i];
-        i += 1;
-    }
-    w
+    weights.iter().sum()
 }
 
 // h: the last of the heights.
@@ -43,9 +36,16 @@ pub fn building_figures(given: Given, weight: u64, height: u64) -> Figures
     requires { AllowedShearCall given weight height }
     ensures { result ≡ building_figures given weight height }
 {
-    let ground = given.ground;
-    let hazards = ground_hazards(ground, given.frame.r);
+    let hazards = ground_hazards(given.ground, given.frame.r);
     base_figures(hazards, given.frame, weight, height)
+}
+
+// The five figures of a judged ground and frame on the levels of a job.
+pub fn job_figures(given: Given, weights: &[u64], heights: &[u64]) -> Figures
+    requires { AllowedJob given weights.now heights.now }
+    ensures { result ≡ job_figures given weights.now heights.now }
+{
+    building_figures(given, total_weight(weights), top_height(heights))
 }
 
 // The five figures of unjudged values, or the refusal, with no buffer to write to.
@@ -54,14 +54,9 @@ pub fn figures(
     frame: FrameValues,
     weights: &[u64],
     heights: &[u64],
-) -> FiguresAnswer
+) -> Result<Figures, Refusal>
     ensures { Figured ground frame weights.now heights.now result }
 {
-    let levels = judged_levels(weights, heights, weights.len());
-    let g = judged_given(levels, ground, frame);
-    let GivenAnswer::Taken(given) = g else {
-        return FiguresAnswer::Refused(g.refusal());
-    };
-    let f = building_figures(given, total_weight(weights), top_height(heights));
-    FiguresAnswer::Taken(f)
+    let given = judged_job(ground, frame, weights, heights, weights.len())?;
+    Ok(job_figures(given, weights, heights))
 }

@@ -1,12 +1,13 @@
 // The shear call: V, V_M, V*, V_D and T of a building without its storeys.
 ghost use Rattle.job.specs.ShearCall.{Sheared};
 
-use crate::FiguresAnswer;
 use crate::figures::building_figures;
+use base_shear::Figures;
 use limits::building::Building;
 use limits::frame::FrameValues;
 use limits::ground::GroundValues;
-use limits::judging::{GivenAnswer, judged_given};
+use limits::judging::judged_given;
+use limits::refusal::Refusal;
 
 // A total weight in kN, a top height in dm.
 pub fn shear_call(
@@ -14,13 +15,10 @@ pub fn shear_call(
     frame: FrameValues,
     weight: u64,
     height: u64,
-) -> FiguresAnswer
+) -> Result<Figures, Refusal>
     ensures { Sheared ground frame weight height result }
 {
-    let building = Building::judged(weight, height);
-    let g = judged_given(building, ground, frame);
-    let GivenAnswer::Taken(given) = g else {
-        return FiguresAnswer::Refused(g.refusal());
-    };
-    FiguresAnswer::Taken(building_figures(given, weight, height))
+    let building = Building { weight, height }.judged();
+    let given = judged_given(building, ground, frame)?;
+    Ok(building_figures(given, weight, height))
 }
