@@ -14,7 +14,6 @@ use Rattle.limits.specs.Outcome.{Outcome, accepted, zeros}
 use Rattle.limits.proofs.Passed.{differ}
 use Rattle.base_shear.specs.declared.Figures.{Figures}
 use Rattle.base_shear.specs.Shears.{base, figures_at}
-use Rattle.district_call.specs.declared.DistrictAnswer.{DistrictAnswer}
 use Rattle.district_call.specs.declared.report.Report.{Report}
 use Rattle.district_call.specs.declared.weighed.Weighed.{Weighed}
 use Rattle.district_call.specs.Entered.{Entered, entered}
@@ -51,9 +50,9 @@ reported_of f sorted js few =
       of_none = λ e. ap (λ (l : List (List ℕ)). report_of (map f l)) e ∙ none_reported;
     }
 
-pub call_reported : (js : List (List ℕ)) (ws hs : List ℕ) (old : List (List ℕ)) (a : DistrictAnswer) (held : List (List ℕ))
-    → TakenCall js ws hs old a held → Reported js a.report
-call_reported js ws hs old a held t =
+pub call_reported : (js : List (List ℕ)) (ws hs : List ℕ) (old : List (List ℕ)) (r : Report) (held : List (List ℕ))
+    → TakenCall js ws hs old r held → Reported js r
+call_reported js ws hs old r held t =
     subst (Reported js) (sym t.report)
     (reported_of (λ j. answer_to ws hs (entered j)) (λ j. row_sorted ws hs (entered j)) js t.few)
 

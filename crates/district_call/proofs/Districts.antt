@@ -2,21 +2,19 @@
 -- Assumes nothing.
 use mathlib.Core.Path.{◌≡◌, refl, sym, ap, ◌∙◌}
 use mathlib.Core.Bool.{Bool, true, false}
-use mathlib.Core.List.{List, [], map}
+use mathlib.Core.List.{List, map}
 use Prim.Native.Nat.{ℕ, ◌≤◌}
 use lib.Dec.{leb, eqb}
 use lib.ListN.{length}
 use borrow.Author.Tests.{leb-true, eqb-true}
+use Rattle.std.specs.Prelude.{Ok, Err}
 use Rattle.whole.specs.Cells.{laid}
 use Rattle.limits.specs.declared.refusal.Refusal.{Refusal}
-use Rattle.limits.specs.declared.refusal.Verdict.{Verdict}
-use Rattle.limits.specs.declared.refusal.Verdict.TheVariants.{Passed, Refused}
 use Rattle.limits.specs.District.{judged_district}
-use Rattle.limits.specs.Outcome.{Outcome, accepted, refused, require, verdict_outcome, ◌>>◌}
+use Rattle.limits.specs.Outcome.{Outcome, Answer, accepted, refused, require, outcome, ◌>>◌}
 use Rattle.limits.proofs.Passed.{never}
-use Rattle.job.specs.Distribution.{done_only}
 use Rattle.district_call.specs.declared.report.Report.{Report}
-use Rattle.district_call.specs.District.{answers_to, district_of, reported, filled_rows, DistrictAnswers}
+use Rattle.district_call.specs.District.{answers_to, district_of, filled_rows, DistrictAnswers}
 use Rattle.district_call.specs.Report.{report_of}
 use Rattle.district_call.specs.Row.{row_of}
 
@@ -33,6 +31,10 @@ district_allowed jobs weights heights rows e = go (leb jobs 256) (eqb heights we
     go true false c x y z h = absurd (never h)
     go false b c x y z h = absurd (never h)
 
+pub district_fits : (jobs weights heights rows : ℕ) → accepted tt ≡ judged_district jobs weights heights rows
+    → (jobs ≤ 256) × (heights ≡ weights) × (jobs ≤ rows)
+district_fits jobs weights heights rows e = district_allowed jobs weights heights rows (sym e)
+
 module _ (js : List (List ℕ)) (ws hs : List ℕ) (room : ℕ) where
   pub district_refused : {n p : ℕ} → judged_district (length js) (length ws) (length hs) room ≡ refused n p → district_of js ws hs room ≡ refused n p
   unfolding district_of
@@ -44,23 +46,17 @@ module _ (js : List (List ℕ)) (ws hs : List ℕ) (room : ℕ) where
   district_passed e = simp e
 
 module _ (js : List (List ℕ)) (ws hs : List ℕ) (old : List (List ℕ)) where
-  pub refused_answers : (v : Verdict) (r : Refusal) (m : Report) → verdict_outcome v ≡ judged_district (length js) (length ws) (length hs) (length old)
-      → v ≡ Refused r → m ≡ report_of [] → DistrictAnswers js ws hs old (record { verdict = v; report = m }) old
-  refused_answers v r m e t z =
-      let o = district_refused js ws hs (length old) (sym e ∙ ap verdict_outcome t) in
-      record {
-        verdict = ap verdict_outcome t ∙ sym (ap done_only o);
-        report = z ∙ sym (ap reported o);
-        rows = sym (ap (λ (x : Outcome Report). filled_rows x (answers_to js ws hs) old) o);
-      }
+  pub refused_answers : (a : Answer Report) (r : Refusal) → a ≡ Err r
+      → refused r.number r.place ≡ judged_district (length js) (length ws) (length hs) (length old) → DistrictAnswers js ws hs old a old
+  refused_answers a r t e =
+      let o = district_refused js ws hs (length old) (sym e) in
+      record { answer = ap outcome t ∙ sym o; rows = sym (ap (λ (x : Outcome Report). filled_rows x (answers_to js ws hs) old) o) }
 
-  pub passed_answers : (m : Report) {held : List (List ℕ)} → judged_district (length js) (length ws) (length hs) (length old) ≡ accepted tt
-      → m ≡ report_of (answers_to js ws hs) → held ≡ laid (map row_of (answers_to js ws hs)) old
-      → DistrictAnswers js ws hs old (record { verdict = Passed; report = m }) held
+  pub passed_answers : (m : Report) {held : List (List ℕ)} → accepted tt ≡ judged_district (length js) (length ws) (length hs) (length old)
+      → m ≡ report_of (answers_to js ws hs) → held ≡ laid (map row_of (answers_to js ws hs)) old → DistrictAnswers js ws hs old (Ok m) held
   passed_answers m e s w =
-      let o = district_passed js ws hs (length old) e in
+      let o = district_passed js ws hs (length old) (sym e) in
       record {
-        verdict = sym (ap done_only o);
-        report = s ∙ sym (ap reported o);
+        answer = ap accepted s ∙ sym o;
         rows = w ∙ sym (ap (λ (x : Outcome Report). filled_rows x (answers_to js ws hs) old) o);
       }

@@ -11,23 +11,22 @@ use Rattle.limits.specs.Applies.{RowApplies}
 use Rattle.limits.specs.District.{stretch, judged_stretch}
 use Rattle.limits.specs.FirstRefusal.{FirstRefusal}
 use Rattle.limits.specs.Judging.{judged_job, judged_row}
-use Rattle.limits.specs.Outcome.{Outcome, accepted, refused, Done, number, place, values, ◌>>=◌, ◌>>◌}
+use Rattle.limits.specs.Outcome.{Outcome, Answer, accepted, refused, Done, number, place, values, outcome, ◌>>=◌, ◌>>◌}
 use Rattle.limits.proofs.DistrictStage.{row_first as judged_first, row_judged}
 use Rattle.limits.proofs.First.{first_of_value}
 use Rattle.limits.proofs.Passed.{one_value, then_passed, bind_passed}
+use Rattle.limits.proofs.Unique.{answer_of, says_outcome}
 use Rattle.limits.specs.declared.judging.Given.{Given}
 use Rattle.response.specs.Unit.{unit}
 use Rattle.margin.specs.Demand3.{BaseDemand3}
 use Rattle.job.proofs.Demand3.{demand3_accepted}
 use Rattle.whole.specs.Cells.{sum}
 use Rattle.base_shear.specs.declared.Figures.{Figures}
-use Rattle.job.specs.declared.FiguresAnswer.{FiguresAnswer}
 use Rattle.job.specs.Distribution.{Buffers, shortest}
 use Rattle.job.specs.Job.{Results, job_of, job_figures, results_of, figures_only, Figured, Answers}
-use Rattle.job.specs.ShearCall.{five, answer_outcome, given_hazards}
-use Rattle.job.proofs.Calls.{answer_of, says_outcome}
+use Rattle.job.specs.ShearCall.{five, given_hazards}
 use Rattle.job.proofs.Independent.{figured_answer}
-use Rattle.district_call.specs.declared.DistrictAnswer.{DistrictAnswer}
+use Rattle.district_call.specs.declared.report.Report.{Report}
 use Rattle.district_call.specs.declared.weighed.Weighed.{Weighed}
 use Rattle.district_call.specs.Entered.{Entered, entered}
 use Rattle.district_call.specs.Row.{answer_to, row_of}
@@ -58,7 +57,7 @@ module _ (store start count : ℕ) where
   outside_stops h = simp (lt-leb _ _ h)
 
 -- ---- a row of a call that was taken
-module _ (js : List (List ℕ)) (ws hs : List ℕ) (old : List (List ℕ)) (a : DistrictAnswer) (held : List (List ℕ)) (t : TakenCall js ws hs old a held) where
+module _ (js : List (List ℕ)) (ws hs : List ℕ) (old : List (List ℕ)) (r : Report) (held : List (List ℕ)) (t : TakenCall js ws hs old r held) where
   module _ (i : ℕ) (h : i < length js) where
     abbrev e : Entered
     e = entered (get_or js i [])
@@ -72,23 +71,23 @@ module _ (js : List (List ℕ)) (ws hs : List ℕ) (old : List (List ℕ)) (a : 
     -- 21, 'a stretch outside the store, for that row, first', at 0
     pub row_21 : length ws < e.start + e.count → get_or held i [] ≡ 21 ∷ 0 ∷ 0 ∷ 0 ∷ 0 ∷ 0 ∷ 0 ∷ []
     unfolding row_of
-    row_21 o = row_at js ws hs old a held t i h ∙ ap row_of (row_outside ws hs e (outside_stops (length ws) e.start e.count o))
+    row_21 o = row_at js ws hs old r held t i h ∙ ap row_of (row_outside ws hs e (outside_stops (length ws) e.start e.count o))
 
     -- else what `figures` answers to the job on that stretch; and `job`, with any buffers that hold its levels
-    pub row_is_figures : e.start + e.count ≤ length ws → (x : FiguresAnswer) → Figured e.ground e.frame own_weights own_heights x
-        → get_or held i [] ≡ row_of_job (answer_outcome x)
+    pub row_is_figures : e.start + e.count ≤ length ws → (x : Answer Figures) → Figured e.ground e.frame own_weights own_heights x
+        → get_or held i [] ≡ row_of_job (outcome x)
     row_is_figures o x f =
-        row_at js ws hs old a held t i h
+        row_at js ws hs old r held t i h
         ∙ ap row_of (row_inside ws hs e (inside_passes (length ws) e.start e.count o))
         ∙ weighed_row e.ground e.frame own_weights own_heights
         ∙ ap row_of_job (sym f)
 
-    pub row_is_job : e.start + e.count ≤ length ws → (b b' : Buffers) (x : FiguresAnswer) → length own_weights ≤ shortest b
-        → Answers e.ground e.frame own_weights own_heights b x b' → get_or held i [] ≡ row_of_job (answer_outcome x)
+    pub row_is_job : e.start + e.count ≤ length ws → (b b' : Buffers) (x : Answer Figures) → length own_weights ≤ shortest b
+        → Answers e.ground e.frame own_weights own_heights b x b' → get_or held i [] ≡ row_of_job (outcome x)
     row_is_job o b b' x l s =
         let q = figures_only (job_of e.ground e.frame own_weights own_heights (length own_weights)) in
         row_is_figures o (answer_of q) (says_outcome q)
-        ∙ ap (λ (y : FiguresAnswer). row_of_job (answer_outcome y))
+        ∙ ap (λ (y : Answer Figures). row_of_job (outcome y))
         (sym (figured_answer e.ground e.frame own_weights own_heights b x (answer_of q) b' l s (says_outcome q)))
 
 -- ---- the first refusal of a row

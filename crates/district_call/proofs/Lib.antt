@@ -2,8 +2,10 @@ pub mod WeighedJobs
 pub mod Rows
 pub mod CellOf
 pub mod Counting
+pub mod Governed
 pub mod AllSorted
 pub mod Tallied
+pub mod Filled
 pub mod Districts
 pub mod Reports
 pub mod Answered

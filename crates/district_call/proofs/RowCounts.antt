@@ -16,7 +16,6 @@ use Rattle.limits.specs.District.{stretch}
 use Rattle.limits.specs.Outcome.{Outcome, accepted, refused}
 use Rattle.limits.proofs.Numbers.{numbered_row}
 use Rattle.base_shear.specs.declared.Figures.{Figures}
-use Rattle.district_call.specs.declared.DistrictAnswer.{DistrictAnswer}
 use Rattle.district_call.specs.declared.report.Report.{Report}
 use Rattle.district_call.specs.declared.weighed.Weighed.{Weighed}
 use Rattle.district_call.specs.District.{answers_to}
@@ -74,7 +73,7 @@ module _ (ws hs : List ℕ) (e : Entered) where
       go (refused n p) q = rw (ne_eqb n 0 (refused_some ws hs e q))
 
 -- ---- the report of a call that was taken, by its rows
-module _ (js : List (List ℕ)) (ws hs : List ℕ) (old : List (List ℕ)) (a : DistrictAnswer) (held : List (List ℕ)) (t : TakenCall js ws hs old a held) where
+module _ (js : List (List ℕ)) (ws hs : List ℕ) (old : List (List ℕ)) (r : Report) (held : List (List ℕ)) (t : TakenCall js ws hs old r held) where
   abbrev rows : List (List ℕ)
   rows = take (length js) held
 
@@ -86,7 +85,7 @@ module _ (js : List (List ℕ)) (ws hs : List ℕ) (old : List (List ℕ)) (a : 
   weight_at i = let e = entered (get_or js i []) in sum (stretch e.start e.count ws)
 
   made : rows ≡ map (λ j. row_of (answer j)) js
-  made = rows_are js ws hs old a held t ∙ map_map row_of answer js
+  made = rows_are js ws hs old r held t ∙ map_map row_of answer js
 
   by_rows : (p : List ℕ → Bool) (q : Outcome Weighed → Bool) → ((j : List ℕ) → p (row_of (answer j)) ≡ q (answer j))
       → how_many q (answers_to js ws hs) ≡ how_many p rows
@@ -94,11 +93,11 @@ module _ (js : List (List ℕ)) (ws hs : List ℕ) (old : List (List ℕ)) (a : 
       many_map answer q (λ j. q (answer j)) (λ j. refl) js
       ∙ sym (ap (how_many p) made ∙ many_map (λ j. row_of (answer j)) p (λ j. q (answer j)) h js)
 
-  pub accepted_rows : a.report.totals.accepted ≡ how_many row_taken rows
+  pub accepted_rows : r.totals.accepted ≡ how_many row_taken rows
   unfolding report_of
   accepted_rows = ap (λ (r : Report). r.totals.accepted) t.report ∙ by_rows row_taken taken (λ j. shown_taken ws hs (entered j))
 
-  pub sum_rows : a.report.totals.sum ≡ sum (map (λ r. (figures_in r).vd) rows)
+  pub sum_rows : r.totals.sum ≡ sum (map (λ r. (figures_in r).vd) rows)
   unfolding report_of
   sum_rows =
       ap (λ (r : Report). r.totals.sum) t.report
@@ -106,9 +105,9 @@ module _ (js : List (List ℕ)) (ws hs : List ℕ) (old : List (List ℕ)) (a : 
       ∙ sum_map (λ j. vd_of (answer j)) (λ j. (figures_in (row_of (answer j))).vd) (λ j. sym (shown_vd ws hs (entered j))) js
       ∙ sym (ap sum (ap (map (λ r. (figures_in r).vd)) made ∙ map_map (λ r. (figures_in r).vd) (λ j. row_of (answer j)) js))
 
-  pub governed_rows : (a.report.totals.v ≡ how_many (λ r. row_taken r && by_v (figures_in r)) rows)
-      × (a.report.totals.vm ≡ how_many (λ r. row_taken r && by_vm (figures_in r)) rows)
-      × (a.report.totals.star ≡ how_many (λ r. row_taken r && by_star (figures_in r)) rows)
+  pub governed_rows : (r.totals.v ≡ how_many (λ r. row_taken r && by_v (figures_in r)) rows)
+      × (r.totals.vm ≡ how_many (λ r. row_taken r && by_vm (figures_in r)) rows)
+      × (r.totals.star ≡ how_many (λ r. row_taken r && by_star (figures_in r)) rows)
   unfolding report_of
   governed_rows = (
     ap (λ (r : Report). r.totals.v) t.report ∙ governed by_v,
@@ -121,7 +120,7 @@ module _ (js : List (List ℕ)) (ws hs : List ℕ) (old : List (List ℕ)) (a : 
 
   -- 'each cell equals the count of rows that belong there': of the places below the number of jobs, each with its row and the weight of its job's stretch
   pub cell_rows : (k : ℕ) → k < cells_most
-      → get_or a.report.cells k 0 ≡ places_that (λ i. belongs k (get_or held i []) (weight_at i)) (length js)
+      → get_or r.cells k 0 ≡ places_that (λ i. belongs k (get_or held i []) (weight_at i)) (length js)
   cell_rows k h =
       ap (λ (r : Report). get_or r.cells k 0) t.report
       ∙ cell_counts (answers_to js ws hs) k h
@@ -130,4 +129,4 @@ module _ (js : List (List ℕ)) (ws hs : List ℕ) (old : List (List ℕ)) (a : 
     where
       there : (i : ℕ) → i < length js → belongs k (get_or held i []) (weight_at i) ≡ in_cell k (answer (get_or js i []))
       there i l =
-          ap (λ (r : List ℕ). belongs k r (weight_at i)) (row_at js ws hs old a held t i l) ∙ in_cell_lem ws hs (entered (get_or js i [])) k
+          ap (λ (r : List ℕ). belongs k r (weight_at i)) (row_at js ws hs old r held t i l) ∙ in_cell_lem ws hs (entered (get_or js i [])) k

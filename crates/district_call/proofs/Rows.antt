@@ -27,6 +27,9 @@ stretch_inside store start count e = go (leb (start + count) store) refl e
     go true l h = leb-true _ _ l
     go false l h = absurd (never h)
 
+pub stretch_fits : (store start count : ℕ) → accepted tt ≡ judged_stretch store start count → start + count ≤ store
+stretch_fits store start count e = stretch_inside store start count (sym e)
+
 module _ (ws hs : List ℕ) (e : Entered) where
   pub row_outside : {n p : ℕ} → judged_stretch (length ws) e.start e.count ≡ refused n p → answer_to ws hs e ≡ refused n p
   unfolding answer_to

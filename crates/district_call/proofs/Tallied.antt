@@ -42,6 +42,13 @@ zeros_at zero k = refl
 zeros_at (suc n) zero = refl
 zeros_at (suc n) (suc k) = zeros_at n k
 
+-- totals of zeros, as their default is, are those of no answer
+pub zero_totals : (t : Totals)
+    → (t.accepted ≡ 0) × ((t.refused ≡ 0) × ((t.sum ≡ 0) × ((t.v ≡ 0) × ((t.vm ≡ 0) × (t.star ≡ 0))))) → t ≡ (report_of []).totals
+unfolding report_of how_many sum
+zero_totals t z =
+    λ i. record { accepted = z.0 i; refused = z.1.0 i; sum = z.1.1.0 i; v = z.1.1.1.0 i; vm = z.1.1.1.1.0 i; star = z.1.1.1.1.1 i }
+
 pub tallied_none : (os : List (Outcome Weighed)) → Tallied os 0 (report_of []).totals (replicate cells_most 0)
 unfolding report_of how_many sum
 tallied_none os =

@@ -55,6 +55,10 @@ module _ (G : GroundValues) (f : FrameValues) (ws hs : List ℕ) where
       let j = figured_given n e in
       (levels_building ws hs (given_allowed G f ws hs (length ws) j.given j.judged).0.levels).weight
 
+  -- a weighed job by an answer without buffers
+  pub weighs : (n : Figures) → accepted n ≡ figures_only (job_of G f ws hs (length ws)) → sum ws ≤ total_most
+  weighs n e = (figured_weight n (sym e)).1
+
   pub figured_ratio : (n : Figures) → figures_only (job_of G f ws hs (length ws)) ≡ accepted n
       → Ratio (record { figures = n; weight = sum ws })
   figured_ratio n e =

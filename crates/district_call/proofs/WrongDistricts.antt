@@ -6,13 +6,11 @@ use mathlib.Core.List.{List, [], ◌∷◌}
 use Prim.Native.Nat.{ℕ}
 use native.Mathlib.Omega.{arith}
 use lib.ListN.{get_or}
+use Rattle.std.specs.Prelude.{Err}
 use Rattle.limits.specs.declared.refusal.Refusal.{Refusal}
-use Rattle.limits.specs.declared.refusal.Verdict.TheVariants.{Refused}
 use Rattle.limits.specs.District.{judged_district}
-use Rattle.limits.specs.Outcome.{Outcome, accepted, verdict_outcome}
+use Rattle.limits.specs.Outcome.{Outcome, Answer, accepted, outcome}
 use Rattle.limits.proofs.Passed.{never}
-use Rattle.job.specs.Distribution.{done_only}
-use Rattle.district_call.specs.declared.DistrictAnswer.{DistrictAnswer}
 use Rattle.district_call.specs.declared.report.Report.{Report}
 use Rattle.district_call.specs.District.{answers_to, district_of, reported, filled_rows, DistrictAnswers}
 use Rattle.district_call.specs.Report.{how_many, report_of}
@@ -21,7 +19,7 @@ use Rattle.district_call.proofs.Districts.{district_passed}
 use Rattle.district_call.proofs.WorkedDistrict.{jobs, weights, heights, answers, worked_answers, worked_totals, worked_cells}
 
 -- a buffer of six rows, whatever they held: q, then four more, and last r
-module _ (q o₁ o₂ o₃ o₄ r : List ℕ) (a : DistrictAnswer) (held : List (List ℕ))
+module _ (q o₁ o₂ o₃ o₄ r : List ℕ) (a : Answer Report) (held : List (List ℕ))
     (t : DistrictAnswers jobs weights heights (q ∷ o₁ ∷ o₂ ∷ o₃ ∷ o₄ ∷ r ∷ []) a held)
   where
     abbrev old : List (List ℕ)
@@ -34,11 +32,15 @@ module _ (q o₁ o₂ o₃ o₄ r : List ℕ) (a : DistrictAnswer) (held : List 
     taken : district_of jobs weights heights 6 ≡ accepted (report_of (answers_to jobs weights heights))
     taken = district_passed jobs weights heights 6 passes
 
-    pub never_refused : (k : Refusal) → a.verdict ≡ Refused k → ⊥
-    never_refused k v = never (sym (ap verdict_outcome v) ∙ t.verdict ∙ ap done_only taken)
+    pub never_refused : (k : Refusal) → a ≡ Err k → ⊥
+    never_refused k v = never (sym (ap outcome v) ∙ t.answer ∙ taken)
 
-    report_is : a.report ≡ report_of answers
-    report_is = t.report ∙ ap reported taken ∙ ap report_of worked_answers
+    -- the report that comes back
+    abbrev back : Report
+    back = reported (outcome a)
+
+    report_is : back ≡ report_of answers
+    report_is = ap reported (t.answer ∙ taken) ∙ ap report_of worked_answers
 
     rows_are : held ≡ filled_rows (accepted (report_of answers)) answers old
     rows_are =
@@ -58,22 +60,22 @@ module _ (q o₁ o₂ o₃ o₄ r : List ℕ) (a : DistrictAnswer) (held : List 
     unfolding row_of
     never_cleared held-something e = held-something (sym (ap (λ (h : List (List ℕ)). get_or (get_or h 5 []) 0 0) rows_are) ∙ e)
 
-    pub never_for_star : a.report.totals.star ≡ 2 → ⊥
+    pub never_for_star : back.totals.star ≡ 2 → ⊥
     never_for_star e =
         let z = sym (ap (λ (m : Report). m.totals.star) report_is ∙ ap (λ m. m.star) worked_totals) ∙ e in
         let w : ◌≡◌ {A = ℕ} 1 2 = z in omega arith
 
-    pub never_for_vm : a.report.totals.vm ≡ 2 → ⊥
+    pub never_for_vm : back.totals.vm ≡ 2 → ⊥
     never_for_vm e =
         let z = sym (ap (λ (m : Report). m.totals.vm) report_is ∙ ap (λ m. m.vm) worked_totals) ∙ e in
         let w : ◌≡◌ {A = ℕ} 1 2 = z in omega arith
 
-    pub never_below : get_or a.report.cells 17 0 ≡ 1 → ⊥
+    pub never_below : get_or back.cells 17 0 ≡ 1 → ⊥
     never_below e =
         let z = sym (ap (λ (m : Report). get_or m.cells 17 0) report_is ∙ worked_cells.2) ∙ e in
         let w : ◌≡◌ {A = ℕ} 0 1 = z in omega arith
 
-    pub never_zeros : a.report ≡ report_of [] → ⊥
+    pub never_zeros : back ≡ report_of [] → ⊥
     unfolding report_of how_many
     never_zeros e =
         let z = sym (ap (λ (m : Report). m.totals.refused) report_is ∙ ap (λ m. m.refused) worked_totals) ∙ ap (λ (m : Report). m.totals.refused) e in

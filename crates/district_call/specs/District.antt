@@ -8,9 +8,7 @@
 use Rattle.std.specs.Prelude.{◌≡◌, List, [], map, ℕ, length}
 use Rattle.whole.specs.Cells.{laid}
 use Rattle.limits.specs.District.{judged_district}
-use Rattle.limits.specs.Outcome.{Outcome, accepted, refused, verdict_outcome, ◌>>◌}
-use Rattle.job.specs.Distribution.{done_only}
-use Rattle.district_call.specs.declared.DistrictAnswer.{DistrictAnswer}
+use Rattle.limits.specs.Outcome.{Outcome, Answer, accepted, refused, outcome, ◌>>◌}
 use Rattle.district_call.specs.declared.report.Report.{Report}
 use Rattle.district_call.specs.declared.weighed.Weighed.{Weighed}
 use Rattle.district_call.specs.Entered.{entered}
@@ -33,7 +31,6 @@ abbrev pub filled_rows : Outcome Report → List (Outcome Weighed) → List (Lis
 filled_rows (accepted r) os old = laid (map row_of os) old
 filled_rows (refused n p) os old = old
 
-pub record DistrictAnswers (js : List (List ℕ)) (ws hs : List ℕ) (old : List (List ℕ)) (a : DistrictAnswer) (held : List (List ℕ)) : Type 0 where
-  pub verdict : verdict_outcome a.verdict ≡ done_only (district_of js ws hs (length old))
-  pub report : a.report ≡ reported (district_of js ws hs (length old))
+pub record DistrictAnswers (js : List (List ℕ)) (ws hs : List ℕ) (old : List (List ℕ)) (a : Answer Report) (held : List (List ℕ)) : Type 0 where
+  pub answer : outcome a ≡ district_of js ws hs (length old)
   pub rows : held ≡ filled_rows (district_of js ws hs (length old)) (answers_to js ws hs) old

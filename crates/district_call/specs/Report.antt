@@ -6,6 +6,7 @@
 --   thousandths w      'V_D over W, in thousandths rounded down': V_D in N over W in kN
 --   cell_of w           its cell, 'of ten thousandths each', counted from 0
 --   by_v n, by_vm n, by_star n    'which shear governed .., ties going to V, then V_M': V where it is V_D, else V_M where it is, else V*
+--   governs n                 the same as the one that does
 --   vd_of o             V_D of an accepted job, else 0
 --   cells_most          how many cells there are
 --   totals_of os        accepted, refused, the sum of V_D, how often each shear governed
@@ -14,9 +15,12 @@
 --   with_figures t n, with_answer t o, counted_in o cells    totals and cells with one job more, as the code counts them
 use Rattle.std.specs.Prelude.{Bool, true, false, ◌&&◌, not, List, [], ◌∷◌, map, ℕ, ◌+◌, eqb, get_or, set}
 use Rattle.whole.specs.Cells.{cells, sum}
+use Rattle.whole.specs.Choice.{pick}
 use Rattle.whole.specs.Rounding.{down}
 use Rattle.limits.specs.Outcome.{Outcome, accepted, refused}
 use Rattle.base_shear.specs.declared.Figures.{Figures}
+use Rattle.district_call.specs.declared.report.Governs.{Governs}
+use Rattle.district_call.specs.declared.report.Governs.TheVariants.{V, Vm, Star}
 use Rattle.district_call.specs.declared.report.Report.{Report}
 use Rattle.district_call.specs.declared.report.Totals.{Totals}
 use Rattle.district_call.specs.declared.weighed.Weighed.{Weighed}
@@ -53,6 +57,9 @@ by_vm n = not (eqb n.v n.vd) && eqb n.vm n.vd
 
 unfoldable pub by_star : Figures → Bool
 by_star n = not (eqb n.v n.vd) && not (eqb n.vm n.vd)
+
+unfoldable pub governs : Figures → Governs
+governs n = pick (eqb n.v n.vd) V (pick (eqb n.vm n.vd) Vm Star)
 
 abbrev pub vd_of : Outcome Weighed → ℕ
 vd_of (accepted w) = w.figures.vd

@@ -1,6 +1,6 @@
-// A job of a district as it is lent: eighteen numbers, in C a struct.
+// A job of a district as C lends it, for which it is a struct: eighteen numbers, the first a flag.
 ghost use Rattle.std.specs.Prelude.{◌≡◌};
-ghost use Rattle.district_call.specs.Entered.{entered, site_in};
+ghost use Rattle.district_call.specs.Entered.{entered};
 
 use limits::district::Stretch;
 use limits::frame::FrameValues;
@@ -12,28 +12,12 @@ pub const JOB: usize = 18;
 // 0 on a site; anything else in the Taipei Basin.
 const ON_SITE: u64 = 0;
 
-fn site_in(j: &[u64; JOB]) -> SiteValues
-    ensures { result ≡ site_in j.now }
-{
-    SiteValues {
-        ssd: j[2],
-        s1d: j[3],
-        ssm: j[4],
-        s1m: j[5],
-        nad: j[6],
-        nvd: j[7],
-        nam: j[8],
-        nvm: j[9],
-        class: j[10],
-    }
-}
-
 // The ground of a job: its site, or its zone.
 pub fn ground_in(j: &[u64; JOB]) -> GroundValues
     ensures { result ≡ (entered j.now).ground }
 {
     if j[0] == ON_SITE {
-        return GroundValues::Site(site_in(j));
+        return GroundValues::Site(SiteValues::of(&j[2..11]));
     }
     GroundValues::Basin(j[1])
 }
@@ -42,13 +26,7 @@ pub fn ground_in(j: &[u64; JOB]) -> GroundValues
 pub fn frame_in(j: &[u64; JOB]) -> FrameValues
     ensures { result ≡ (entered j.now).frame }
 {
-    FrameValues {
-        kind: j[11],
-        calculated: j[12],
-        r: j[13],
-        i: j[14],
-        alpha: j[15],
-    }
+    FrameValues::of(&j[11..16])
 }
 
 // The stretch of the store that a job names.

@@ -3,7 +3,7 @@
 
 use entered::JOB;
 use limits::district::District;
-use limits::refusal::Verdict;
+use limits::refusal::Refusal;
 use report::{CELLS, Report, Totals, count_in};
 use row::{ROW, answer_to, row_of};
 
@@ -18,14 +18,7 @@ ghost use Rattle.district_call.specs.District.{answers_to, DistrictAnswers};
 ghost use Rattle.district_call.specs.Report.{report_of};
 ghost use Rattle.district_call.specs.Row.{row_of};
 
-// What a district is answered: 22 or no refusal, and the report beside it, as an enum holds no array.
-#[derive(Clone, Copy)]
-pub struct DistrictAnswer {
-    pub verdict: Verdict,
-    pub report: Report,
-}
-
-// A row for each job, over the first rows of the buffer, and the report.
+// A row for each job, over the first rows of the buffer, and the report. Weights and heights are two lists, as C lends them and `job` takes them.
 fn fill_rows(
     jobs: &[[u64; JOB]],
     weights: &[u64],
@@ -36,38 +29,28 @@ fn fill_rows(
     ensures value { result ≡ report_of (answers_to jobs.now weights.now heights.now) }
     ensures rows_after { rows.new ≡ laid (map row_of (answers_to jobs.now weights.now heights.now)) rows.old }
 {
-    let mut totals = Totals::none();
+    let mut totals = Totals::default();
     let mut cells = [0; CELLS];
-    let mut i = 0;
-    while i < jobs.len() {
-        let a = answer_to(&jobs[i], weights, heights);
+    for (i, j) in jobs.iter().enumerate() {
+        let a = answer_to(j, weights, heights);
+        // By its index: no proof knows what is written through `iter_mut`.
         rows[i] = row_of(a);
         totals = totals.with_answer(a);
         count_in(&mut cells, a);
-        i += 1;
     }
     Report { totals, cells }
 }
 
-// The district: a row for each job in the lent buffer, and the report; or 22, with nothing written and a report of zeros.
+// The district: a row for each job in the lent buffer, and the report; or 22, with nothing written.
+#[tactic(auto, using(crate::proofs::Districts::district_fits, crate::proofs::Districts::passed_answers))]
 pub fn district(
     jobs: &[[u64; JOB]],
     weights: &[u64],
     heights: &[u64],
     rows: &mut [[u64; ROW]],
-) -> DistrictAnswer
+) -> Result<Report, Refusal>
     ensures { DistrictAnswers jobs.now weights.now heights.now rows.old result rows.new }
 {
-    let v = District::judged(jobs.len(), weights.len(), heights.len(), rows.len());
-    let Verdict::Passed = v else {
-        return DistrictAnswer {
-            verdict: v,
-            report: Report::none(),
-        };
-    };
-    let report = fill_rows(jobs, weights, heights, rows);
-    DistrictAnswer {
-        verdict: Verdict::Passed,
-        report,
-    }
+    District::judged(jobs.len(), weights.len(), heights.len(), rows.len())?;
+    Ok(fill_rows(jobs, weights, heights, rows))
 }

@@ -1,11 +1,13 @@
 -- `district_call::report::Totals::with_taken` meets its contract. Assumes nothing.
-use mathlib.Core.Path.{◌∙◌, ap}
-use Rattle.district_call.specs.Report.{one_if}
+use mathlib.Core.Path.{sym, ◌∙◌}
+use Rattle.district_call.proofs.Governed.{v_counted, vm_counted, star_counted}
 use Rattle.district_call.proofs.report.Totals.with_taken.Goals as goal
 
-pub returns : goal.returns
-returns c =
-    let star = c.one_if-3.ensures.0 ∙ ap one_if c.by_star.ensures in
-    let vm = c.one_if-2.ensures.0 ∙ ap one_if c.by_vm.ensures in
-    let v = c.one_if.ensures.0 ∙ ap one_if c.by_v.ensures in
-    simp (star, vm, v)
+pub returns-in-V : goal.returns-in-V
+returns-in-V c = sym (v_counted c.args.self c.args.n (sym c.of.ensures ∙ c.in-V.is))
+
+pub returns-in-Vm : goal.returns-in-Vm
+returns-in-Vm c = sym (vm_counted c.args.self c.args.n (sym c.of.ensures ∙ c.in-Vm.is))
+
+pub returns-in-Star : goal.returns-in-Star
+returns-in-Star c = sym (star_counted c.args.self c.args.n (sym c.of.ensures ∙ c.in-Star.is))
