@@ -11,10 +11,10 @@ use lib.ListN.{length, get_or, set}
 use mir.Syntax.{w64}
 use mir.Val.{to_z, of_z}
 use mir.Facts.{to_z-of_z}
+use Rattle.std.proofs.lemmas.Int.{to_z_pos}
 use Rattle.whole.specs.Cells.{laid}
 use Rattle.whole.proofs.Cells.{Filling, filling_none, filling_more, filling_all, cells_at}
-use Rattle.whole.proofs.Difference.{from_zero}
-use Rattle.whole.proofs.Floor.{back, neg_fits}
+use Rattle.whole.proofs.Floor.{neg_fits}
 use Rattle.storeys.specs.Reach.{Load, Falling}
 use Rattle.storeys.specs.Storeys.{weight_height, shear_under, shears, force, forces}
 use Rattle.storeys.proofs.Chain.{shears_length, forces_length}
@@ -26,11 +26,7 @@ use Rattle.drift.specs.Reach.{Carried}
 pub moment_most : (f d : ℕ) → f ≤ 1_400_000_000 → d ≤ 5_000 → accidental_moment f d ≤ 35_000_000_000_000
 moment_most f d h l = mul-le-mul h (let e : 5 * d ≤ 25_000 = omega arith in e)
 
--- ---- a moment with its sign, as it is made and as it is stored
-pub as_positive : (m : ℕ) {z : ℤ} → m ≤ 35_000_000_000_000 → z ≡ pos m -ℤ pos 0 → to_z w64 (of_z w64 z) ≡ pos m
-as_positive m h e =
-    ap (λ (y : ℤ). to_z w64 (of_z w64 y)) (e ∙ sym (from_zero m)) ∙ back (pos m) (omega (arith, h))
-
+-- ---- a moment with its sign reversed, as it is made and as it is stored
 pub as_negative : (m : ℕ) {z : ℤ} → m ≤ 35_000_000_000_000 → z ≡ pos 0 -ℤ pos m → to_z w64 (of_z w64 z) ≡ neg_ℤ (pos m)
 as_negative m h e =
     ap (λ (y : ℤ). to_z w64 (of_z w64 y)) (e ∙ +ℤ_idl (neg_ℤ (pos m))) ∙ to_z-of_z {w = w64} (neg_fits m (omega (arith, h)))
@@ -44,6 +40,15 @@ module _ (us : List ℕ) (d : ℕ) where
 
   pub force_most : Falling us → Carried us → (x : ℕ) → x < length us → force us x ≤ 1_400_000_000
   force_most fall carried x h = omega (arith, force_whole us x fall, carried x h)
+
+  -- the moment m of level x as both buffers take it
+  pub both_ways : (x m : ℕ) → Falling us → Carried us → d ≤ 5_000 → x < length us → m ≡ accidental_moment (force us x) d
+      → (to_z w64 m ≡ pos (moment_at x)) × (to_z w64 (of_z w64 (pos 0 -ℤ to_z w64 m)) ≡ neg_ℤ (pos (moment_at x)))
+  both_ways x m fall carried low h e =
+      let most : m ≤ 35_000_000_000_000 = rw e (moment_most (force us x) d (force_most fall carried x h) low) in
+      let signed = to_z_pos w64 m (omega (arith, most)) in
+      let at = moment_at_lem x m h e in
+      (signed ∙ ap pos at, as_negative m most (ap (λ (z : ℤ). pos 0 -ℤ z) signed) ∙ ap (λ (k : ℕ). neg_ℤ (pos k)) at)
 
   -- ---- two buffers that are filled side by side, level by level
   pub record Sided (p₀ n₀ : List ℤ) (x : ℕ) (p n : List ℤ) : Type 0 where

@@ -6,18 +6,17 @@ use Prim.Native.Nat.{ℕ, zero, suc, ◌+◌, ◌*◌, ◌≤◌, ◌<◌}
 use lib.Dec.{leb}
 use lib.IntN.{ℤ, neg_ℤ, ◌-ℤ◌}
 use lib.ListN.{length, get_or}
+use Rattle.std.specs.Prelude.{Ok}
 use Rattle.whole.specs.Cells.{cells}
 use Rattle.whole.specs.Choice.{pick}
 use Rattle.whole.specs.Signed.{size}
 use Rattle.whole.proofs.Size.{size_reversed, apart_reversed}
-use Rattle.limits.specs.declared.refusal.Verdict.{Verdict}
-use Rattle.limits.specs.declared.refusal.Verdict.TheVariants.{Passed}
 use Rattle.limits.specs.Displacement.{displaced}
 use Rattle.limits.specs.DriftLimit.{judged_drift_limit}
 use Rattle.limits.specs.DriftJudging.{judged_drift}
 use Rattle.limits.specs.Lengths.{same_length, roomy}
 use Rattle.limits.specs.Levels.{counted, raised}
-use Rattle.limits.specs.Outcome.{Outcome, Done, accepted, require, ◌>>◌}
+use Rattle.limits.specs.Outcome.{Outcome, Answer, Done, accepted, require, ◌>>◌}
 use Rattle.drift.specs.Drift.{storey_height, top, under, apart, within_limit, verdicts, drift_of, DriftAnswers}
 use Rattle.drift.specs.Reversed.{reversed}
 use Rattle.drift.proofs.Drifts.{one_drift, longer_drift, drift_cells}
@@ -73,20 +72,20 @@ unfolding drift_of
 same_drift hs zs m room =
     ap₂ (λ (o : Outcome Done) (l : List ℕ). o >> accepted l) (judged_reversed hs zs m room) (same_verdicts hs zs m)
 
-pub reversed_outcome : (hs : List ℕ) (zs : List ℤ) (m : ℕ) (old : List ℕ) {a a' : Verdict} {held held' : List ℕ}
+pub reversed_outcome : (hs : List ℕ) (zs : List ℤ) (m : ℕ) (old : List ℕ) {a a' : Answer Done} {held held' : List ℕ}
     → DriftAnswers hs (reversed zs) m old a held → DriftAnswers hs zs m old a' held' → (a ≡ a') × (held ≡ held')
 reversed_outcome hs zs m old {a} {a'} {held} {held'} p q =
     one_drift hs zs m old (rw (same_drift hs zs m (length old)) at p) q
 
 -- ---- of any two calls, whatever their buffers held and however much longer than the lists they are
 module _ (hs : List ℕ) (zs : List ℤ) (m : ℕ) (old old' : List ℕ) where
-  as_unreversed : (a : Verdict) (held : List ℕ) → DriftAnswers hs (reversed zs) m old a held → DriftAnswers hs zs m old a held
+  as_unreversed : (a : Answer Done) (held : List ℕ) → DriftAnswers hs (reversed zs) m old a held → DriftAnswers hs zs m old a held
   as_unreversed a held p = rw (same_drift hs zs m (length old)) at p
 
-  pub reversed_answer : (a a' : Verdict) (held held' : List ℕ) → length hs ≤ length old → length hs ≤ length old'
+  pub reversed_answer : (a a' : Answer Done) (held held' : List ℕ) → length hs ≤ length old → length hs ≤ length old'
       → DriftAnswers hs (reversed zs) m old a held → DriftAnswers hs zs m old' a' held' → a ≡ a'
   reversed_answer a a' held held' h h' p q = longer_drift hs zs m old old' h h' (as_unreversed a held p) q
 
-  pub reversed_cells : (held held' : List ℕ) → DriftAnswers hs (reversed zs) m old Passed held → DriftAnswers hs zs m old' Passed held'
+  pub reversed_cells : (held held' : List ℕ) → DriftAnswers hs (reversed zs) m old (Ok tt) held → DriftAnswers hs zs m old' (Ok tt) held'
       → (x : ℕ) → x < length hs → get_or held x 0 ≡ get_or held' x 0
-  reversed_cells held held' p q x h = drift_cells hs zs m old old' (as_unreversed Passed held p) q x h
+  reversed_cells held held' p q x h = drift_cells hs zs m old old' (as_unreversed (Ok tt) held p) q x h

@@ -8,14 +8,11 @@ use Prim.Native.Nat.{ℕ}
 use native.Mathlib.Omega.{arith}
 use lib.IntN.{ℤ, pos, negsuc, pos-ne-negsuc}
 use lib.ListN.{get_or}
+use Rattle.std.specs.Prelude.{Ok, Err}
 use Rattle.limits.specs.declared.refusal.Refusal.{Refusal}
-use Rattle.limits.specs.declared.refusal.Verdict.{Verdict}
-use Rattle.limits.specs.declared.refusal.Verdict.TheVariants.{Refused}
-use Rattle.limits.specs.Outcome.{Outcome, verdict_outcome}
+use Rattle.limits.specs.Outcome.{Outcome, Answer, Done, outcome, done_only}
 use Rattle.limits.proofs.Passed.{never, one_value}
 use Rattle.whole.specs.Cells.{laid}
-use Rattle.job.specs.Distribution.{done_only}
-use Rattle.drift.specs.declared.torsion.TorsionAnswer.TheVariants.{Taken, Refused as RefusedFloor}
 use Rattle.drift.specs.Accidental.{Moments, MomentBuffers, laid_each_way, MomentAnswers}
 use Rattle.drift.specs.Answering.{after}
 use Rattle.drift.specs.Drift.{DriftAnswers}
@@ -23,12 +20,12 @@ use Rattle.drift.specs.Torsion.{TorsionAnswers}
 use Rattle.drift.proofs.WorkedDrift.{heights, displacements, worked_frame, worked_storeys, worked_floors, worked_moments}
 
 -- ---- the worked frame, with a buffer of six cells
-module _ (o₁ o₂ o₃ o₄ o₅ o₆ : ℕ) (a : Verdict) (held : List ℕ) (t : DriftAnswers heights displacements 50 (o₁ ∷ o₂ ∷ o₃ ∷ o₄ ∷ o₅ ∷ o₆ ∷ []) a held) where
+module _ (o₁ o₂ o₃ o₄ o₅ o₆ : ℕ) (a : Answer Done) (held : List ℕ) (t : DriftAnswers heights displacements 50 (o₁ ∷ o₂ ∷ o₃ ∷ o₄ ∷ o₅ ∷ o₆ ∷ []) a held) where
   abbrev old : List ℕ
   old = o₁ ∷ o₂ ∷ o₃ ∷ o₄ ∷ o₅ ∷ o₆ ∷ []
 
-  pub never_refused : (r : Refusal) → a ≡ Refused r → ⊥
-  never_refused r e = never (sym (ap verdict_outcome e) ∙ t.0 ∙ ap done_only worked_frame)
+  pub never_refused : (r : Refusal) → a ≡ Err r → ⊥
+  never_refused r e = never (sym (ap outcome e) ∙ t.0 ∙ ap done_only worked_frame)
 
   held_is : held ≡ 0 ∷ 1 ∷ 1 ∷ 1 ∷ 0 ∷ 1 ∷ []
   held_is = t.1 ∙ ap (λ (o : Outcome (List ℕ)). after laid o old) worked_frame
@@ -49,31 +46,31 @@ module _ (o₁ o₂ o₃ o₄ o₅ o₆ : ℕ) (a : Verdict) (held : List ℕ) (
   never_all_passed e = omega (arith, ap (λ (l : List ℕ). get_or l 0 0) e, cell 0)
 
 -- ---- two storeys, with two cells
-pub never_by_height_above_base : (o₁ o₂ : ℕ) (a : Verdict) (held : List ℕ)
+pub never_by_height_above_base : (o₁ o₂ : ℕ) (a : Answer Done) (held : List ℕ)
     → DriftAnswers (45 ∷ 80 ∷ []) (pos 2250 ∷ pos 4001 ∷ []) 50 (o₁ ∷ o₂ ∷ []) a held → held ≡ 1 ∷ 1 ∷ [] → ⊥
 never_by_height_above_base o₁ o₂ a held t e =
     let is = t.1 ∙ ap (λ (o : Outcome (List ℕ)). after laid o (o₁ ∷ o₂ ∷ [])) worked_storeys in
     omega (arith, ap (λ (l : List ℕ). get_or l 1 0) (sym e ∙ is))
 
 -- ---- the worked floors
-pub never_refused_floor : (r : Refusal) → TorsionAnswers 2500 2000 (RefusedFloor r) → ⊥
+pub never_refused_floor : (r : Refusal) → TorsionAnswers 2500 2000 (Err r) → ⊥
 never_refused_floor r t = never (t ∙ worked_floors.0)
 
-pub never_down : TorsionAnswers 2500 2000 (Taken 1085) → ⊥
+pub never_down : TorsionAnswers 2500 2000 (Ok 1085) → ⊥
 never_down t = omega (arith, one_value (t ∙ worked_floors.0))
 
-pub never_unbounded : TorsionAnswers 2400 1000 (Taken 4000) → ⊥
+pub never_unbounded : TorsionAnswers 2400 1000 (Ok 4000) → ⊥
 never_unbounded t = omega (arith, one_value (t ∙ worked_floors.1))
 
-pub never_at_least_one : TorsionAnswers 1800 1800 (Taken 1000) → ⊥
+pub never_at_least_one : TorsionAnswers 1800 1800 (Ok 1000) → ⊥
 never_at_least_one t = omega (arith, one_value (t ∙ worked_floors.2))
 
 -- ---- the worked moments, with three cells each way
-module _ (p₁ p₂ p₃ n₁ n₂ n₃ : ℤ) (a : Verdict) (b' : MomentBuffers)
+module _ (p₁ p₂ p₃ n₁ n₂ n₃ : ℤ) (a : Answer Done) (b' : MomentBuffers)
     (t : MomentAnswers 1_071_429 1000 (5000 ∷ 5000 ∷ 5000 ∷ []) (100 ∷ 200 ∷ 300 ∷ []) 240 (record { positive = p₁ ∷ p₂ ∷ p₃ ∷ []; negative = n₁ ∷ n₂ ∷ n₃ ∷ [] }) a b')
   where
-    pub never_refused_moments : (r : Refusal) → a ≡ Refused r → ⊥
-    never_refused_moments r e = never (sym (ap verdict_outcome e) ∙ t.0 ∙ ap done_only worked_moments)
+    pub never_refused_moments : (r : Refusal) → a ≡ Err r → ⊥
+    never_refused_moments r e = never (sym (ap outcome e) ∙ t.0 ∙ ap done_only worked_moments)
 
     moments_are : b' ≡ record {
       positive = pos 199_285_200 ∷ pos 398_571_600 ∷ pos 687_858_000 ∷ [];

@@ -12,9 +12,8 @@
 --                                as it was
 use Rattle.std.specs.Prelude.{List, ℕ, ◌*◌, min, ℤ, pos, neg_ℤ, length, get_or}
 use Rattle.whole.specs.Cells.{cells, laid}
-use Rattle.limits.specs.declared.refusal.Verdict.{Verdict}
 use Rattle.limits.specs.DriftJudging.{judged_moments}
-use Rattle.limits.specs.Outcome.{Outcome, accepted, ◌>>◌}
+use Rattle.limits.specs.Outcome.{Outcome, Answer, accepted, Done, ◌>>◌}
 use Rattle.job.specs.Distribution.{columns_at}
 use Rattle.drift.specs.Answering.{Answered}
 
@@ -50,5 +49,5 @@ shorter b = min (length b.positive) (length b.negative)
 abbrev pub laid_each_way : Moments → MomentBuffers → MomentBuffers
 laid_each_way m b = record { positive = laid m.positive b.positive; negative = laid m.negative b.negative }
 
-abbrev pub MomentAnswers : ℕ → ℕ → List ℕ → List ℕ → ℕ → MomentBuffers → Verdict → MomentBuffers → Type 0
+abbrev pub MomentAnswers : ℕ → ℕ → List ℕ → List ℕ → ℕ → MomentBuffers → Answer Done → MomentBuffers → Type 0
 MomentAnswers v T ws hs d b a b' = Answered laid_each_way (moments_of v T ws hs d (shorter b)) b a b'

@@ -16,9 +16,8 @@ use Rattle.whole.specs.Cells.{cells, laid}
 use Rattle.whole.specs.Choice.{pick}
 use Rattle.whole.specs.Fraction.{over, at_most}
 use Rattle.whole.specs.Signed.{Signed, size, size_of}
-use Rattle.limits.specs.declared.refusal.Verdict.{Verdict}
 use Rattle.limits.specs.DriftJudging.{judged_drift}
-use Rattle.limits.specs.Outcome.{Outcome, accepted, ◌>>◌}
+use Rattle.limits.specs.Outcome.{Outcome, Answer, accepted, Done, ◌>>◌}
 use Rattle.storeys.specs.Storeys.{bottom}
 use Rattle.drift.specs.Answering.{Answered}
 
@@ -51,5 +50,5 @@ drift_of hs zs m room = do
   judged_drift hs zs m room
   accepted (verdicts hs zs m)
 
-abbrev pub DriftAnswers : List ℕ → List ℤ → ℕ → List ℕ → Verdict → List ℕ → Type 0
+abbrev pub DriftAnswers : List ℕ → List ℤ → ℕ → List ℕ → Answer Done → List ℕ → Type 0
 DriftAnswers hs zs m old a held = Answered laid (drift_of hs zs m (length old)) old a held

@@ -2,15 +2,12 @@
 --   amplification l a       A_x = (δ_max / (1.2 δ_avg))², exact (22)
 --   torsion_factor l a      in thousandths, rounded up; 'not required to exceed 3.0'. The section has no other bound
 --   torsion_of l a          the factor, or the first refusal
---   torsion_outcome r       what the code's answer r says
 --   TorsionAnswers l a r    r is the answer
 use Rattle.std.specs.Prelude.{◌≡◌, ℕ, min}
 use Rattle.whole.specs.declared.Fraction.{Fraction}
 use Rattle.whole.specs.Fraction.{over, times, quotient, square, up_in}
 use Rattle.limits.specs.Floor.{judged_floor}
-use Rattle.limits.specs.Outcome.{Outcome, accepted, refused, ◌>>◌}
-use Rattle.drift.specs.declared.torsion.TorsionAnswer.{TorsionAnswer}
-use Rattle.drift.specs.declared.torsion.TorsionAnswer.TheVariants.{Taken, Refused}
+use Rattle.limits.specs.Outcome.{Outcome, Answer, accepted, outcome, ◌>>◌}
 
 abbrev pub amplification : ℕ → ℕ → Fraction
 amplification l a = square (quotient (over l 1) (times (over 12 10) (over a 1)))
@@ -23,9 +20,5 @@ torsion_of l a = do
   judged_floor l a
   accepted (torsion_factor l a)
 
-abbrev pub torsion_outcome : TorsionAnswer → Outcome ℕ
-torsion_outcome (Taken k) = accepted k
-torsion_outcome (Refused r) = refused r.number r.place
-
-abbrev pub TorsionAnswers : ℕ → ℕ → TorsionAnswer → Type 0
-TorsionAnswers l a r = torsion_outcome r ≡ torsion_of l a
+abbrev pub TorsionAnswers : ℕ → ℕ → Answer ℕ → Type 0
+TorsionAnswers l a r = outcome r ≡ torsion_of l a

@@ -1,37 +1,42 @@
 -- `drift::accidental::accidental_moments` meets its contract: the array of shears has a cell for each of at most 50 levels. Assumes nothing.
+use mathlib.Core.Path.{sym}
+use Prim.Native.Nat.{ℕ}
 use native.Mathlib.Omega.{arith}
-use Rattle.limits.proofs.AcceptedDrift.{moments_allowed}
-use Rattle.limits.proofs.Stages.{says}
-use Rattle.limits.specs.Outcome.{verdict_outcome}
-use Rattle.storeys.proofs.Roof.{roof_at_most_one}
-use Rattle.job.proofs.GivenReached.{standing}
-use Rattle.drift.proofs.Moments.{refused_moments, passed_moments}
+use lib.ListN.{length-take}
+use Rattle.storeys.proofs.Chain.{shears_length, shears_whole}
+use Rattle.storeys.proofs.Telescope.{shears_fall}
+use Rattle.drift.proofs.EachWay.{shears_carried}
+use Rattle.drift.proofs.Moments.{moments_asked, passed_moments}
 use Rattle.drift.proofs.accidental.accidental_moments.Goals as goal
 
-pub returns-in_default : goal.returns-in_default
-returns-in_default c =
-    let a = c.args in
-    refused_moments a.shear a.period a.weights.now a.heights.now a.dimension _ _ _ c.shorter-room.ensures c.in_default.is c.judged_moments-v.ensures
+pub slice_bounds-room_for_shears-end : goal.slice_bounds-room_for_shears-end
+slice_bounds-room_for_shears-end c = (moments_asked _ _ _ _ _ _ c.in_ok-judged_moments.ensures).3
 
-pub fill_moments-requires : goal.fill_moments-requires
-fill_moments-requires c =
+pub slice_bounds-shears-end : goal.slice_bounds-shears-end
+slice_bounds-shears-end c =
+    let asked = moments_asked _ _ _ _ _ _ c.in_ok-judged_moments.ensures in
+    omega (arith, length-take {A = ℕ}, asked.3)
+
+pub fill_shears-requires : goal.fill_shears-requires
+fill_shears-requires c =
+    let asked = moments_asked _ _ _ _ _ _ c.in_ok-judged_moments.ensures in
+    (asked.0, asked.1.weighing, asked.1.positive, omega (arith, length-take {A = ℕ}, asked.3))
+
+pub fill_each_way-requires : goal.fill_each_way-requires
+fill_each_way-requires c =
     let a = c.args in
-    let short = c.shorter-room.ensures in
-    let e = says verdict_outcome c.judged_moments-v.ensures c.in-Passed.is in
-    let all = moments_allowed a.shear a.period a.weights.now a.heights.now a.dimension _ e in
-    let shear = all.0.handed.shear.1 in (
-      record { part = roof_at_most_one a.period; shear = omega (arith, shear) },
-      standing a.weights.now a.heights.now all.0.levels,
-      all.0.dimension.1,
-      omega (arith, all.0.levels.few),
-      omega (arith, all.1),
-      omega (arith, all.1),
+    let asked = moments_asked _ _ _ _ _ _ c.in_ok-judged_moments.ensures in
+    let size = shears_length a.period a.shear a.weights.now a.heights.now in
+    rw (shears_whole _ _ _ _ _ (omega (arith, length-take {A = ℕ})) c.fill_shears.ensures) (
+      shears_fall a.period a.shear a.weights.now a.heights.now asked.1.positive,
+      shears_carried a.period a.shear a.weights.now a.heights.now asked.0 asked.1.positive,
+      asked.2,
+      omega (arith, size, asked.4, c.min-room.ensures),
+      omega (arith, size, asked.4, c.min-room.ensures),
     )
 
 pub returns : goal.returns
 returns c =
     let a = c.args in
-    let short = c.shorter-room.ensures in
-    let e = says verdict_outcome c.judged_moments-v.ensures c.in-Passed.is in
-    let cells = c.fill_moments.ensures in
-    passed_moments a.shear a.period a.weights.now a.heights.now a.dimension _ short e cells.0 cells.1
+    let laid = rw (shears_whole _ _ _ _ _ (omega (arith, length-take {A = ℕ})) c.fill_shears.ensures) at c.fill_each_way.ensures in
+    passed_moments a.shear a.period a.weights.now a.heights.now a.dimension _ c.min-room.ensures (sym c.in_ok-judged_moments.ensures) laid.0 laid.1
