@@ -1,13 +1,10 @@
--- A line at a cursor, layout by layout: the first fits; it does not, and the others are left; none is left.
+-- A line at the front of bytes, layout by layout: the first fits; it does not, and the others are left; none is left.
 --   front k ns s    a line of the layout k with the numbers ns, and the bytes s after it
 -- Assumes nothing.
-use mathlib.Core.Path.{◌≡◌, refl, ap}
+use mathlib.Core.Path.{◌≡◌, refl}
 use mathlib.Core.List.{List, [], ◌∷◌}
 use Prim.Native.Nat.{ℕ}
-use lib.ListN.{drop}
-use lib.Seq.{drop-drop}
 use Rattle.limits.specs.Outcome.{accepted, refused}
-use Rattle.text.specs.declared.reading.Cursor.{Cursor}
 use Rattle.text.specs.Line.{line}
 use Rattle.text.specs.Reading.{otherwise}
 use Rattle.text.proofs.Readings.{Went}
@@ -18,11 +15,9 @@ abbrev pub front : Layout → List ℕ → List ℕ → Front
 front k ns s = record { line = record { word = k.word; numbers = ns }; rest = s }
 
 module _ (p : ℕ) (k : Layout) (ks : List Layout) (s : List ℕ) where
-  pub line_fits : {c c' : Cursor} {ns : List ℕ} → Went c c' (line k.word k.numbers (drop c.at s)) ns
-      → line_in p (k ∷ ks) (drop c.at s) ≡ accepted (front k ns (drop c'.at s))
+  pub line_fits : {t ns : List ℕ} → Went s t (line k.word k.numbers s) ns → line_in p (k ∷ ks) s ≡ accepted (front k ns t)
   unfolding line_in
-  line_fits {c} {c'} {ns} went =
-      rw (went.is, drop-drop went.used c.at s) (ap (λ (d : Cursor). accepted (front k ns (drop d.at s))) went.to)
+  line_fits went = rw (went.is, went.to)
 
   pub line_not : line k.word k.numbers s ≡ otherwise → line_in p (k ∷ ks) s ≡ line_in p ks s
   unfolding line_in

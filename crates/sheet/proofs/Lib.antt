@@ -1,4 +1,5 @@
 pub mod Refused
+pub mod HandedOn
 pub mod OneLine
 pub mod Lines
 pub mod LaidRead
@@ -7,7 +8,6 @@ pub mod Otherwise
 pub mod FewLines
 pub mod Foremost
 pub mod TwoCalls
-pub mod LevelLine
 pub mod Gathering
 pub mod Fitting
 pub mod GroundLine

@@ -9,63 +9,45 @@ use lib.Dec.{leb}
 use lib.ListN.{length, take, length-take}
 use lib.Seq.{take_all}
 use borrow.Author.Tests.{leb-true, leb-false}
+use Rattle.std.specs.Prelude.{Ok, Err}
 use Rattle.whole.proofs.Cells.{laid_part}
 use Rattle.limits.specs.declared.frame.FrameValues.{FrameValues}
 use Rattle.limits.specs.declared.ground.GroundValues.{GroundValues}
 use Rattle.limits.specs.declared.refusal.Refusal.{Refusal}
-use Rattle.limits.specs.Outcome.{Outcome, accepted, refused, zeros, ◌>>=◌}
-use Rattle.limits.proofs.Passed.{never}
+use Rattle.limits.specs.Outcome.{Outcome, Answer, accepted, refused, zeros, ◌>>=◌}
 use Rattle.job.specs.Job.{job_of}
 use Rattle.job.proofs.Stages.{job_refused}
-use Rattle.text.proofs.Stored.{kept_length}
-use Rattle.sheet.specs.declared.reader.SheetAnswer.TheVariants.{Taken, Refused}
 use Rattle.sheet.specs.declared.reader.SheetRead.{SheetRead}
 use Rattle.sheet.specs.Listing.{job_of_sheet, outcome_of}
-use Rattle.sheet.specs.Reading.{read_sheet, kept_most, kept, cells_of, sheet_read, sheet_outcome}
+use Rattle.sheet.specs.Reading.{read_sheet, kept_most, kept, levels_kept, sheet_read}
 use Rattle.sheet.specs.Sheet.{Sheet}
 use Rattle.sheet.proofs.JobAnswered.{too_many}
 use Rattle.sheet.proofs.ReadLaid.{read_same}
-use Rattle.sheet.proofs.Refused.{answer_refused}
 
--- ---- an answer, once it is known
-abbrev kept_sheet : Sheet → GroundValues × (FrameValues × ℕ)
-kept_sheet r = (r.ground, (r.frame, length (kept r.levels.weights)))
-
--- it says the outcome: ground, frame, and how many levels are kept
-sheet_said : (o : Outcome Sheet) → sheet_outcome (sheet_read o).answer ≡ (o >>= λ r. accepted (kept_sheet r))
-unfolding sheet_read
-sheet_said (accepted r) = refl
-sheet_said (refused n p) = refl
-
-said_refused : (o : Outcome Sheet) (c : SheetRead) (f : Refusal) → c ≡ sheet_read o → c.answer ≡ Refused f
-    → o ≡ refused f.number f.place
-said_refused o c f e m = answer_refused kept_sheet sheet_read (λ (x : SheetRead). sheet_outcome x.answer) sheet_said o c e (ap sheet_outcome m)
-
-record SheetTaken (o : Outcome Sheet) (c : SheetRead) (v : GroundValues) (f : FrameValues) (n : ℕ) : Type 0 where
+record SheetTaken (o : Outcome Sheet) (c : SheetRead) : Type 0 where
   pub read : Sheet
   pub is : o ≡ accepted read
-  pub ground : read.ground ≡ v
-  pub frame : read.frame ≡ f
-  pub count : length (kept read.levels.weights) ≡ n
-  pub weights : c.weights ≡ cells_of read.levels.weights
-  pub heights : c.heights ≡ cells_of read.levels.heights
+  pub held : ◌≡◌ {A = SheetRead} (record { ground_values = read.ground; frame_values = read.frame; levels = levels_kept read.levels }) c
 
-said_taken : (o : Outcome Sheet) (c : SheetRead) (v : GroundValues) (f : FrameValues) (n : ℕ) → c ≡ sheet_read o
-    → c.answer ≡ Taken v f n
-    → SheetTaken o c v f n
-unfolding sheet_read
-said_taken (accepted r) c v f n e m =
-    let e' = sym (ap (λ (x : SheetRead). x.answer) e) ∙ m in
-    record {
-      read = r;
-      is = refl;
-      ground = cc;
-      frame = cc;
-      count = cc;
-      weights = ap (λ (x : SheetRead). x.weights) e;
-      heights = ap (λ (x : SheetRead). x.heights) e;
-    }
-said_taken (refused k p) c v f n e m = absurd (never (ap sheet_outcome (sym (ap (λ (x : SheetRead). x.answer) e) ∙ m)))
+-- ---- an answer, once it is known
+module _ (o : Outcome Sheet) (r : Answer SheetRead) (e : r ≡ sheet_read o) where
+  pub said_refused : (f : Refusal) → r ≡ Err f → o ≡ refused f.number f.place
+  unfolding sheet_read
+  said_refused f m = go o (sym e ∙ m)
+    where
+      go : (o : Outcome Sheet) → sheet_read o ≡ Err f → o ≡ refused f.number f.place
+      go (accepted x) u = cc
+      go (refused n p) u =
+          let same : ◌≡◌ {A = Refusal} (record { number = n; place = p }) f = cc in
+          ap (λ (x : Refusal). refused x.number x.place) same
+
+  said_taken : (c : SheetRead) → r ≡ Ok c → SheetTaken o c
+  unfolding sheet_read
+  said_taken c m = go o refl (sym e ∙ m)
+    where
+      go : (q : Outcome Sheet) → o ≡ q → sheet_read q ≡ Ok c → SheetTaken o c
+      go (accepted x) q u = record { read = x; is = q; held = cc }
+      go (refused n p) q u = cc
 
 -- ---- the outcome, by what the code holds
 -- the job of the levels that are kept is the job of all: where some are not kept, both are refused by their count
@@ -89,48 +71,55 @@ sheet_job : (s : List ℕ) (r : Sheet) {v : GroundValues} {f : FrameValues} {ws 
 sheet_job s r e ev ef ew eh same =
     rw (ew, eh, ← ev, ← ef, e) (kept_job r.ground r.frame r.levels.weights r.levels.heights same)
 
--- the job of the first cells
-pub record SheetJob (s : List ℕ) (c : SheetRead) (v : GroundValues) (f : FrameValues) (n : ℕ) : Type 0 where
-  pub weights_room : n ≤ length c.weights
-  pub heights_room : n ≤ length c.heights
-  pub weights_length : length (take n c.weights) ≡ n
-  pub heights_length : length (take n c.heights) ≡ n
-  pub outcome : job_of v f (take n c.weights) (take n c.heights) (length (take n c.weights)) ≡ outcome_of s
+-- what is held of a sheet that was taken: the levels that are kept stand in the first cells
+pub record SheetHeld (s : List ℕ) (c : SheetRead) : Type 0 where
+  pub read : Sheet
+  pub is : read_sheet s ≡ accepted read
+  pub ground : read.ground ≡ c.ground_values
+  pub frame : read.frame ≡ c.frame_values
+  pub weights : take c.levels.count c.levels.weights ≡ kept read.levels.weights
+  pub heights : take c.levels.count c.levels.heights ≡ kept read.levels.heights
+  pub same : length read.levels.heights ≡ length read.levels.weights
+  pub room : c.levels.count ≤ kept_most
 
-module _ (s : List ℕ) (c : SheetRead) (e : c ≡ sheet_read (read_sheet s)) where
-  pub sheet_refused : (f : Refusal) → c.answer ≡ Refused f → outcome_of s ≡ refused f.number f.place
-  sheet_refused f m = ap (λ (o : Outcome Sheet). o >>= job_of_sheet) (said_refused (read_sheet s) c f e m)
+-- the job of the levels that are kept
+pub record SheetJob (s : List ℕ) (c : SheetRead) : Type 0 where
+  pub room : c.levels.count ≤ kept_most
+  pub outcome : {ws hs : List ℕ} → ws ≡ take c.levels.count c.levels.weights → hs ≡ take c.levels.count c.levels.heights
+      → job_of c.ground_values c.frame_values ws hs (length ws) ≡ outcome_of s
 
-  module _ (v : GroundValues) (f : FrameValues) (n : ℕ) (m : c.answer ≡ Taken v f n) where
-    held : SheetTaken (read_sheet s) c v f n
-    held = said_taken (read_sheet s) c v f n e m
+module _ (s : List ℕ) (r : Answer SheetRead) (e : r ≡ sheet_read (read_sheet s)) where
+  pub sheet_refused : (f : Refusal) → r ≡ Err f → outcome_of s ≡ refused f.number f.place
+  sheet_refused f m = ap (λ (o : Outcome Sheet). o >>= job_of_sheet) (said_refused (read_sheet s) r e f m)
 
-    abbrev ws : List ℕ
-    ws = held.read.levels.weights
-
-    abbrev hs : List ℕ
-    hs = held.read.levels.heights
-
-    same : length hs ≡ length ws
-    same = read_same s held.read held.is
-
-    as_many : length (kept hs) ≡ n
-    as_many = length-take kept_most hs ∙ ap (min kept_most) same ∙ sym (length-take kept_most ws) ∙ held.count
-
-    -- the first cells, as many as there are levels kept
-    weights_cut : take n c.weights ≡ kept ws
-    weights_cut = ap (λ (l : List ℕ). take n l) held.weights ∙ laid_part (kept ws) (zeros kept_most) n held.count
-
-    heights_cut : take n c.heights ≡ kept hs
-    heights_cut = ap (λ (l : List ℕ). take n l) held.heights ∙ laid_part (kept hs) (zeros kept_most) n as_many
-
-    pub sheet_taken : SheetJob s c v f n
-    sheet_taken =
+  module _ (c : SheetRead) (m : r ≡ Ok c) where
+    pub sheet_held : SheetHeld s c
+    sheet_held =
+        let t = said_taken (read_sheet s) r e c m in
+        let ws = t.read.levels.weights in
+        let hs = t.read.levels.heights in
+        let n = c.levels.count in
+        let same = read_same s t.read t.is in
+        let count : length (kept ws) ≡ n = ap (λ (x : SheetRead). x.levels.count) t.held in
+        let as_many : length (kept hs) ≡ n =
+        length-take kept_most hs ∙ ap (min kept_most) same ∙ sym (length-take kept_most ws) ∙ count in
         record {
-          weights_room =
-              omega (arith, ap length held.weights, kept_length (zeros kept_most) ws, length-take kept_most ws, held.count);
-          heights_room = omega (arith, ap length held.heights, kept_length (zeros kept_most) hs, length-take kept_most hs, as_many);
-          weights_length = ap length weights_cut ∙ held.count;
-          heights_length = ap length heights_cut ∙ as_many;
-          outcome = sheet_job s held.read held.is held.ground held.frame weights_cut heights_cut same;
+          read = t.read;
+          is = t.is;
+          ground = ap (λ (x : SheetRead). x.ground_values) t.held;
+          frame = ap (λ (x : SheetRead). x.frame_values) t.held;
+          weights =
+              sym (ap (λ (x : SheetRead). take n x.levels.weights) t.held) ∙ laid_part (kept ws) (zeros kept_most) n count;
+          heights =
+              sym (ap (λ (x : SheetRead). take n x.levels.heights) t.held) ∙ laid_part (kept hs) (zeros kept_most) n as_many;
+          same = same;
+          room = omega (arith, length-take kept_most ws, count);
+        }
+
+    pub sheet_taken : SheetJob s c
+    sheet_taken =
+        let k = sheet_held in
+        record {
+          room = k.room;
+          outcome = λ ew eh. sheet_job s k.read k.is k.ground k.frame (ew ∙ k.weights) (eh ∙ k.heights) k.same;
         }

@@ -6,9 +6,10 @@
 use mathlib.Core.Path.{◌≡◌, ap₂}
 use mathlib.Core.List.{List}
 use Prim.Native.Nat.{ℕ}
+use Rattle.std.specs.Prelude.{Option}
 use Rattle.whole.proofs.Unique.{determined}
 use Rattle.limits.specs.declared.refusal.Refusal.{Refusal}
-use Rattle.limits.specs.Outcome.{Outcome}
+use Rattle.limits.specs.Outcome.{Outcome, Answer}
 use Rattle.job.specs.Job.{Results}
 use Rattle.sheet.specs.declared.listing.Listing.{Listing}
 use Rattle.sheet.specs.declared.reader.SheetRead.{SheetRead}
@@ -24,11 +25,11 @@ pub puts_unique : {o : Outcome Results} {old held held' : List ℕ} {p p' : Put}
     → (held ≡ held') × (p ≡ p')
 puts_unique w w' =
     let same = written_unique w.listed w'.listed in
-    (same.0, ap₂ (λ (n : ℕ) (r : Refusal). record { length = n; refusal = r }) same.1 (determined w.refusal_is w'.refusal_is))
+    (same.0, ap₂ (λ (n : ℕ) (r : Option Refusal). record { length = n; refusal = r }) same.1 (determined w.refusal_is w'.refusal_is))
 
 module _ (s : List ℕ) where
   pub one_listing : {l l' : Listing} → l ≡ printed (sheet_listing s) → l' ≡ printed (sheet_listing s) → l ≡ l'
   one_listing p q = determined p q
 
-  pub one_reading : {r r' : SheetRead} → r ≡ sheet_read (read_sheet s) → r' ≡ sheet_read (read_sheet s) → r ≡ r'
+  pub one_reading : {r r' : Answer SheetRead} → r ≡ sheet_read (read_sheet s) → r' ≡ sheet_read (read_sheet s) → r ≡ r'
   one_reading p q = determined p q

@@ -11,11 +11,13 @@
 --   longest                 as many bytes as the longest listing may have: 20 digits a number, 50 levels
 --   printed l               the bytes l as the code hands them on: in the first of `longest` cells, and how many there are
 --   Written l old held n    a buffer that held old holds `held`, l over its first cells and the rest as it was; n is the length of l
+--   told o                  what the outcome o refuses, if it does
 --   Puts o old held p       so is the listing of the outcome o, and p says its length and what o refuses
 --   Levelled fs us os       as many shears and overturning moments as forces, and not over 50
-use Rattle.std.specs.Prelude.{◌≡◌, List, [], ◌∷◌, ◌++◌, ℕ, zero, suc, ◌≤◌, length, get_or}
+use Rattle.std.specs.Prelude.{◌≡◌, List, [], ◌∷◌, ◌++◌, ℕ, zero, suc, ◌≤◌, length, get_or, Option, Some, None}
 use Rattle.whole.specs.Cells.{laid}
-use Rattle.limits.specs.Outcome.{Outcome, accepted, refused, refusal_of, zeros, ◌>>=◌}
+use Rattle.limits.specs.declared.refusal.Refusal.{Refusal}
+use Rattle.limits.specs.Outcome.{Outcome, accepted, refused, zeros, ◌>>=◌}
 use Rattle.base_shear.specs.declared.Figures.{Figures}
 use Rattle.job.specs.Job.{Results, job_of}
 use Rattle.text.specs.Bytes.{bytes}
@@ -59,9 +61,13 @@ unfoldable pub listing : Outcome Results → List ℕ
 listing (accepted r) = results_listing r.figures r.columns.forces r.columns.shears r.columns.overturnings
 listing (refused n p) = refusal n p
 
+abbrev pub told : {A : Type 0} → Outcome A → Option Refusal
+told (accepted a) = None
+told (refused n p) = Some (record { number = n; place = p })
+
 pub record Puts (o : Outcome Results) (old held : List ℕ) (p : Put) : Type 0 where
   pub listed : Written (listing o) old held p.length
-  pub refusal_is : p.refusal ≡ refusal_of o
+  pub refusal_is : p.refusal ≡ told o
 
 abbrev pub job_of_sheet : Sheet → Outcome Results
 job_of_sheet r = job_of r.ground r.frame r.levels.weights r.levels.heights (length r.levels.weights)

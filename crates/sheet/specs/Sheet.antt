@@ -21,6 +21,8 @@ use Rattle.limits.specs.declared.frame.FrameValues.{FrameValues}
 use Rattle.limits.specs.declared.ground.GroundValues.{GroundValues}
 use Rattle.limits.specs.declared.ground.GroundValues.TheVariants.{Site, Basin}
 use Rattle.limits.specs.declared.site.SiteValues.{SiteValues}
+pub use Rattle.limits.specs.Site.{site_values}
+pub use Rattle.limits.specs.Frame.{frame_values}
 use Rattle.text.specs.Bytes.{bytes}
 use Rattle.text.specs.Reading.{starts}
 use Rattle.sheet.specs.Layouts.{Layout, Line, Form}
@@ -47,20 +49,6 @@ sheet_form =
 abbrev pub level_form : Form
 level_form = record { heads = []; later = level_layout ∷ [] }
 
-abbrev pub site_values : List ℕ → SiteValues
-site_values ns =
-    record {
-      ssd = get_or ns 0 0;
-      s1d = get_or ns 1 0;
-      ssm = get_or ns 2 0;
-      s1m = get_or ns 3 0;
-      nad = get_or ns 4 0;
-      nvd = get_or ns 5 0;
-      nam = get_or ns 6 0;
-      nvm = get_or ns 7 0;
-      class = get_or ns 8 0;
-    }
-
 abbrev pub pair_twice : List ℕ → List ℕ
 pair_twice ns =
     get_or ns 0 0
@@ -82,10 +70,6 @@ is_word w v = starts w v && starts v w
 
 abbrev pub ground_of : Line → GroundValues
 ground_of l = pick (is_word basin_layout.word l.word) (Basin (get_or l.numbers 0 0)) (Site (held_site l.numbers))
-
-abbrev pub frame_values : List ℕ → FrameValues
-frame_values ns =
-    record { kind = get_or ns 0 0; calculated = get_or ns 1 0; r = get_or ns 2 0; i = get_or ns 3 0; alpha = get_or ns 4 0 }
 
 pub record Levels : Type 0 where
   pub weights : List ℕ

@@ -13,3 +13,5 @@ pub const FRAME_LINE: u64 = 2;
 pub const FRAME_NUMBERS: usize = 5;
 // All later lines are `level`.
 pub const LEVEL_LINE: u64 = 3;
+
+pub const LEVEL_NUMBERS: usize = 2;

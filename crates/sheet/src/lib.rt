@@ -1,13 +1,13 @@
 // A sheet: how it is read, and the listing that it gets.
 #![tactic(auto)]
 
-use job::{FiguresAnswer, job};
+use job::job;
 use limits::frame::FrameValues;
 use limits::ground::GroundValues;
 use limits::level::Level;
 use limits::refusal::Refusal;
 use listing::{LONGEST, Listing, put_refusal, put_results};
-use reader::{SheetAnswer, read_sheet};
+use reader::read_sheet;
 
 pub mod layout;
 pub mod levels;
@@ -15,17 +15,29 @@ pub mod listing;
 pub mod reader;
 
 ghost use Rattle.std.specs.Prelude.{◌≡◌, ◌≤◌, length};
+ghost use Rattle.limits.specs.Outcome.{refused};
 ghost use Rattle.job.specs.Job.{job_of};
 ghost use Rattle.sheet.specs.Listing.{outcome_of, sheet_listing, longest, printed, Puts};
 
 // Result buffers for every job that is accepted.
 const ROOM: usize = Level::MOST as usize;
 
-// What was written into a buffer: how many bytes, and the refusal that they say, zeros where they are results.
+// What was written into a buffer: how many bytes, and the refusal that they say, if they are no results.
 #[derive(Clone, Copy)]
 pub struct Put {
     pub length: usize,
-    pub refusal: Refusal,
+    pub refusal: Option<Refusal>,
+}
+
+// Writes the line of a refusal.
+pub fn put_refused(out: &mut [u8], refusal: Refusal) -> Put
+    requires { longest ≤ length out.old }
+    ensures { Puts (refused refusal.number refusal.place) out.old out.new result }
+{
+    Put {
+        length: put_refusal(out, refusal),
+        refusal: Some(refusal),
+    }
 }
 
 // Does a job and writes its listing. The job refuses over 50 levels before it looks at the buffers.
@@ -42,7 +54,7 @@ pub fn put_job(
     let mut forces = [0; ROOM];
     let mut shears = [0; ROOM];
     let mut overturnings = [0; ROOM];
-    let a = job(
+    let answer = job(
         ground,
         frame,
         weights,
@@ -51,15 +63,16 @@ pub fn put_job(
         &mut shears,
         &mut overturnings,
     );
-    let FiguresAnswer::Taken(figures) = a else {
-        let refusal = a.refusal();
-        let length = put_refusal(out, refusal);
-        return Put { length, refusal };
-    };
-    let n = weights.len();
-    let length = put_results(out, figures, &forces[..n], &shears[..n], &overturnings[..n]);
-    let refusal = Refusal::none();
-    Put { length, refusal }
+    match answer {
+        Err(refusal) => put_refused(out, refusal),
+        Ok(figures) => {
+            let n = weights.len();
+            Put {
+                length: put_results(out, figures, &forces[..n], &shears[..n], &overturnings[..n]),
+                refusal: None,
+            }
+        }
+    }
 }
 
 // Writes what is printed for the bytes of a sheet. One level more than a job may have is kept, so that the job itself refuses the count.
@@ -67,16 +80,19 @@ pub fn put_sheet(out: &mut [u8], s: &[u8]) -> Put
     requires { longest ≤ length out.old }
     ensures { Puts (outcome_of s.now) out.old out.new result }
 {
-    let read = read_sheet(s);
-    let a = read.answer;
-    let SheetAnswer::Taken(ground, frame, levels) = a else {
-        let refusal = a.refusal();
-        let length = put_refusal(out, refusal);
-        return Put { length, refusal };
-    };
-    let weights = read.weights;
-    let heights = read.heights;
-    put_job(out, ground, frame, &weights[..levels], &heights[..levels])
+    match read_sheet(s) {
+        Err(refusal) => put_refused(out, refusal),
+        Ok(read) => {
+            let levels = &read.levels;
+            put_job(
+                out,
+                read.ground_values,
+                read.frame_values,
+                levels.weights(),
+                levels.heights(),
+            )
+        }
+    }
 }
 
 // The bytes that are printed for the bytes of a sheet.

@@ -1,17 +1,17 @@
 -- The sheets of a file answered one after the other, each row written as it comes.
---   Answering s old held t cs p at i    i sheets of the file s are answered, up to the byte `at`: a buffer that held old holds `held`, with their rows
---                                       written up to p, and t and cs are the totals and the cells so far
+--   Answering s from w t cs ps i    i sheets of the file s are answered, and the sheets ps are left: the writer `from` is w behind their rows, and t
+--                                   and cs are the totals and the cells so far
 -- Assumes nothing.
 use mathlib.Core.Path.{◌≡◌, refl, sym, ap, ◌∙◌}
-use mathlib.Core.Bool.{true}
 use mathlib.Core.List.{List, [], ◌∷◌, map}
-use Prim.Native.Nat.{ℕ, ◌+◌, ◌-◌, ◌≤◌, ◌<◌}
-use native.Mathlib.Nat.{add-zero, zero-add}
+use Prim.Native.Nat.{ℕ, ◌+◌, ◌≤◌, ◌<◌}
+use native.Mathlib.Nat.{add-zero}
 use native.Mathlib.Omega.{arith}
-use lib.ListN.{length, get_or, drop, take, replicate, length-drop, length-map}
+use lib.ListN.{length, get_or, drop, replicate, length-drop, length-map}
 use lib.Seq.{drop-drop, get_or-drop}
 use Rattle.limits.specs.Outcome.{Outcome}
-use Rattle.text.specs.Writing.{spliced}
+use Rattle.text.specs.declared.writing.Writer.{Writer}
+use Rattle.text.specs.Writing.{Room, Writes}
 use Rattle.district_call.specs.declared.report.Report.{Report}
 use Rattle.district_call.specs.declared.report.Totals.{Totals}
 use Rattle.district_call.specs.declared.weighed.Weighed.{Weighed}
@@ -21,20 +21,20 @@ use Rattle.district_call.proofs.AllSorted.{all_sorted}
 use Rattle.district_call.proofs.Tallied.{nothing, Tallied, tallied_none, tallied_more, tallied_all, tallied_small, tallied_low}
 use Rattle.sheets.proofs.Answered.{answer_sorted}
 use Rattle.sheets.proofs.Numbered.{Lined, lined_none, lined_all, lined_room, lined_more}
-use Rattle.sheets.proofs.Parts.{sheets_none, sheets_next, first_part}
 use Rattle.sheets.specs.Answers.{sheet_answer, answers_in}
 use Rattle.sheets.specs.Listing.{row_line, row_lines}
-use Rattle.sheets.specs.Split.{sheets_in, first_in}
+use Rattle.sheets.specs.Split.{sheets_in}
 
-pub record Answering (s old held : List ℕ) (t : Totals) (cs : List ℕ) (p at i : ℕ) : Type 0 where
-  pub lines : Lined row_line old 0 held p (row_lines (answers_in s)) (i + 1) (answers_in (drop at s))
+pub record Answering (s : List ℕ) (from w : Writer) (t : Totals) (cs : List ℕ) (ps : List (List ℕ)) (i : ℕ) : Type 0 where
+  pub lines : Lined row_line from w (row_lines (answers_in s)) (i + 1) (map sheet_answer ps)
   pub tally : Tallied (answers_in s) i t cs
-  pub left : drop i (answers_in s) ≡ answers_in (drop at s)
+  pub left : drop i (answers_in s) ≡ map sheet_answer ps
 
-pub answering_none : (s old : List ℕ) {t : Totals} → t ≡ (report_of []).totals → Answering s old old t (replicate cells_most 0) 0 0 0
-answering_none s old e =
+pub answering_none : (s : List ℕ) (from : Writer) {t : Totals} → t ≡ (report_of []).totals
+    → Answering s from from t (replicate cells_most 0) (sheets_in s) 0
+answering_none s from e =
     record {
-      lines = lined_none row_line old 0 1 (answers_in s);
+      lines = lined_none row_line from 1 (answers_in s);
       tally = rw e (tallied_none (answers_in s));
       left = refl;
     }
@@ -50,8 +50,8 @@ module _ (os : List (Outcome Weighed)) (i : ℕ) {o : Outcome Weighed} {m : List
   left_past : drop (i + 1) os ≡ m
   left_past = sym (drop-drop 1 i os) ∙ ap (λ (l : List (Outcome Weighed)). drop 1 l) e
 
-module _ {s old held : List ℕ} {t : Totals} {cs : List ℕ} {p at i : ℕ} (a : Answering s old held t cs p at i)
-    (few : length (sheets_in s) ≤ 256) (room : length (row_lines (answers_in s)) ≤ length old) where
+module _ {s : List ℕ} {from w : Writer} {t : Totals} {cs : List ℕ} {ps : List (List ℕ)} {i : ℕ} (a : Answering s from w t cs ps i)
+    (few : length (sheets_in s) ≤ 256) where
   abbrev os : List (Outcome Weighed)
   os = answers_in s
 
@@ -65,39 +65,37 @@ module _ {s old held : List ℕ} {t : Totals} {cs : List ℕ} {p at i : ℕ} (a 
   pub answering_low : LowCells cs
   answering_low = tallied_low os i t cs few_answers a.tally
 
-  pub answering_all : length s ≤ at
-      → (◌≡◌ {A = Report} (record { totals = t; cells = cs }) (report_of os)) × ((p ≡ length (row_lines os)) × (held ≡ spliced old 0 (row_lines os)))
+  pub answering_all : ps ≡ []
+      → (◌≡◌ {A = Report} (record { totals = t; cells = cs }) (report_of os)) × Writes from (row_lines os) w
   answering_all h =
-      let none : answers_in (drop at s) ≡ [] = ap (map sheet_answer) (sheets_none s at h) in
-      let w = lined_all row_line a.lines (omega arith) none in
+      let none : map sheet_answer ps ≡ [] = ap (map sheet_answer) h in
       let end : length os ≤ i = omega (arith, sym (length-drop i os) ∙ ap length (a.left ∙ none)) in
-      (tallied_all os i t cs end a.tally, (w.end ∙ zero-add (length (row_lines os)), w.holds))
+      (tallied_all os i t cs end a.tally, lined_all row_line a.lines none)
 
-  module _ (h : at < length s) {e : ℕ} (is : e ≡ at + length (first_in true (drop at s))) {o : Outcome Weighed}
-      (said : o ≡ sheet_answer (take (e - at) (drop at s))) where
-    next : answers_in (drop at s) ≡ o ∷ answers_in (drop (e + 1) s)
-    next =
-        ap (map sheet_answer) (sheets_next s at h is)
-        ∙ ap (λ (x : Outcome Weighed). x ∷ answers_in (drop (e + 1) s)) (sym (said ∙ ap sheet_answer (first_part s at is)))
-
-    here : drop i os ≡ o ∷ answers_in (drop (e + 1) s)
-    here = a.left ∙ next
+  module _ {x : List ℕ} {qs : List (List ℕ)} (h : ps ≡ x ∷ qs) where
+    here : drop i os ≡ sheet_answer x ∷ map sheet_answer qs
+    here = a.left ∙ ap (map sheet_answer) h
 
     pub answering_few : i < 256
     answering_few = omega (arith, left_some os i here, few_answers)
 
-    pub answering_sorted : Sorted o
-    answering_sorted = rw said (answer_sorted (take (e - at) (drop at s)))
+    module _ {o : Outcome Weighed} (said : o ≡ sheet_answer x) where
+      pub answering_sorted : Sorted o
+      answering_sorted = rw said (answer_sorted x)
 
-    pub answering_room : p + length (row_line (i + 1) o) ≤ length held
-    answering_room = lined_room row_line a.lines (omega arith) next
+      next : map sheet_answer ps ≡ o ∷ map sheet_answer qs
+      next = rw said (ap (map sheet_answer) h)
 
-    pub answering_more : {held' : List ℕ} {t' : Totals} {cs' : List ℕ} {p' : ℕ} → p' ≡ p + length (row_line (i + 1) o)
-        → held' ≡ spliced held p (row_line (i + 1) o) → t' ≡ with_answer t o → cs' ≡ counted_in o cs
-        → Answering s old held' t' cs' p' (e + 1) (i + 1)
-    answering_more ep eh et ec =
-        record {
-          lines = lined_more row_line a.lines (omega arith) next ep eh;
-          tally = rw (et, ec) (tallied_more os i t cs (left_some os i here) a.tally o (left_here os i here) answering_sorted);
-          left = left_past os i here;
-        }
+      module _ (room : Room from (row_lines os)) where
+        pub answering_room : Room w (row_line (i + 1) o)
+        answering_room = lined_room row_line a.lines room next
+
+        pub answering_more : {w' : Writer} {t' : Totals} {cs' : List ℕ} → Writes w (row_line (i + 1) o) w'
+            → t' ≡ with_answer t o → cs' ≡ counted_in o cs → Answering s from w' t' cs' qs (i + 1)
+        answering_more more et ec =
+            let here' = a.left ∙ next in
+            record {
+              lines = lined_more row_line a.lines room next more;
+              tally = rw (et, ec) (tallied_more os i t cs (left_some os i here') a.tally o (left_here os i here') answering_sorted);
+              left = left_past os i here';
+            }

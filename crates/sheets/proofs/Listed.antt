@@ -1,23 +1,22 @@
 -- What is printed for a file once it is judged; no listing has over 51,849 bytes, whatever the file.
 -- Assumes nothing.
 use mathlib.Core.Path.{◌≡◌, refl, sym, ap, subst, ◌∙◌}
-use mathlib.Core.List.{List}
+use mathlib.Core.List.{List, ◌++◌}
 use Prim.Native.Nat.{ℕ, ◌+◌, ◌≤◌}
-use native.Mathlib.Nat.{zero-add}
 use native.Mathlib.Omega.{arith}
 use lib.Dec.{leb}
 use lib.ListN.{length, take, length-append, length-map}
 use borrow.Author.Tests.{leb-true}
-use Rattle.whole.proofs.Cells.{cells_length, laid_part}
+use Rattle.std.specs.Prelude.{None, Ok, Err}
 use Rattle.limits.specs.declared.refusal.Refusal.{Refusal}
-use Rattle.limits.specs.Outcome.{Outcome, accepted, refused, refusal_of, Done, require}
+use Rattle.whole.proofs.Cells.{cells_length, laid_part}
+use Rattle.limits.specs.Outcome.{Outcome, Answer, accepted, refused, outcome, Done, require}
 use Rattle.limits.proofs.Passed.{then_passed, require_passed}
-use Rattle.text.specs.Writing.{spliced}
-use Rattle.text.proofs.Spliced.{Wrote, wrote, wrote_more}
+use Rattle.text.specs.declared.writing.Writer.{Writer}
+use Rattle.text.specs.Writing.{Room, Writes}
 use Rattle.sheet.specs.declared.Put.{Put}
-use Rattle.sheet.specs.Listing.{refusal, Written}
+use Rattle.sheet.specs.Listing.{listing as sheet_text, Written, told, Puts}
 use Rattle.sheet.proofs.Listings.{written_is, refusal_room}
-use Rattle.district_call.specs.declared.report.Report.{Report}
 use Rattle.district_call.specs.declared.weighed.Weighed.{Weighed}
 use Rattle.district_call.specs.Report.{cells_most, report_of}
 use Rattle.sheets.proofs.Lines.{row_most, totals_most, cell_most}
@@ -45,19 +44,27 @@ lines_room os few =
     )
 
 module _ (s : List ℕ) where
+  -- ---- what the answer says, where it is no refusal
+  pub file_judged : {a : Answer Done} → outcome a ≡ judged_file s → ((r : Refusal) → a ≡ Err r → ⊥) → judged_file s ≡ accepted tt
+  file_judged {a} e other = sym e ∙ go a other
+    where
+      go : (a : Answer Done) → ((r : Refusal) → a ≡ Err r → ⊥) → outcome a ≡ accepted tt
+      go (Ok u) other = refl
+      go (Err r) other = absurd (other r refl)
+
   -- ---- a file that is refused
   pub file_refused : {n p : ℕ} → judged_file s ≡ refused n p → file_of s ≡ refused n p
   unfolding file_of
   file_refused j = simp j
 
-  pub puts_refused : (r : Refusal) {old held : List ℕ} {n : ℕ} → judged_file s ≡ refused r.number r.place
-      → Written (refusal r.number r.place) old held n → PutsFile s old held (record { length = n; refusal = r })
-  unfolding district_listing listing
-  puts_refused r {old} {held} {n} j w =
+  pub puts_refused : {n p : ℕ} {old held : List ℕ} {q : Put} → judged_file s ≡ refused n p → Puts (refused n p) old held q
+      → PutsFile s old held q
+  unfolding district_listing listing sheet_text
+  puts_refused {n} {p} {old} {held} {q} j w =
       let e = file_refused j in
       record {
-        listed = subst (λ (o : Outcome (List (Outcome Weighed))). Written (listing o) old held n) (sym e) w;
-        refusal_is = sym (ap refusal_of e);
+        listed = subst (λ (o : Outcome (List (Outcome Weighed))). Written (listing o) old held q.length) (sym e) w.listed;
+        refusal_is = w.refusal_is ∙ sym (ap told e);
       }
 
   -- ---- a file that is taken
@@ -75,29 +82,23 @@ module _ (s : List ℕ) where
     room : length (row_lines (answers_in s)) + length (report_lines (report_of (answers_in s))) ≤ longest
     room = lines_room (answers_in s) (omega (arith, file_few, length-map (sheets_in s) sheet_answer))
 
-    pub rows_room : (old : List ℕ) → longest ≤ length old → length (row_lines (answers_in s)) ≤ length old
-    rows_room old h = omega (arith, room)
+    -- a writer at the front of a buffer that is long enough has room for rows and report
+    pub file_room : {w : Writer} → w.at ≡ 0 → longest ≤ length w.out.now
+        → Room w (row_lines (answers_in s) ++ report_lines (report_of (answers_in s)))
+    file_room e h =
+        record { fits = omega (arith, room, length-append (row_lines (answers_in s)) (report_lines (report_of (answers_in s)))) }
 
-    module _ (old : List ℕ) {held : List ℕ} {p : ℕ} {r : Report} (h : longest ≤ length old) (is : r ≡ report_of (answers_in s))
-        (ep : p ≡ length (row_lines (answers_in s))) (eh : held ≡ spliced old 0 (row_lines (answers_in s))) where
-      rows : Wrote old 0 (row_lines (answers_in s)) held p
-      rows = wrote _ _ _ _ _ (omega (arith, rows_room old h)) eh (ep ∙ sym (zero-add (length (row_lines (answers_in s)))))
-
-      pub report_room : (length r.cells ≡ cells_most) × (p + length (report_lines r) ≤ length held)
-      report_room = rw is (report_cells (answers_in s), omega (arith, room, rows, h))
-
-      pub puts_lines : {held' : List ℕ} {q : ℕ} {none : Refusal} → q ≡ p + length (report_lines r) → held' ≡ spliced held p (report_lines r)
-          → none ≡ record { number = 0; place = 0 } → PutsFile s old held' (record { length = q; refusal = none })
-      unfolding district_listing listing
-      puts_lines {held'} {q} eq eh' en =
-          let w : Wrote held p (report_lines (report_of (answers_in s))) held' q
-          = rw (← is) (wrote _ _ _ _ _ report_room.1 eh' eq) in
-          record {
-            listed =
-                subst (λ (o : Outcome (List (Outcome Weighed))). Written (listing o) old held' q) (sym file_taken)
-                (written_is (wrote_more rows w (omega (arith, room, h))));
-            refusal_is = en ∙ sym (ap refusal_of file_taken);
-          }
+    pub puts_lines : {w w' : Writer} {held : List ℕ} → w.at ≡ 0 → held ≡ w'.out.now
+        → Writes w (row_lines (answers_in s) ++ report_lines (report_of (answers_in s))) w'
+        → PutsFile s w.out.now held (record { length = w'.at; refusal = None })
+    unfolding district_listing listing
+    puts_lines {w} {w'} {held} e h wrote =
+        record {
+          listed =
+              subst (λ (o : Outcome (List (Outcome Weighed))). Written (listing o) w.out.now held w'.at) (sym file_taken)
+              (written_is e h wrote);
+          refusal_is = sym (ap told file_taken);
+        }
 
 -- ---- whatever the file
 pub listing_short : (s : List ℕ) → length (district_listing s) ≤ longest

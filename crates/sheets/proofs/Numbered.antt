@@ -1,6 +1,5 @@
 -- The lines of a list, written one after the other, and how long they are.
---   Lined f old at held p all i l    a buffer that held old holds `held`, with the first of the lines `all` written from `at` on, up to p; those of the
---                                    elements l, numbered upward from i, are left
+--   Lined f from w all i l    the writer `from` is w behind the first of the lines `all`; those of the elements l, numbered upward from i, are left
 -- Assumes nothing.
 use mathlib.Core.Path.{◌≡◌, refl, sym, ap, ◌∙◌}
 use mathlib.Core.List.{List, [], ◌∷◌, ◌++◌, append_assoc, append-nil}
@@ -9,8 +8,9 @@ use native.Mathlib.Numerals.{add-one}
 use native.Mathlib.Omega.{arith}
 use lib.ListN.{length, get_or, drop, length-append}
 use lib.Seq.{drop-cons}
-use Rattle.text.specs.Writing.{spliced}
-use Rattle.text.proofs.Spliced.{Wrote, wrote, wrote_none, wrote_more}
+use Rattle.text.specs.declared.writing.Writer.{Writer}
+use Rattle.text.specs.Writing.{Room, Writes}
+use Rattle.text.proofs.Spliced.{room_first, writes_none, writes_room, writes_more}
 use Rattle.sheets.specs.Numbered.{numbered}
 
 -- what is left of a list begins with the next element
@@ -24,42 +24,38 @@ module _ {A : Type 0} (f : ℕ → A → List ℕ) where
   numbered_most most h i [] = omega arith
   numbered_most most h i (a ∷ l) = simp length-append (omega (arith, h i a, numbered_most most h (i + 1) l))
 
-  pub record Lined (old : List ℕ) (at : ℕ) (held : List ℕ) (p : ℕ) (all : List ℕ) (i : ℕ) (l : List A) : Type 0 where
+  pub record Lined (from w : Writer) (all : List ℕ) (i : ℕ) (l : List A) : Type 0 where
     pub done : List ℕ
-    pub lines : Wrote old at done held p
+    pub lines : Writes from done w
     pub whole : done ++ numbered f i l ≡ all
 
-  pub lined_none : (old : List ℕ) (at i : ℕ) (l : List A) → Lined old at old at (numbered f i l) i l
-  lined_none old at i l = record { done = []; lines = wrote_none old at; whole = refl }
+  pub lined_none : (from : Writer) (i : ℕ) (l : List A) → Lined from from (numbered f i l) i l
+  lined_none from i l = record { done = []; lines = writes_none from; whole = refl }
 
-  module _ {old : List ℕ} {at : ℕ} {held : List ℕ} {p : ℕ} {all : List ℕ} {i : ℕ} {l : List A} (w : Lined old at held p all i l)
-      (room : at + length all ≤ length old) where
-    sum : length w.done + length (numbered f i l) ≡ length all
-    sum = sym (length-append w.done (numbered f i l)) ∙ ap length w.whole
-
-    pub lined_all : l ≡ [] → Wrote old at all held p
+  module _ {from w : Writer} {all : List ℕ} {i : ℕ} {l : List A} (d : Lined from w all i l) where
+    pub lined_all : l ≡ [] → Writes from all w
     unfolding numbered
-    lined_all e =
-        let same : w.done ≡ all = sym (append-nil w.done) ∙ rw e at w.whole in
-        rw (← same) w.lines
+    lined_all e = rw (sym (append-nil d.done) ∙ rw e at d.whole) at d.lines
 
-    module _ {a : A} {m : List A} (e : l ≡ a ∷ m) where
+    module _ (room : Room from all) {a : A} {m : List A} (e : l ≡ a ∷ m) where
       next : numbered f i l ≡ f i a ++ numbered f (i + 1) m
       unfolding numbered
       next = rw e
 
-      parts : length (numbered f i l) ≡ length (f i a) + length (numbered f (i + 1) m)
-      parts = ap length next ∙ length-append (f i a) (numbered f (i + 1) m)
+      parted : Room from (d.done ++ (f i a ++ numbered f (i + 1) m))
+      parted = rw (← next, d.whole) room
 
-      pub lined_room : p + length (f i a) ≤ length held
-      lined_room = omega (arith, w.lines, sum, parts)
+      pub lined_room : Room w (f i a)
+      lined_room = room_first (f i a) (numbered f (i + 1) m) (writes_room d.lines parted)
 
-      pub lined_more : {held' : List ℕ} {p' : ℕ} → p' ≡ p + length (f i a) → held' ≡ spliced held p (f i a)
-          → Lined old at held' p' all (i + 1) m
-      lined_more ep eh =
+      pub lined_more : {w' : Writer} → Writes w (f i a) w' → Lined from w' all (i + 1) m
+      lined_more more =
           record {
-            done = w.done ++ f i a;
-            lines = wrote_more w.lines (wrote _ _ _ _ _ lined_room eh ep) (omega (arith, sum, parts));
+            done = d.done ++ f i a;
+            lines =
+                writes_more d.lines
+                (room_first (d.done ++ f i a) (numbered f (i + 1) m) (rw (append_assoc d.done (f i a) (numbered f (i + 1) m)) parted))
+                more;
             whole =
-                append_assoc w.done (f i a) (numbered f (i + 1) m) ∙ ap (λ (z : List ℕ). w.done ++ z) (sym next) ∙ w.whole;
+                append_assoc d.done (f i a) (numbered f (i + 1) m) ∙ ap (λ (z : List ℕ). d.done ++ z) (sym next) ∙ d.whole;
           }

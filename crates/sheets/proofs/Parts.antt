@@ -3,13 +3,14 @@
 use mathlib.Core.Path.{◌≡◌, refl, sym, ap, ap₂, ◌∙◌}
 use mathlib.Core.Bool.{Bool, true, false, ◌&&◌}
 use mathlib.Core.List.{List, [], ◌∷◌}
-use Prim.Native.Nat.{ℕ, suc, ◌+◌, ◌-◌, ◌≤◌, ◌<◌}
+use Prim.Native.Nat.{ℕ, zero, suc, ◌+◌, ◌-◌, ◌≤◌, ◌<◌, min}
 use native.Mathlib.Numerals.{add-one}
 use native.Mathlib.Omega.{arith}
 use lib.Dec.{leb}
 use lib.ListN.{length, get_or, take, drop, length-drop, drop_of_length-le}
-use lib.Seq.{drop-cons, drop-drop, length-take-le, take_all}
+use lib.Seq.{drop-cons, length-take-le, take_all}
 use borrow.Author.Tests.{leb-true, leb-false}
+use Rattle.whole.proofs.Choice.{by_leb}
 use Rattle.text.proofs.Digital.{both}
 use Rattle.sheets.specs.Split.{is_lf, before, parts, filled, sheets_in, first_in}
 
@@ -93,26 +94,43 @@ sheets_first s h =
         ap filled r.is
         ∙ rw (drop-cons s r.size 0 (leb-false _ _ e)) (filled_more (take r.size s) (drop (suc r.size) s))
 
+-- no file has more sheets than bytes
+pub sheets_most : (s : List ℕ) → length (sheets_in s) ≤ length s
+sheets_most s = go (length s) s (omega arith)
+  where
+    go : (n : ℕ) (s : List ℕ) → length s ≤ n → length (sheets_in s) ≤ length s
+    go n [] h = rw no_sheet (omega arith)
+    go zero (b ∷ s) h = absurd (let z : ⊥ = omega arith in z)
+    go (suc n) (b ∷ s) h =
+        let k = length (first_in true (b ∷ s)) in
+        let rest : length (drop (suc k) (b ∷ s)) ≤ length s = simp length-drop (omega arith) in
+        rw (sheets_first (b ∷ s) (omega arith)) (omega (arith, go n (drop (suc k) (b ∷ s)) (omega arith)))
+
 -- ---- as the code goes through a file
-module _ (s : List ℕ) (at : ℕ) where
-  pub sheets_none : length s ≤ at → sheets_in (drop at s) ≡ []
-  sheets_none h = rw (drop_of_length-le s {i = at} h) no_sheet
+first_most : (s : List ℕ) → length (first_in true s) ≤ length s
+first_most s = omega (arith, first_size true s, (apart true s).fits)
 
-  -- the first sheet from `at` on, and where it ends
-  pub first_fits : at ≤ length s → at + length (first_in true (drop at s)) ≤ length s
-  first_fits h =
-      let r = apart true (drop at s) in
-      omega (arith, first_size true (drop at s), simp length-drop at r.fits)
+pub sheets_none : (s : List ℕ) → length s ≡ 0 → sheets_in s ≡ []
+sheets_none [] e = no_sheet
+sheets_none (b ∷ s) e = absurd (let z : ⊥ = omega arith in z)
 
-  pub first_part : {e : ℕ} → e ≡ at + length (first_in true (drop at s)) → take (e - at) (drop at s) ≡ first_in true (drop at s)
-  first_part {e} i =
-      let k : e - at ≡ (apart true (drop at s)).size = omega (arith, first_size true (drop at s)) in
-      rw k (first_is true (drop at s))
+module _ (s : List ℕ) {n : ℕ} (is : n ≡ length (first_in true s)) where
+  pub first_fits : n ≤ length s
+  first_fits = omega (arith, first_most s)
 
-  pub sheets_next : at < length s → {e : ℕ} → e ≡ at + length (first_in true (drop at s))
-      → sheets_in (drop at s) ≡ first_in true (drop at s) ∷ sheets_in (drop (e + 1) s)
-  sheets_next h {e} i =
-      let k : at + suc (length (first_in true (drop at s))) ≡ e + 1 = omega arith in
-      sheets_first (drop at s) (simp length-drop (omega arith))
-      ∙ ap (λ (ps : List ℕ). first_in true (drop at s) ∷ sheets_in ps)
-      (drop-drop (suc (length (first_in true (drop at s)))) at s ∙ ap (λ (j : ℕ). drop j s) k)
+  -- the first sheet, and the sheets of what is left after the empty line
+  pub sheets_next : 0 < length s → {m : ℕ} → m ≡ min (length s) (n + 1)
+      → sheets_in s ≡ take n s ∷ sheets_in (take (length s - m) (drop m s))
+  sheets_next h {m} e =
+      let whole : take (length s - m) (drop m s) ≡ drop m s = take_all (length s - m) (drop m s) (simp length-drop (omega arith)) in
+      let next : suc (length (first_in true s)) ≡ n + 1 = omega arith in
+      rw (whole, past) (sheets_first s h ∙ ap₂ (λ (p : List ℕ) (k : ℕ). p ∷ sheets_in (drop k s)) (sym here) next)
+    where
+      here : take n s ≡ first_in true s
+      here = rw (is, ← first_size true s) (first_is true s)
+
+      past : drop m s ≡ drop (n + 1) s
+      past =
+          by_leb (λ (_ : Bool). drop m s ≡ drop (n + 1) s) (length s) (n + 1) true false
+          (λ h. rw (drop_of_length-le s {i = m} (omega arith), drop_of_length-le s {i = n + 1} h))
+          (λ h. ap (λ (k : ℕ). drop k s) (omega arith))

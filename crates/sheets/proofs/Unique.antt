@@ -5,6 +5,7 @@
 use mathlib.Core.Path.{◌≡◌, ap₂}
 use mathlib.Core.List.{List}
 use Prim.Native.Nat.{ℕ}
+use Rattle.std.specs.Prelude.{Option}
 use Rattle.whole.proofs.Unique.{determined}
 use Rattle.limits.specs.declared.refusal.Refusal.{Refusal}
 use Rattle.sheet.specs.declared.Put.{Put}
@@ -14,4 +15,4 @@ use Rattle.sheets.specs.Listing.{PutsFile}
 pub district_unique : {s old held held' : List ℕ} {p p' : Put} → PutsFile s old held p → PutsFile s old held' p' → (held ≡ held') × (p ≡ p')
 district_unique w w' =
     let same = written_unique w.listed w'.listed in
-    (same.0, ap₂ (λ (n : ℕ) (r : Refusal). record { length = n; refusal = r }) same.1 (determined w.refusal_is w'.refusal_is))
+    (same.0, ap₂ (λ (n : ℕ) (r : Option Refusal). record { length = n; refusal = r }) same.1 (determined w.refusal_is w'.refusal_is))

@@ -11,11 +11,11 @@
 --   PutsFile s old held p    a buffer that held old holds `held`, with what is printed for s over its first cells and the rest as it was; p says its
 --                        length and what is refused
 use Rattle.std.specs.Prelude.{◌≡◌, List, [], ◌∷◌, ◌++◌, ℕ, ◌+◌, ◌*◌}
-use Rattle.limits.specs.Outcome.{Outcome, accepted, refused, refusal_of, ◌>>◌}
+use Rattle.limits.specs.Outcome.{Outcome, accepted, refused, ◌>>◌}
 use Rattle.text.specs.Bytes.{bytes}
 use Rattle.text.specs.Writing.{laid_out}
 use Rattle.sheet.specs.declared.Put.{Put}
-use Rattle.sheet.specs.Listing.{refusal, Written}
+use Rattle.sheet.specs.Listing.{refusal, Written, told}
 use Rattle.district_call.specs.declared.report.Report.{Report}
 use Rattle.district_call.specs.declared.report.Totals.{Totals}
 use Rattle.district_call.specs.declared.weighed.Weighed.{Weighed}
@@ -60,4 +60,4 @@ longest = 51_849
 
 pub record PutsFile (s old held : List ℕ) (p : Put) : Type 0 where
   pub listed : Written (district_listing s) old held p.length
-  pub refusal_is : p.refusal ≡ refusal_of (file_of s)
+  pub refusal_is : p.refusal ≡ told (file_of s)

@@ -2,11 +2,10 @@
 #![tactic(auto)]
 
 use judged::judged_file;
-use limits::refusal::{Refusal, Verdict};
 use listing::{LONGEST, put_report};
 use rows::put_rows;
-use sheet::Put;
-use sheet::listing::put_refusal;
+use sheet::{Put, put_refused};
+use text::writing::Writer;
 
 pub mod answer;
 pub mod judged;
@@ -22,17 +21,16 @@ fn put_file(out: &mut [u8], file: &[u8]) -> Put
     requires { longest ≤ length out.old }
     ensures { PutsFile file.now out.old out.new result }
 {
-    let v = judged_file(file);
-    let Verdict::Passed = v else {
-        let refusal = v.refusal();
-        let length = put_refusal(out, refusal);
-        return Put { length, refusal };
-    };
-    let rows = put_rows(out, file);
-    let report = rows.report;
-    let length = put_report(out, rows.length, report);
-    let refusal = Refusal::none();
-    Put { length, refusal }
+    if let Err(refusal) = judged_file(file) {
+        return put_refused(out, refusal);
+    }
+    let mut w = Writer { out, at: 0 };
+    let report = put_rows(&mut w, file);
+    put_report(&mut w, report);
+    Put {
+        length: w.at,
+        refusal: None,
+    }
 }
 
 // Writes it into a lent array, which holds what is printed for every file.

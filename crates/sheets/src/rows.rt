@@ -1,6 +1,6 @@
 // The rows of a file, each written as its sheet is answered.
 ghost use Rattle.std.specs.Prelude.{◌≡◌, ◌≤◌, length};
-ghost use Rattle.text.specs.Writing.{spliced};
+ghost use Rattle.text.specs.Writing.{Room, Writes};
 ghost use Rattle.district_call.specs.Report.{report_of};
 ghost use Rattle.sheets.specs.Answers.{answers_in};
 ghost use Rattle.sheets.specs.Listing.{row_lines};
@@ -8,39 +8,26 @@ ghost use Rattle.sheets.specs.Split.{sheets_in};
 
 use crate::answer::sheet_answer;
 use crate::listing::put_row;
-use crate::split::sheet_end;
+use crate::split::Sheets;
 use district_call::report::{CELLS, Report, Totals, count_in};
+use text::writing::Writer;
 
-// How many bytes the rows have, and the report.
-#[derive(Clone, Copy)]
-pub struct Rows {
-    pub length: usize,
-    pub report: Report,
-}
-
-// Writes a row for each sheet.
-pub fn put_rows(out: &mut [u8], file: &[u8]) -> Rows
-    requires { (length (sheets_in file.now) ≤ 256) × (length (row_lines (answers_in file.now)) ≤ length out.old) }
-    ensures report_value { result.report ≡ report_of (answers_in file.now) }
-    ensures length_value { result.length ≡ length (row_lines (answers_in file.now)) }
-    ensures out_after { out.new ≡ spliced out.old 0 (row_lines (answers_in file.now)) }
+// Writes a row for each sheet, and returns the report.
+pub fn put_rows(w: &mut Writer, file: &[u8]) -> Report
+    requires { (length (sheets_in file.now) ≤ 256) × Room w.old (row_lines (answers_in file.now)) }
+    ensures report_value { result ≡ report_of (answers_in file.now) }
+    ensures same_buffer { w.new.out.ghost_name ≡ w.old.out.ghost_name }
+    ensures bytes { Writes w.old (row_lines (answers_in file.now)) w.new }
 {
-    let mut totals = Totals::none();
+    let mut totals = Totals::default();
     let mut cells = [0; CELLS];
-    let mut p = 0;
-    let mut at = 0;
-    let mut count: u64 = 0;
-    while at < file.len() {
-        let end = sheet_end(file, at);
-        let a = sheet_answer(&file[at..end]);
-        p = put_row(out, p, count + 1, a);
+    let mut number = 0;
+    for s in Sheets(file) {
+        let a = sheet_answer(s);
+        number += 1;
+        put_row(w, number, a);
         totals = totals.with_answer(a);
         count_in(&mut cells, a);
-        at = end + 1;
-        count += 1;
     }
-    Rows {
-        length: p,
-        report: Report { totals, cells },
-    }
+    Report { totals, cells }
 }

@@ -3,7 +3,7 @@
 use mathlib.Core.Path.{◌≡◌, refl, sym, ap, ◌∙◌}
 use mathlib.Core.Bool.{Bool, true, false}
 use mathlib.Core.List.{List, [], ◌∷◌, ◌++◌}
-use Prim.Native.Nat.{ℕ, zero, suc, ◌+◌, ◌-◌, ◌*◌, ◌^◌, ◌/◌, ◌%◌, ◌≤◌, ◌<◌}
+use Prim.Native.Nat.{ℕ, zero, suc, ◌+◌, ◌*◌, ◌^◌, ◌/◌, ◌%◌, ◌≤◌, ◌<◌}
 use native.Mathlib.Nat.{pow-suc}
 use native.Mathlib.Numerals.{add-one}
 use native.Mathlib.Omega.{arith}
@@ -11,6 +11,7 @@ use lib.Dec.{leb, ltb}
 use lib.ListN.{length, set, length-append, length-set}
 use borrow.Author.Tests.{lt-ltb, le-ltb, leb-true, leb-false}
 use Rattle.whole.specs.Choice.{pick}
+use Rattle.whole.proofs.Choice.{by_leb}
 use Rattle.text.proofs.Spliced.{spliced_one, spliced_last}
 use Rattle.text.specs.Writing.{digits_of, decimal, spliced}
 
@@ -75,35 +76,59 @@ length_small n h = ap length (decimal_small n h)
 pub length_big : (n : ℕ) → 10 ≤ n → n < 2 ^ 64 → length (decimal n) ≡ length (decimal (n / 10)) + 1
 length_big n h f = ap length (decimal_big n h f) ∙ length-append (decimal (n / 10)) ((48 + n % 10) ∷ [])
 
+length_some : (n : ℕ) → n < 2 ^ 64 → 0 < length (decimal n)
+length_some n f =
+    by_leb (λ (_ : Bool). 0 < length (decimal n)) 10 n true false
+    (λ h. omega (arith, length_big n h f)) (λ h. omega (arith, length_small n h))
+
 -- ---- a number written digit by digit, the last one first: a buffer that held old holds `held`, and is as wanted when the
--- digits of `rest` are written too, which end before p
+-- digits of `rest` are written too, which end before p; where p is at the front it is as wanted
 pub record Left (old : List ℕ) (at n : ℕ) (held : List ℕ) (rest p : ℕ) : Type 0 where
-  pub goal : spliced held at (decimal rest) ≡ spliced old at (decimal n)
-  pub end : p ≡ at + length (decimal rest)
-  pub room : p ≤ length held
+  pub more : at < p → (spliced held at (decimal rest) ≡ spliced old at (decimal n)) × (p ≡ at + length (decimal rest))
+  pub done : p ≤ at → held ≡ spliced old at (decimal n)
   pub size : length held ≡ length old
 
-pub left_all : (old : List ℕ) (at n p : ℕ) → p ≡ at + length (decimal n) → p ≤ length old → Left old at n old n p
-left_all old at n p e h = record { goal = refl; end = e; room = h; size = refl }
+pub left_all : (old : List ℕ) (at n p : ℕ) → p ≡ at + length (decimal n) → n < 2 ^ 64 → Left old at n old n p
+left_all old at n p e f =
+    record {
+      more = λ _. (refl, e);
+      done = λ h. absurd (let z : ⊥ = omega (arith, length_some n f) in z);
+      size = refl;
+    }
 
-module _ {old : List ℕ} {at n : ℕ} {held : List ℕ} {rest p : ℕ} (l : Left old at n held rest p) (d : ℕ) (e : d ≡ 48 + rest % 10) where
-  pub left_less : 10 ≤ rest → rest < 2 ^ 64 → Left old at n (set held (p - 1) d) (rest / 10) (p - 1)
-  left_less big f =
+module _ {old : List ℕ} {at n : ℕ} {held : List ℕ} {rest p q : ℕ} (l : Left old at n held rest p) (next : p ≡ q + 1) (from : at ≤ q)
+    (room : q < length held) (d : ℕ) (e : d ≡ 48 + rest % 10) (f : rest < 2 ^ 64) where
+  less : 10 ≤ rest → Left old at n (set held q d) (rest / 10) q
+  less big =
+      let m = l.more (omega arith) in
       let tens = decimal (rest / 10) in
-      let last : p - 1 ≡ at + length tens = omega (arith, l.end, length_big rest big f) in
+      let last : q ≡ at + length tens = omega (arith, m.1, length_big rest big f) in
       record {
-        goal = rw (last, e)
-            (spliced_last held at tens (48 + rest % 10) (omega (arith, l.end, l.room, length_big rest big f))
-            ∙ ap (spliced held at) (sym (decimal_big rest big f))
-            ∙ l.goal);
-        end = last;
-        room = simp length-set (omega (arith, l.room));
-        size = length-set held (p - 1) d ∙ l.size;
+        more =
+            λ _. (
+              rw (last, e)
+                  (spliced_last held at tens (48 + rest % 10) (omega (arith, m.1, length_big rest big f))
+                  ∙ ap (spliced held at) (sym (decimal_big rest big f))
+                  ∙ m.0),
+              last,
+            );
+        done = λ h. absurd (let z : ⊥ = omega (arith, length_some (rest / 10) (omega arith)) in z);
+        size = length-set held q d ∙ l.size;
       }
 
-  pub left_one : rest < 10 → set held at d ≡ spliced old at (decimal n)
-  left_one s =
-      spliced_one held at d (omega (arith, l.end, l.room, length_small rest s))
-      ∙ ap (λ (v : ℕ). spliced held at (v ∷ [])) e
-      ∙ ap (spliced held at) (sym (decimal_small rest s))
-      ∙ l.goal
+  one : rest < 10 → Left old at n (set held q d) (rest / 10) q
+  one s =
+      let m = l.more (omega arith) in
+      let front : q ≡ at = omega (arith, m.1, length_small rest s) in
+      record {
+        more = λ h. absurd (let z : ⊥ = omega arith in z);
+        done =
+            λ _. rw (front, e)
+            (spliced_one held at (48 + rest % 10) (omega arith)
+            ∙ ap (spliced held at) (sym (decimal_small rest s))
+            ∙ m.0);
+        size = length-set held q d ∙ l.size;
+      }
+
+  pub left_less : Left old at n (set held q d) (rest / 10) q
+  left_less = by_leb (λ (_ : Bool). Left old at n (set held q d) (rest / 10) q) 10 rest true false less one

@@ -26,7 +26,7 @@ abbrev pub Digital : List ℕ → Type 0
 Digital [] = Unit {0}
 Digital (b ∷ ds) = (48 ≤ b) × (b ≤ 57) × Digital ds
 
-within_digit : (b : ℕ) → in_range 48 57 b ≡ true → (48 ≤ b) × (b ≤ 57)
+pub within_digit : (b : ℕ) → in_range 48 57 b ≡ true → (48 ≤ b) × (b ≤ 57)
 unfolding in_range
 within_digit b e =
     let r = both (leb 48 b) (leb b 57) e in

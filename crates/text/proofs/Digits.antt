@@ -1,6 +1,7 @@
 -- The digits at the front, counted and added up one by one: those up to the i-th are.
 -- Assumes nothing.
 use mathlib.Core.Path.{◌≡◌, ap}
+use mathlib.Core.Bool.{true, false}
 use mathlib.Core.List.{List, [], ◌∷◌}
 use Prim.Native.Nat.{ℕ, zero, suc, ◌+◌, ◌-◌, ◌*◌, ◌^◌, ◌≤◌, ◌<◌}
 use native.Mathlib.Nat.{add-zero, zero-add, pow-suc, pow-le-pow_right, lt_of_lt_of_le}
@@ -9,7 +10,6 @@ use native.Mathlib.Omega.{arith}
 use lib.Dec.{lit<}
 use lib.ListN.{length, get_or, take, drop, drop_of_length-le}
 use lib.Seq.{drop-cons}
-use borrow.Author.Tests.{le-leb, lt-leb}
 use Rattle.limits.specs.Ranges.{in_range}
 use Rattle.text.specs.declared.number.Digits.{Digits}
 use Rattle.text.specs.Number.{digits, value_from, counted}
@@ -19,17 +19,13 @@ module _ (l : List ℕ) (i : ℕ) where
   unfolding digits
   digits_end h = rw (drop_of_length-le l {i = i} h)
 
-  pub digits_low : i < length l → get_or l i 0 < 48 → digits (drop i l) ≡ []
-  unfolding digits in_range
-  digits_low h b = rw (drop-cons l i 0 h) (simp (lt-leb _ _ b))
+  pub digits_stop : i < length l → in_range 48 57 (get_or l i 0) ≡ false → digits (drop i l) ≡ []
+  unfolding digits
+  digits_stop h e = rw (drop-cons l i 0 h, e)
 
-  pub digits_high : i < length l → 57 < get_or l i 0 → digits (drop i l) ≡ []
-  unfolding digits in_range
-  digits_high h b = rw (drop-cons l i 0 h) (simp (le-leb 48 (get_or l i 0) (omega arith), lt-leb _ _ b))
-
-  pub digits_more : i < length l → 48 ≤ get_or l i 0 → get_or l i 0 ≤ 57 → digits (drop i l) ≡ get_or l i 0 ∷ digits (drop (i + 1) l)
-  unfolding digits in_range
-  digits_more h a b = rw (add-one i, drop-cons l i 0 h) (simp (le-leb _ _ a, le-leb _ _ b))
+  pub digits_more : i < length l → in_range 48 57 (get_or l i 0) ≡ true → digits (drop i l) ≡ get_or l i 0 ∷ digits (drop (i + 1) l)
+  unfolding digits
+  digits_more h e = rw (add-one i, drop-cons l i 0 h, e)
 
 -- a value of u digits, with one digit more
 pub ten_more : (v u d : ℕ) → v < 10 ^ u → d ≤ 9 → 10 * v + d < 10 ^ (u + 1)

@@ -9,8 +9,8 @@ use native.Mathlib.Omega.{arith}
 use lib.ListN.{length, get_or, take, length-append}
 use lib.Seq.{take-suc}
 use Rattle.text.proofs.Decimal.{decimal_most}
-use Rattle.text.specs.Line.{lf}
-use Rattle.text.specs.Writing.{field_of, fields_of, laid_out}
+use Rattle.text.specs.declared.writing.Writer.{Writer}
+use Rattle.text.specs.Writing.{field_of, fields_of, laid_out, Room}
 
 fields_join : (l : List ℕ) (n : ℕ) → fields_of (l ++ (n ∷ [])) ≡ fields_of l ++ field_of n
 unfolding fields_of
@@ -23,12 +23,17 @@ pub fields_next : (ns : List ℕ) (i : ℕ) → i < length ns
 fields_next ns i h = rw (add-one i, take-suc ns i 0 h) (fields_join (take i ns) (get_or ns i 0))
 
 -- there is room for the next where there is for all
-pub fields_room : (ns : List ℕ) (i : ℕ) → i < length ns
+next_fits : (ns : List ℕ) (i : ℕ) → i < length ns
     → length (fields_of (take i ns)) + length (field_of (get_or ns i 0)) ≤ length (fields_of ns)
 unfolding fields_of
-fields_room [] i h = absurd (not-suc-le-zero h)
-fields_room (n ∷ ns) zero h = simp length-append (omega arith)
-fields_room (n ∷ ns) (suc i) h = simp length-append (omega (arith, fields_room ns i (le_of_suc-le-suc h)))
+next_fits [] i h = absurd (not-suc-le-zero h)
+next_fits (n ∷ ns) zero h = simp length-append (omega arith)
+next_fits (n ∷ ns) (suc i) h = simp length-append (omega (arith, next_fits ns i (le_of_suc-le-suc h)))
+
+pub fields_room : {w : Writer} (ns : List ℕ) (i : ℕ) → i < length ns → Room w (fields_of ns)
+    → Room w (fields_of (take i ns) ++ field_of (get_or ns i 0))
+fields_room ns i h room =
+    record { fits = omega (arith, room, next_fits ns i h, length-append (fields_of (take i ns)) (field_of (get_or ns i 0))) }
 
 fields_most : (ns : List ℕ) → length (fields_of ns) ≤ 21 * length ns
 unfolding fields_of field_of
@@ -38,10 +43,6 @@ fields_most (n ∷ ns) = simp length-append (omega (arith, fields_most ns, decim
 pub line_length : (w ns : List ℕ) → length (laid_out w ns) ≡ length w + length (fields_of ns) + 1
 unfolding laid_out
 line_length w ns = simp length-append (omega arith)
-
-pub line_parts : (w ns : List ℕ) → laid_out w ns ≡ (w ++ fields_of ns) ++ lf
-unfolding laid_out
-line_parts w ns = sym (append_assoc w (fields_of ns) lf)
 
 pub line_most : (w ns : List ℕ) → length (laid_out w ns) ≤ length w + 21 * length ns + 1
 line_most w ns = omega (arith, line_length w ns, fields_most ns)

@@ -1,18 +1,14 @@
 -- The numbers of a line, read one by one into the first cells of an array.
 --   gathered before o    the reading o, its numbers after those before
 -- Assumes nothing.
-use mathlib.Core.Path.{◌≡◌, refl, sym, ap, ap₂, ◌∙◌}
+use mathlib.Core.Path.{◌≡◌, refl, sym, ap₂, ◌∙◌}
 use mathlib.Core.List.{List, [], ◌∷◌, ◌++◌, append_assoc, append-nil}
 use Prim.Native.Nat.{ℕ, suc}
 use native.Mathlib.Nat.{add-zero}
-use lib.ListN.{drop}
-use Rattle.whole.specs.Cells.{laid}
-use Rattle.text.specs.declared.line.LineRead.{LineRead}
-use Rattle.text.specs.declared.reading.Cursor.{Cursor}
-use Rattle.text.specs.declared.reading.ReadAnswer.TheVariants.{Found}
-use Rattle.text.specs.Line.{lf, field, fields, line, blank, no_line, line_read}
-use Rattle.text.specs.Reading.{Reading, found, otherwise, read, later, next, word, ◌>>=◌, ◌>>◌}
-use Rattle.text.proofs.Readings.{Moves, line_moves, stays, Went, onward}
+use Rattle.std.specs.Prelude.{Some, None}
+use Rattle.text.specs.Line.{lf, field, fields, line}
+use Rattle.text.specs.Reading.{Reading, found, otherwise, read, later, next, left, word, ◌>>=◌, ◌>>◌}
+use Rattle.text.proofs.Readings.{left_later, Went, then_went, then_missed, first_missed, read_went}
 
 unfoldable pub gathered : List ℕ → Reading (List ℕ) → Reading (List ℕ)
 gathered before (found ns n) = found (before ++ ns) n
@@ -30,61 +26,51 @@ gathered_one before v (found ns n) bytes =
     ap₂ (λ (l : List ℕ) (k : ℕ). found l k) (sym (append_assoc before (v ∷ []) ns)) (add-zero n)
 gathered_one before v otherwise bytes = refl
 
--- the answer where numbers were read before
-abbrev answer_after : List ℕ → Cursor → Reading (List ℕ) → LineRead
-answer_after before c o = line_read c (gathered before o)
-
-after_moves : (before : List ℕ) → Moves (answer_after before)
-after_moves before c n o = ap (line_read c) (gathered_later before n o) ∙ line_moves c n (gathered before o)
-
-module _ (s before : List ℕ) (c : Cursor) (k m : ℕ) (e : k ≡ suc m) where
-  pub fields_stop : field (drop c.at s) ≡ otherwise → line_read c (gathered before (fields k (drop c.at s))) ≡ no_line
-  unfolding fields gathered line_read
+module _ (s before : List ℕ) (k m : ℕ) (e : k ≡ suc m) where
+  pub fields_stop : field s ≡ otherwise → None ≡ left (gathered before (fields k s)) s
+  unfolding fields gathered left
   fields_stop o = rw (e, o)
 
-  pub fields_more : (c' : Cursor) (v : ℕ) → Went c c' (field (drop c.at s)) v
-      → line_read c (gathered before (fields k (drop c.at s))) ≡ line_read c'
-      (gathered (before ++ (v ∷ [])) (fields m (drop c'.at s)))
+  pub fields_more : (t : List ℕ) (v : ℕ) → Went s t (field s) v
+      → left (gathered before (fields k s)) s ≡ left (gathered (before ++ (v ∷ [])) (fields m t)) t
   unfolding fields
-  fields_more c' v w =
-      rw e
-      (onward s (answer_after before) (after_moves before) w (λ n. fields m >>= λ ns. read (n ∷ ns))
-      ∙ ap (line_read c') (gathered_one before v (fields m (drop c'.at s)) (drop c'.at s)))
+  fields_more t v w =
+      rw (e, w.is, w.to, gathered_later)
+      (left_later s w.used (gathered before (next (fields m t) (λ ns. read (v ∷ ns)) t))
+      ∙ rw (w.to, gathered_one before v (fields m t) t))
 
-pub fields_none : (before bytes : List ℕ) (c : Cursor) (k : ℕ) → k ≡ 0
-    → line_read c (gathered before (fields k bytes)) ≡ line_read c (found before 0)
-unfolding fields gathered
-fields_none before bytes c k e = rw (e, append-nil before)
+pub fields_none : (before s : List ℕ) (k : ℕ) → k ≡ 0 → left (gathered before (fields k s)) s ≡ Some (before, s)
+unfolding fields gathered left
+fields_none before s k e = rw (e, append-nil before)
 
 pub gathered_none : (o : Reading (List ℕ)) → gathered [] o ≡ o
 unfolding gathered
 gathered_none (found ns n) = refl
 gathered_none otherwise = refl
 
--- ---- a line, stage by stage: its word ends at b, its numbers at e, the line itself at x
-module _ (s w : List ℕ) (k : ℕ) (c : Cursor) where
-  pub line_first : word w (drop c.at s) ≡ otherwise → line_read c (line w k (drop c.at s)) ≡ no_line
-  unfolding line line_read
-  line_first o = simp o
+-- ---- a line, stage by stage: b is left after its word, e after its numbers, x after its LF
+module _ (s w : List ℕ) (k : ℕ) where
+  pub line_first : word w s ≡ otherwise → line w k s ≡ otherwise
+  unfolding line
+  line_first o = first_missed (word w) (λ _. fields k >>= λ ns. word lf >> read ns) o
 
-  module _ (b : Cursor) (first : Went c b (word w (drop c.at s)) tt) where
-    begun : line_read c (line w k (drop c.at s)) ≡ line_read b ((fields k >>= λ ns. word lf >> read ns) (drop b.at s))
+  module _ (b : List ℕ) (first : Went s b (word w s) tt) where
+    pub line_middle : fields k b ≡ otherwise → line w k s ≡ otherwise
     unfolding line
-    begun = onward s line_read line_moves first (λ _. fields k >>= λ ns. word lf >> read ns)
+    line_middle o =
+        then_missed (word w) (λ _. fields k >>= λ ns. word lf >> read ns) first
+        (first_missed (fields k) (λ ns. word lf >> read ns) o)
 
-    pub line_middle : fields k (drop b.at s) ≡ otherwise → line_read c (line w k (drop c.at s)) ≡ no_line
-    unfolding line_read
-    line_middle o = begun ∙ simp o
+    module _ (e ns : List ℕ) (middle : Went b e (fields k b) ns) where
+      pub line_last : word lf e ≡ otherwise → line w k s ≡ otherwise
+      unfolding line
+      line_last o =
+          then_missed (word w) (λ _. fields k >>= λ ns. word lf >> read ns) first
+          (then_missed (fields k) (λ ns. word lf >> read ns) middle (first_missed (word lf) (λ _. read ns) o))
 
-    module _ (e : Cursor) (ns : List ℕ) (middle : Went b e (fields k (drop b.at s)) ns) where
-      counted : line_read c (line w k (drop c.at s)) ≡ line_read e ((word lf >> read ns) (drop e.at s))
-      counted = begun ∙ onward s line_read line_moves middle (λ l. word lf >> read l)
-
-      pub line_last : word lf (drop e.at s) ≡ otherwise → line_read c (line w k (drop c.at s)) ≡ no_line
-      unfolding line_read
-      line_last o = counted ∙ simp o
-
-      pub line_whole : (x : Cursor) → Went e x (word lf (drop e.at s)) tt
-          → line_read c (line w k (drop c.at s)) ≡ record { answer = Found x; numbers = laid ns blank }
-      unfolding line_read
-      line_whole x last = counted ∙ onward s line_read line_moves last (λ _. read ns) ∙ rw (stays x)
+      pub line_whole : (x : List ℕ) → Went e x (word lf e) tt → Went s x (line w k s) ns
+      unfolding line
+      line_whole x last =
+          then_went (word w) (λ _. fields k >>= λ ns. word lf >> read ns) first
+          (then_went (fields k) (λ ns. word lf >> read ns) middle
+          (then_went (word lf) (λ _. read ns) last (read_went x ns)))

@@ -4,15 +4,16 @@ use mathlib.Core.Path.{◌≡◌, refl, ap, ◌∙◌}
 use mathlib.Core.Bool.{Bool, true, false, and-false}
 use mathlib.Core.List.{List, [], ◌∷◌, ◌++◌, append_assoc, append-nil}
 use Prim.Native.Nat.{ℕ, zero, suc, ◌+◌, ◌-◌, ◌*◌, ◌^◌, ◌/◌, ◌%◌, ◌≤◌, ◌<◌}
-use native.Mathlib.Nat.{pow-suc}
+use native.Mathlib.Nat.{pow-suc, lt_of_lt_of_le}
+use native.Mathlib.Numerals.{add-one}
 use native.Mathlib.Omega.{arith}
-use lib.Dec.{leb, ltb}
+use lib.Dec.{leb, ltb, lit≤}
 use lib.ListN.{length, get_or, length-append}
 use borrow.Author.Tests.{le-leb, ne_eqb, leb-true, leb-false}
 use Rattle.limits.specs.Ranges.{in_range}
 use Rattle.text.proofs.Decimal.{digits_small, digits_big, tenth}
 use Rattle.text.specs.Number.{digits, value, value_from, leading_zero}
-use Rattle.text.specs.Writing.{digits_of}
+use Rattle.text.specs.Writing.{digits_of, decimal}
 
 -- a statement about the digits of n, by their last one: n is below 10, or n / 10 has one digit less
 by_last : (P : ℕ → ℕ → Type 0) → ((k n : ℕ) → n < 10 → P k n) → ((k n : ℕ) → 10 ≤ n → P k (n / 10) → P (suc k) n)
@@ -88,6 +89,13 @@ printed_many j k n h f =
         → j < length (digits_of (suc k) n)
     step k n b ih zero h = rw (digits_big k n b) (simp length-append (omega arith))
     step k n b ih (suc j) h = rw (digits_big k n b) (simp length-append (omega (arith, ih j (omega (arith, pow-suc 10 j)))))
+
+pub printed_length : (j n : ℕ) → 10 ^ j ≤ n → n < 10 * 10 ^ j → n < 2 ^ 64 → j + 1 ≡ length (decimal n)
+unfolding decimal
+printed_length j n h s f =
+    let small : n < 10 ^ (j + 1) = rw (add-one j, pow-suc 10 j) (omega arith) in
+    let fits : n < 10 ^ (19 + 1) = lt_of_lt_of_le f (lit≤ tt) in
+    omega (arith, printed_many j 19 n h fits, printed_few j 19 n small fits)
 
 -- ---- a number above 0 does not begin with 0
 first_some : (k n : ℕ) → n < 10 ^ (k + 1) → 0 < n → (l : List ℕ) → 48 < get_or (digits_of k n ++ l) 0 0

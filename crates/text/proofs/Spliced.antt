@@ -1,15 +1,16 @@
 -- A buffer that is written from a place on.
---   Wrote old at new held p    a buffer that held old holds `held`, with new written from `at` on; p is the place after it
 -- Assumes nothing.
-use mathlib.Core.Path.{◌≡◌, refl, sym, ap, ap₂, ◌∙◌}
+use mathlib.Core.Path.{◌≡◌, sym, ap, ap₂, ◌∙◌}
 use mathlib.Core.List.{List, [], ◌∷◌, ◌++◌, append_assoc}
 use Prim.Native.Nat.{ℕ, suc, ◌+◌, ◌≤◌, ◌<◌}
 use native.Mathlib.Nat.{add-zero, add_assoc}
 use native.Mathlib.Numerals.{add-one}
 use native.Mathlib.Omega.{arith}
 use lib.ListN.{length, set, take, drop, length-append, length-drop, length-set, take-append-drop}
+use borrow.Rule.Slice.PartMut.{put_mid}
 use lib.Seq.{length-take-le, take_at, drop_at, drop-cons, drop-drop, set_split, get_or-set_same, take-set-le, drop-set-lt}
-use Rattle.text.specs.Writing.{spliced}
+use Rattle.text.specs.declared.writing.Writer.{Writer}
+use Rattle.text.specs.Writing.{spliced, Room, Writes}
 
 spliced_length : (old : List ℕ) (at : ℕ) (new : List ℕ) → at + length new ≤ length old → length (spliced old at new) ≡ length old
 unfolding spliced
@@ -57,33 +58,32 @@ spliced_last old at a v h =
     ∙ ap (λ (k : ℕ). take at old ++ (a ++ (v ∷ drop k old))) next
     ∙ ap (λ (l : List ℕ). take at old ++ l) (sym (append_assoc a (v ∷ []) (drop (at + length (a ++ (v ∷ []))) old)))
 
-pub record Wrote (old : List ℕ) (at : ℕ) (new held : List ℕ) (p : ℕ) : Type 0 where
-  pub holds : held ≡ spliced old at new
-  pub end : p ≡ at + length new
-  pub size : length held ≡ length old
+-- ---- what a writer wrote: nothing; one run after the other, where there is room for both
+pub writes_none : (w : Writer) → Writes w [] w
+writes_none w = record { at_after = sym (add-zero w.at); out_after = sym (spliced_none w.out.now w.at) }
 
-pub wrote_none : (old : List ℕ) (at : ℕ) → Wrote old at [] old at
-wrote_none old at = record { holds = sym (spliced_none old at); end = sym (add-zero at); size = refl }
+pub room_first : {w : Writer} (a b : List ℕ) → Room w (a ++ b) → Room w a
+room_first a b room = record { fits = omega (arith, room, length-append a b) }
 
--- what a call that writes says
-pub wrote : (old : List ℕ) (at : ℕ) (new held : List ℕ) (p : ℕ) → at + length new ≤ length old → held ≡ spliced old at new
-    → p ≡ at + length new
-    → Wrote old at new held p
-wrote old at new held p room e f = record { holds = e; end = f; size = ap length e ∙ spliced_length old at new room }
+module _ {w w' : Writer} {a b : List ℕ} (wrote : Writes w a w') (room : Room w (a ++ b)) where
+  pub writes_room : Room w' b
+  writes_room =
+      let both = length-append a b in
+      let size : length w'.out.now ≡ length w.out.now = ap length wrote.out_after ∙ spliced_length w.out.now w.at a (omega (arith, room)) in
+      record { fits = omega (arith, room, wrote.at_after) }
 
-module _ {old : List ℕ} {at : ℕ} {new held : List ℕ} {p : ℕ} (w : Wrote old at new held p) where
-  pub wrote_more : {more held' : List ℕ} {q : ℕ} → Wrote held p more held' q → at + length new + length more ≤ length old
-      → Wrote old at (new ++ more) held' q
-  wrote_more {more} {held'} {q} w' room =
+  pub writes_more : {x : Writer} → Writes w' b x → Writes w (a ++ b) x
+  writes_more more =
       record {
-        holds = w'.holds ∙ rw (w.holds, w.end) (spliced_spliced old at new more room);
-        end = w'.end ∙ rw (length-append new more, w.end) (add_assoc at (length new) (length more));
-        size = w'.size ∙ w.size;
+        at_after = more.at_after ∙ rw (length-append a b, wrote.at_after) (add_assoc w.at (length a) (length b));
+        out_after =
+            more.out_after
+            ∙ rw (wrote.out_after, wrote.at_after)
+            (spliced_spliced w.out.now w.at a b (omega (arith, room, length-append a b)));
       }
 
-  pub wrote_byte : (v : ℕ) → at + length new < length old → Wrote old at (new ++ (v ∷ [])) (set held p v) (p + 1)
-  wrote_byte v room =
-      wrote_more
-      (wrote held p (v ∷ []) (set held p v) (p + 1) (omega (arith, w.end, w.size))
-      (spliced_one held p v (omega (arith, w.end, w.size))) refl)
-      (omega arith)
+-- what a run that is written over the bytes from `at` on leaves
+pub spliced_over : (old : List ℕ) (at k : ℕ) (new written : List ℕ) → written ≡ new → k ≡ length new
+    → put_mid at k old written ≡ spliced old at new
+unfolding spliced
+spliced_over old at k new written e f = rw (e, f) (ap (λ (l : List ℕ). take at old ++ (new ++ l)) (drop-drop (length new) at old))

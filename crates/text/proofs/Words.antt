@@ -1,35 +1,41 @@
--- A word, compared byte by byte: i of them agree.
+-- A word at the front of bytes: they begin with it where the first of them, as many as it has, are its own.
 -- Assumes nothing.
-use mathlib.Core.Path.{◌≡◌, refl}
-use mathlib.Core.Bool.{true, false}
+use mathlib.Core.Path.{◌≡◌, refl, sym, ap₂, ◌∙◌}
+use mathlib.Core.Bool.{Bool, true, false, ◌&&◌}
 use mathlib.Core.List.{List, [], ◌∷◌, ◌++◌}
-use Prim.Native.Nat.{ℕ, ◌+◌, ◌≤◌, ◌<◌}
-use native.Mathlib.Numerals.{add-one}
-use lib.ListN.{length, get_or, drop, drop_of_length-le}
-use lib.Seq.{drop-cons, drop-length}
-use borrow.Author.Tests.{ne_eqb, eq-eqb}
-use Rattle.text.specs.Reading.{starts}
-
-module _ (w l : List ℕ) (i j : ℕ) (at : i < length w) where
-  pub starts_short : length l ≤ j → starts (drop i w) (drop j l) ≡ false
-  unfolding starts
-  starts_short h = rw (drop-cons w i 0 at, drop_of_length-le l {i = j} h)
-
-  pub starts_other : j < length l → (get_or w i 0 ≡ get_or l j 0 → ⊥) → starts (drop i w) (drop j l) ≡ false
-  unfolding starts
-  starts_other h e = rw (drop-cons w i 0 at, drop-cons l j 0 h) (simp (ne_eqb _ _ e))
-
-  pub starts_same : j < length l → get_or w i 0 ≡ get_or l j 0
-      → starts (drop i w) (drop j l) ≡ starts (drop (i + 1) w) (drop (j + 1) l)
-  unfolding starts
-  starts_same h e = rw (add-one i, add-one j, drop-cons w i 0 at, drop-cons l j 0 h) (simp (eq-eqb _ _ e))
-
-pub starts_all : (w l : List ℕ) → starts (drop (length w) w) l ≡ true
-unfolding starts
-starts_all w l = rw (drop-length w)
+use Prim.Native.Nat.{ℕ, ◌+◌}
+use lib.Dec.{eqb}
+use lib.ListN.{length, take, drop}
+use denote.Ref.{Bor}
+use borrow.Author.Tests.{eq-eqb, ne_eqb, eqb-true, eqb-false}
+use Rattle.std.specs.Cmp.Lexicographic.{pointwise}
+use Rattle.std.specs.Prelude.{Option, Some, None, MatchOption}
+use Rattle.text.specs.Reading.{starts, word, left, reads, rest}
 
 -- a word that stands there is found
 pub starts_join : (w l : List ℕ) → starts w (w ++ l) ≡ true
 unfolding starts
 starts_join [] l = refl
 starts_join (a ∷ w) l = simp (eq-eqb a a refl, starts_join w l)
+
+-- the test of `strip_prefix`
+turned : (a b : ℕ) → eqb b a ≡ eqb a b
+turned a b = go (eqb a b) refl
+  where
+    go : (t : Bool) → eqb a b ≡ t → eqb b a ≡ t
+    go true e = eq-eqb b a (sym (eqb-true a b e))
+    go false e = ne_eqb b a (λ s. eqb-false a b e (sym s))
+
+pub starts_is : (w l : List ℕ) → pointwise eqb (take (length w) l) w ≡ starts w l
+unfolding starts
+starts_is [] l = refl
+starts_is (a ∷ w) [] = refl
+starts_is (a ∷ w) (b ∷ l) = ap₂ (λ (x y : Bool). x && y) (turned a b) (starts_is w l)
+
+pub word_stripped : (w l : List ℕ) (r : Option (Bor (List ℕ)))
+    → MatchOption r (pointwise eqb (take (length w) l) w ≡ false)
+    (λ x. (pointwise eqb (take (length w) l) w ≡ true) × (x.now ≡ drop (length w) l) × (length x.now + length w ≡ length l))
+    → rest r ≡ reads (word w) l
+unfolding word left
+word_stripped w l None e = simp (sym (starts_is w l) ∙ e)
+word_stripped w l (Some b) e = simp (sym (starts_is w l) ∙ e.0, e.1)

@@ -4,17 +4,13 @@
 --   leading_zero n b     n digits of which the first is b have a leading zero: 0 itself has none
 --   well_made ds         1 to 9 digits, and no leading zero
 --   number               a number, read
---   number_answer c o    the code's answer to the reading o of the bytes from c on
 --   counted ds           how many digits there are and what they write, as the code holds it
 -- ℕ's subtraction stops at 0; a digit is 48 or more.
 use Rattle.std.specs.Prelude.{Bool, ◌&&◌, not, List, [], ◌∷◌, ℕ, ◌+◌, ◌-◌, ◌*◌, eqb, ltb, length, get_or}
 use Rattle.whole.specs.Choice.{pick}
 use Rattle.limits.specs.Ranges.{in_range}
 use Rattle.text.specs.declared.number.Digits.{Digits}
-use Rattle.text.specs.declared.number.NumberAnswer.{NumberAnswer}
-use Rattle.text.specs.declared.number.NumberAnswer.TheVariants.{Found, Otherwise}
-use Rattle.text.specs.declared.reading.Cursor.{Cursor}
-use Rattle.text.specs.Reading.{Reading, found, otherwise, Reader, after}
+use Rattle.text.specs.Reading.{found, otherwise, Reader}
 
 unfoldable pub digits : List ℕ → List ℕ
 digits [] = []
@@ -36,10 +32,6 @@ well_made ds = in_range 1 9 (length ds) && not (leading_zero (length ds) (get_or
 
 unfoldable pub number : Reader ℕ
 number bytes = pick (well_made (digits bytes)) (found (value (digits bytes)) (length (digits bytes))) otherwise
-
-unfoldable pub number_answer : Cursor → Reading ℕ → NumberAnswer
-number_answer c (found v n) = Found v (after c n)
-number_answer c otherwise = Otherwise
 
 abbrev pub counted : List ℕ → Digits
 counted ds = record { count = length ds; value = value ds }

@@ -6,14 +6,13 @@
 --   read a          a, of no byte
 --   starts w bytes  the bytes begin with w
 --   word w          the bytes w
---   after c n       the cursor c, n bytes further
---   word_answer c o  the code's answer to the reading o of the bytes from c on
-use Rattle.std.specs.Prelude.{List, [], ◌∷◌, ℕ, ◌+◌, eqb, length, drop, Bool, true, false, ◌&&◌}
+--   left o bytes    what the reading o of the bytes found, and the bytes after it; none where they are otherwise
+--   reads r bytes   so of what r reads from their front
+--   and_rest x, rest x    the code's answer x by the bytes that it lends: a value and the bytes after it; of a word, these alone
+use Rattle.std.specs.Prelude.{List, [], ◌∷◌, ℕ, ◌+◌, eqb, length, drop, Bool, true, false, ◌&&◌, Option, Some, None, option_map}
+use denote.Ref.{Bor}
 use Rattle.whole.specs.Choice.{pick}
 use Rattle.limits.specs.Outcome.{Done}
-use Rattle.text.specs.declared.reading.Cursor.{Cursor}
-use Rattle.text.specs.declared.reading.ReadAnswer.{ReadAnswer}
-use Rattle.text.specs.declared.reading.ReadAnswer.TheVariants.{Found, Otherwise}
 
 pub data Reading (A : Type 0) : Type 0 where
   found : A → ℕ → Reading A
@@ -49,9 +48,16 @@ starts (a ∷ w) (b ∷ bytes) = eqb a b && starts w bytes
 unfoldable pub word : List ℕ → Reader Done
 word w bytes = pick (starts w bytes) (found tt (length w)) otherwise
 
-abbrev pub after : Cursor → ℕ → Cursor
-after c n = record { at = c.at + n }
+-- what is read, and what is left of the bytes
+unfoldable pub left : {A : Type 0} → Reading A → List ℕ → Option (A × List ℕ)
+left (found a n) bytes = Some (a, drop n bytes)
+left otherwise bytes = None
 
-unfoldable pub word_answer : Cursor → Reading Done → ReadAnswer
-word_answer c (found _ n) = Found (after c n)
-word_answer c otherwise = Otherwise
+abbrev pub reads : {A : Type 0} → Reader A → List ℕ → Option (A × List ℕ)
+reads r bytes = left (r bytes) bytes
+
+abbrev pub and_rest : {A : Type 0} → Option (A × Bor (List ℕ)) → Option (A × List ℕ)
+and_rest x = option_map (λ p. (p.0, p.1.now)) x
+
+abbrev pub rest : Option (Bor (List ℕ)) → Option (Done × List ℕ)
+rest x = option_map (λ b. (tt, b.now)) x

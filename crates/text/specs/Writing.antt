@@ -5,8 +5,11 @@
 --   laid_out w ns         a line: the word w, the numbers ns, LF
 --   Short n               n has at most 9 digits, which a number of a sheet may have;  AllShort ns    each of ns has
 --   spliced old at new    new in the place of what stands from `at` on in a buffer that held old
-use Rattle.std.specs.Prelude.{List, [], ◌∷◌, ◌++◌, ℕ, zero, suc, ◌+◌, ◌/◌, ◌%◌, ◌≤◌, ltb, length, take, drop}
+--   Room w new            there is room for new where the writer w stands
+--   Writes w new w'       the writer w wrote new from its place on, and is then w', behind it
+use Rattle.std.specs.Prelude.{◌≡◌, List, [], ◌∷◌, ◌++◌, ℕ, zero, suc, ◌+◌, ◌/◌, ◌%◌, ◌≤◌, ltb, length, take, drop}
 use Rattle.whole.specs.Choice.{pick}
+use Rattle.text.specs.declared.writing.Writer.{Writer}
 use Rattle.text.specs.Line.{tab, lf}
 
 -- the digits of n, first digit first; k + 1 of them at the most
@@ -36,3 +39,10 @@ AllShort (n ∷ ns) = Short n × AllShort ns
 
 unfoldable pub spliced : List ℕ → ℕ → List ℕ → List ℕ
 spliced old at new = take at old ++ (new ++ drop (at + length new) old)
+
+pub record Room (w : Writer) (new : List ℕ) : Type 0 where
+  pub fits : w.at + length new ≤ length w.out.now
+
+pub record Writes (w : Writer) (new : List ℕ) (w' : Writer) : Type 0 where
+  pub at_after : w'.at ≡ w.at + length new
+  pub out_after : w'.out.now ≡ spliced w.out.now w.at new

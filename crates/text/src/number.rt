@@ -1,16 +1,9 @@
 // A number of 1 to 9 digits with no leading zero.
-ghost use Rattle.std.specs.Prelude.{◌≡◌, take, drop};
-ghost use Rattle.text.specs.Number.{digits, counted, leading_zero, number, number_answer};
+ghost use Rattle.std.specs.Prelude.{◌≡◌, take};
+ghost use Rattle.text.specs.Number.{digits, counted, leading_zero, number};
+ghost use Rattle.text.specs.Reading.{reads, and_rest};
 
-use crate::reading::Cursor;
 use limits::sheet::Sheet;
-
-// A number stands at a cursor, and the bytes after it begin at the next; or none does.
-#[derive(Clone, Copy)]
-pub enum NumberAnswer {
-    Found(u64, Cursor),
-    Otherwise,
-}
 
 // How many digits there are, and the number that they write.
 #[derive(Clone, Copy)]
@@ -19,33 +12,18 @@ pub struct Digits {
     pub value: u64,
 }
 
-fn wide(b: u8) -> u64
-    ensures { result ≡ b }
-{
-    b as u64
-}
-
-// The digits from `at` on: no more than one past what a number has, so that no value wraps.
-fn count_digits(s: &[u8], at: usize) -> Digits
-    ensures { result ≡ counted (take 10 (digits (drop at s.now))) }
+// The digits at the front: no more than one past what a number has, so that no value wraps.
+fn count_digits(s: &[u8]) -> Digits
+    ensures { result ≡ counted (take 10 (digits s.now)) }
 {
     let mut count = 0;
     let mut value = 0;
-    let mut i = at;
-    while count as u64 <= Sheet::DIGITS_MOST {
-        if s.len() <= i {
+    for b in s {
+        if Sheet::DIGITS_MOST < count as u64 || !b.is_ascii_digit() {
             return Digits { count, value };
         }
-        let b = wide(s[i]);
-        if b < 48 {
-            return Digits { count, value };
-        }
-        if 57 < b {
-            return Digits { count, value };
-        }
-        value = 10 * value + (b - 48);
+        value = 10 * value + u64::from(*b - b'0');
         count += 1;
-        i += 1;
     }
     Digits { count, value }
 }
@@ -53,26 +31,22 @@ fn count_digits(s: &[u8], at: usize) -> Digits
 fn leading_zero(count: usize, first: u8) -> bool
     ensures { result ≡ leading_zero count first }
 {
-    if count <= 1 {
-        return false;
-    }
-    first == b'0'
+    1 < count && first == b'0'
 }
 
-pub fn number(s: &[u8], c: Cursor) -> NumberAnswer
-    ensures { result ≡ number_answer c (number (drop c.at s.now)) }
+// The number at the front, and the bytes after it.
+pub fn number(s: &[u8]) -> Option<(u64, &[u8])>
+    ensures { and_rest result ≡ reads number s.now }
 {
-    let at = c.at;
-    let d = count_digits(s, at);
-    let count = d.count;
+    let Digits { count, value } = count_digits(s);
     if (count as u64) < Sheet::DIGITS_FEWEST {
-        return NumberAnswer::Otherwise;
+        return None;
     }
     if Sheet::DIGITS_MOST < count as u64 {
-        return NumberAnswer::Otherwise;
+        return None;
     }
-    if leading_zero(count, s[at]) {
-        return NumberAnswer::Otherwise;
+    if leading_zero(count, s[0]) {
+        return None;
     }
-    NumberAnswer::Found(d.value, Cursor { at: at + count })
+    Some((value, &s[count..]))
 }

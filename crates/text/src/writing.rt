@@ -1,89 +1,84 @@
 // Words, numbers, fields and lines written into a buffer of bytes.
-ghost use Rattle.std.specs.Prelude.{◌≡◌, ◌≤◌, ◌+◌, ◌%◌, length};
-ghost use Rattle.text.specs.Writing.{decimal, field_of, fields_of, laid_out, spliced};
+ghost use Rattle.std.specs.Prelude.{◌≡◌, ◌+◌, ◌%◌, length};
+ghost use Rattle.text.specs.Writing.{decimal, field_of, fields_of, laid_out, Room, Writes};
 
 fn digit(n: u64) -> u8
     ensures { result ≡ 48 + n % 10 }
 {
-    (48 + n % 10) as u8
+    b'0' + (n % 10) as u8
 }
 
 fn digit_count(n: u64) -> usize
     ensures { result ≡ length (decimal n) }
 {
-    let mut count = 1;
-    let mut rest = n;
-    while 10 <= rest {
-        count += 1;
-        rest /= 10;
+    match n.checked_ilog10() {
+        None => 1,
+        Some(tens) => tens as usize + 1,
     }
-    count
 }
 
-// Writes n in decimal from `at` on, its last digit first, and returns the place after it.
-pub fn put_decimal(out: &mut [u8], at: usize, n: u64) -> usize
-    requires { at + length (decimal n) ≤ length out.old }
-    ensures value { result ≡ at + length (decimal n) }
-    ensures out_after { out.new ≡ spliced out.old at (decimal n) }
-{
-    let end = at + digit_count(n);
-    let mut p = end;
-    let mut rest = n;
-    while 10 <= rest {
-        p -= 1;
-        out[p] = digit(rest);
-        rest /= 10;
+// A buffer of bytes, and the place from which it is written on.
+#[derive(Drop)]
+pub struct Writer<'a> {
+    pub out: &'a mut [u8],
+    pub at: usize,
+}
+
+impl<'a> Writer<'a> {
+    // Writes n in decimal, its last digit first.
+    pub fn decimal(&mut self, n: u64)
+        requires { Room self.old (decimal n) }
+        ensures same_buffer { self.new.out.ghost_name ≡ self.old.out.ghost_name }
+        ensures bytes { Writes self.old (decimal n) self.new }
+    {
+        let end = self.at + digit_count(n);
+        let mut rest = n;
+        for p in (self.at..end).rev() {
+            self.out[p] = digit(rest);
+            rest /= 10;
+        }
+        self.at = end;
     }
-    out[at] = digit(rest);
-    end
-}
 
-// Writes a word from `at` on, and returns the place after it.
-pub fn put_word(out: &mut [u8], at: usize, w: &[u8]) -> usize
-    requires { at + length w.now ≤ length out.old }
-    ensures value { result ≡ at + length w.now }
-    ensures out_after { out.new ≡ spliced out.old at w.now }
-{
-    let mut i = 0;
-    while i < w.len() {
-        out[at + i] = w[i];
-        i += 1;
+    pub fn word(&mut self, w: &[u8])
+        requires { Room self.old w.now }
+        ensures same_buffer { self.new.out.ghost_name ≡ self.old.out.ghost_name }
+        ensures bytes { Writes self.old w.now self.new }
+    {
+        let end = self.at + w.len();
+        self.out[self.at..end].copy_from_slice(w);
+        self.at = end;
     }
-    at + i
-}
 
-// Writes a field from `at` on: a tab and a number.
-pub fn put_field(out: &mut [u8], at: usize, n: u64) -> usize
-    requires { at + length (field_of n) ≤ length out.old }
-    ensures value { result ≡ at + length (field_of n) }
-    ensures out_after { out.new ≡ spliced out.old at (field_of n) }
-{
-    let p = put_word(out, at, b"\t");
-    put_decimal(out, p, n)
-}
-
-// Writes fields from `at` on, one after the other.
-pub fn put_fields(out: &mut [u8], at: usize, numbers: &[u64]) -> usize
-    requires { at + length (fields_of numbers.now) ≤ length out.old }
-    ensures value { result ≡ at + length (fields_of numbers.now) }
-    ensures out_after { out.new ≡ spliced out.old at (fields_of numbers.now) }
-{
-    let mut p = at;
-    let mut i = 0;
-    while i < numbers.len() {
-        p = put_field(out, p, numbers[i]);
-        i += 1;
+    // Writes a field: a tab and a number.
+    pub fn field(&mut self, n: u64)
+        requires { Room self.old (field_of n) }
+        ensures same_buffer { self.new.out.ghost_name ≡ self.old.out.ghost_name }
+        ensures bytes { Writes self.old (field_of n) self.new }
+    {
+        self.word(b"\t");
+        self.decimal(n);
     }
-    p
-}
 
-// Writes a line from `at` on: its word, its numbers, and LF.
-pub fn put_line(out: &mut [u8], at: usize, w: &[u8], numbers: &[u64]) -> usize
-    requires { at + length (laid_out w.now numbers.now) ≤ length out.old }
-    ensures value { result ≡ at + length (laid_out w.now numbers.now) }
-    ensures out_after { out.new ≡ spliced out.old at (laid_out w.now numbers.now) }
-{
-    let begin = put_word(out, at, w);
-    let end = put_fields(out, begin, numbers);
-    put_word(out, end, b"\n")
+    // Writes fields, one after the other.
+    pub fn fields(&mut self, numbers: &[u64])
+        requires { Room self.old (fields_of numbers.now) }
+        ensures same_buffer { self.new.out.ghost_name ≡ self.old.out.ghost_name }
+        ensures bytes { Writes self.old (fields_of numbers.now) self.new }
+    {
+        for n in numbers {
+            self.field(*n);
+        }
+    }
+
+    // Writes a line: its word, its numbers, and LF.
+    pub fn line(&mut self, w: &[u8], numbers: &[u64])
+        requires { Room self.old (laid_out w.now numbers.now) }
+        ensures same_buffer { self.new.out.ghost_name ≡ self.old.out.ghost_name }
+        ensures bytes { Writes self.old (laid_out w.now numbers.now) self.new }
+    {
+        self.word(w);
+        self.fields(numbers);
+        self.word(b"\n");
+    }
 }

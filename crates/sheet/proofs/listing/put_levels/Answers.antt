@@ -1,20 +1,29 @@
--- `sheet::listing::put_levels` meets its contract. The invariant: the levels above level x are written.
--- Assumes nothing.
-use Prim.Native.Nat.{◌-◌}
+-- `sheet::listing::put_levels` meets its contract. Assumes nothing.
+use mathlib.Core.Path.{◌≡◌, refl, ◌∙◌}
+use Prim.Native.Nat.{◌+◌, ◌-◌}
 use native.Mathlib.Omega.{arith}
 use Rattle.sheet.proofs.Listings.{listed_none, listed_all, listed_room, listed_more}
 use Rattle.sheet.proofs.listing.put_levels.Goals as goal
 
 pub loop-x-init : goal.loop-x-init
-loop-x-init c = listed_none _ _ _ c.args.out.now c.args.at
+loop-x-init c = record { same_buffer = refl; bytes = listed_none _ _ _ c.args.w.now }
 
-pub put_line-p-requires : goal.put_line-p-requires
-put_line-p-requires c = listed_room c.args.forces.now c.args.shears.now c.args.overturnings.now c.loop-x.invariant (omega arith) (c.loop-x.x - 1) (omega arith)
+pub line-requires : goal.line-requires
+line-requires c =
+    let x = c.loop-x.x - 1 in
+    let next : x + 1 ≡ c.loop-x.x = omega arith in
+    rw next (listed_room c.args.forces.now c.args.shears.now c.args.overturnings.now c.loop-x.invariant.bytes c.requires.levels_fit x (omega arith))
 
 pub loop-x-preserved : goal.loop-x-preserved
-loop-x-preserved c = listed_more c.args.forces.now c.args.shears.now c.args.overturnings.now c.loop-x.invariant (omega arith) (c.loop-x.x - 1) (omega arith) c.put_line-p.ensures.value c.put_line-p.ensures.out_after
+loop-x-preserved c =
+    let x = c.loop-x.x - 1 in
+    let next : x + 1 ≡ c.loop-x.x = omega arith in
+    record {
+      same_buffer = c.line.ensures.same_buffer ∙ c.loop-x.invariant.same_buffer;
+      bytes =
+          listed_more c.args.forces.now c.args.shears.now c.args.overturnings.now c.loop-x.invariant.bytes c.requires.levels_fit x (omega arith)
+          (rw next at c.line.ensures.bytes);
+    }
 
-pub returns : goal.returns
-returns c =
-    let l = listed_all c.args.forces.now c.args.shears.now c.args.overturnings.now c.loop-x.invariant (omega arith) (omega arith) in
-    record { value = l.0; out_after = l.1 }
+pub returns-clause-bytes : goal.returns-clause-bytes
+returns-clause-bytes c = listed_all c.args.forces.now c.args.shears.now c.args.overturnings.now c.loop-x.invariant.bytes (omega arith)

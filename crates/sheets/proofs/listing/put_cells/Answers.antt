@@ -1,5 +1,5 @@
--- `sheets::listing::put_cells` meets its contract. The invariant: the lines of the cells below cell k are written.
--- Assumes nothing.
+-- `sheets::listing::put_cells` meets its contract. Assumes nothing.
+use mathlib.Core.Path.{refl, ◌∙◌}
 use native.Mathlib.Omega.{arith}
 use lib.ListN.{drop_of_length-le}
 use Rattle.sheets.specs.Listing.{cell_line}
@@ -7,19 +7,20 @@ use Rattle.sheets.proofs.Numbered.{drop_next, lined_none, lined_all, lined_room,
 use Rattle.sheets.proofs.listing.put_cells.Goals as goal
 
 pub loop-k-init : goal.loop-k-init
-loop-k-init c = lined_none cell_line _ _ 0 _
+loop-k-init c = record { same_buffer = refl; bytes = lined_none cell_line c.args.w.now 0 _ }
 
-pub put_line-p-requires : goal.put_line-p-requires
+pub line-requires : goal.line-requires
 unfolding cell_line
-put_line-p-requires c =
-    lined_room cell_line c.loop-k.invariant c.requires.1 (drop_next _ _ c.loop-k-test.true)
+line-requires c = lined_room cell_line c.loop-k.invariant.bytes c.requires.1 (drop_next _ _ c.loop-k-test.true)
 
 pub loop-k-preserved : goal.loop-k-preserved
 unfolding cell_line
 loop-k-preserved c =
-    lined_more cell_line c.loop-k.invariant c.requires.1 (drop_next _ _ c.loop-k-test.true) c.put_line-p.ensures.value c.put_line-p.ensures.out_after
+    record {
+      same_buffer = c.line.ensures.same_buffer ∙ c.loop-k.invariant.same_buffer;
+      bytes = lined_more cell_line c.loop-k.invariant.bytes c.requires.1 (drop_next _ _ c.loop-k-test.true) c.line.ensures.bytes;
+    }
 
-pub returns : goal.returns
-returns c =
-    let w = lined_all cell_line c.loop-k.invariant c.requires.1 (drop_of_length-le c.args.cells.now {i = c.loop-k.k} (omega arith)) in
-    record { value = w.end; out_after = w.holds }
+pub returns-clause-bytes : goal.returns-clause-bytes
+returns-clause-bytes c =
+    lined_all cell_line c.loop-k.invariant.bytes (drop_of_length-le c.args.cells.now {i = c.loop-k.k} (omega arith))

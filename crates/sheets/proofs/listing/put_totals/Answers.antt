@@ -2,10 +2,10 @@
 use Rattle.sheets.specs.Listing.{totals_line}
 use Rattle.sheets.proofs.listing.put_totals.Goals as goal
 
-pub put_line-requires : goal.put_line-requires
+pub line-requires : goal.line-requires
 unfolding totals_line
-put_line-requires c = c.requires
+line-requires c = c.requires
 
-pub returns : goal.returns
+pub returns-clause-bytes : goal.returns-clause-bytes
 unfolding totals_line
-returns c = c.put_line.ensures
+returns-clause-bytes c = c.line.ensures.bytes

@@ -1,12 +1,12 @@
 -- `sheets::rows::put_rows` meets its contract. The invariant: so many sheets are answered, and their rows written.
 -- Assumes nothing.
-use Prim.Native.Nat.{◌-◌}
-use lib.ListN.{length}
+use mathlib.Core.Path.{◌≡◌}
 use Rattle.sheets.proofs.Answering.{Answering}
+use Rattle.sheets.specs.Split.{sheets_in}
 use Rattle.sheets.proofs.rows.put_rows.Given as goal
 
-abbrev pub invariant-loop-at : goal.invariant-loop-at
-invariant-loop-at l = Answering l.file l.initial.out l.out l.totals l.cells l.p l.at l.count
-
-abbrev pub decreases-loop-at : goal.decreases-loop-at
-decreases-loop-at l = length l.file - l.at
+abbrev pub invariant-loop-s : goal.invariant-loop-s
+invariant-loop-s l =
+    (goal.iterator-loop-s).can_next l.s-iterator × (goal.iterator-loop-s).is_finite l.s-iterator
+    × (l.w.out.ghost_name ≡ l.initial.w.out.ghost_name)
+    × Answering l.file l.initial.w l.w l.totals l.cells (sheets_in l.s-iterator.0.now) l.number

@@ -1,41 +1,38 @@
--- `text::line::fields` meets its contract. The invariant: all fields are read as those in the first i cells and what is left of them.
--- Assumes nothing.
-use mathlib.Core.Path.{sym, ◌∙◌}
+-- `text::line::fields` meets its contract. Assumes nothing.
+use mathlib.Core.Path.{◌≡◌, sym, ap, ◌∙◌}
 use Prim.Native.Nat.{◌+◌, ◌-◌}
 use native.Mathlib.Nat.{sub-zero}
 use native.Mathlib.Omega.{arith}
-use lib.ListN.{take, drop}
+use lib.ListN.{take, length-set, length-replicate}
+use lib.Seq.{take_all}
 use Rattle.text.proofs.Lines.{gathered_none, fields_stop, fields_more, fields_none}
-use Rattle.text.proofs.Readings.{stays, number_missed, number_went}
-use Rattle.text.proofs.Stored.{stored_none, stored_more, stored_last, stored_all}
-use Rattle.text.specs.declared.reading.Cursor.{Cursor}
-use Rattle.text.specs.Line.{field, blank, line_read}
+use Rattle.text.proofs.Readings.{value_missed, value_went}
+use Rattle.text.proofs.Stored.{set_more}
+use Rattle.text.specs.Reading.{and_rest}
 use Rattle.text.proofs.line.fields.Goals as goal
 
-pub loop-i-init : goal.loop-i-init
-loop-i-init c = (omega arith, stored_none blank, rw (sub-zero c.args.count, gathered_none))
+pub loop-cell-init : goal.loop-cell-init
+loop-cell-init g c = (length-replicate g.row.N 0, rw (sub-zero g.row.N, gathered_none))
 
-pub returns-in_default : goal.returns-in_default
-returns-in_default c =
-    let a = c.args in
-    let k : Cursor = record { at = c.loop-i.at } in
-    let missed = number_missed k (field (drop c.loop-i.at a.s.now)) (sym c.field-f.ensures ∙ c.in_default.is) in
-    c.otherwise.ensures ∙ sym (c.loop-i.invariant.2 ∙ fields_stop a.s.now _ k (a.count - c.loop-i.i) (a.count - (c.loop-i.i + 1)) (omega arith) missed)
+pub returns-in_err-n : goal.returns-in_err-n
+returns-in_err-n g c =
+    let at = c.loop-cell in
+    let missed = value_missed _ _ _ c.field.ensures c.in_err-n.was in
+    ap and_rest c.from_residual.ensures
+    ∙ fields_stop at.left.now (take at.cell-index at.cell-items) (g.row.N - at.cell-index) (g.row.N - (at.cell-index + 1)) (omega arith) missed
+    ∙ sym at.invariant.1
 
-pub loop-i-preserved : goal.loop-i-preserved
-loop-i-preserved c =
-    let a = c.args in
-    let st = c.loop-i.invariant.1 in
-    let v = c.in-Found.n in
-    let k : Cursor = record { at = c.loop-i.at } in
-    let went = number_went k _ v (field (drop c.loop-i.at a.s.now)) (sym c.field-f.ensures ∙ c.in-Found.is) in
-    let step = fields_more a.s.now (take c.loop-i.i c.loop-i.numbers) k (a.count - c.loop-i.i) (a.count - (c.loop-i.i + 1)) (omega arith) _ v went in
-    (omega arith, stored_more st v (omega arith), rw (stored_last st v (omega arith)) (c.loop-i.invariant.2 ∙ step))
+pub loop-cell-preserved : goal.loop-cell-preserved
+loop-cell-preserved g c =
+    let at = c.loop-cell in
+    let went = value_went _ _ _ _ c.field.ensures c.in_ok-n.was in
+    let step = fields_more at.left.now (take at.cell-index at.cell-items) (g.row.N - at.cell-index) (g.row.N - (at.cell-index + 1)) (omega arith) _ _ went in (
+      length-set at.cell-items at.cell-index _ ∙ at.invariant.0,
+      rw (set_more at.cell-items at.cell-index _ (omega arith)) (at.invariant.1 ∙ step),
+    )
 
 pub returns : goal.returns
-unfolding line_read
-returns c =
-    let a = c.args in
-    let st = c.loop-i.invariant.1 in
-    let all = c.loop-i.invariant.2 ∙ fields_none (take c.loop-i.i c.loop-i.numbers) _ (record { at = c.loop-i.at }) (a.count - c.loop-i.i) (omega arith) in
-    sym (all ∙ rw (stays (record { at = c.loop-i.at }), ← stored_all st (omega arith)))
+returns g c =
+    let at = c.loop-cell in
+    let all : take at.cell-index at.cell-items ≡ at.cell-items = take_all at.cell-index at.cell-items (omega arith) in
+    sym (at.invariant.1 ∙ rw all (fields_none at.cell-items at.left.now (g.row.N - at.cell-index) (omega arith)))

@@ -1,38 +1,35 @@
 -- `text::line::line` meets its contract: its stages are those of `line`. Assumes nothing.
-use mathlib.Core.Path.{sym, ap₂, ◌∙◌}
-use mathlib.Core.List.{List}
-use Prim.Native.Nat.{ℕ}
-use Rattle.text.specs.declared.reading.ReadAnswer.{ReadAnswer}
+use mathlib.Core.Path.{ap, ◌∙◌}
 use Rattle.text.proofs.Lines.{line_first, line_middle, line_last, line_whole}
-use Rattle.text.proofs.Readings.{word_missed, line_missed, word_went, line_went}
+use Rattle.text.proofs.Readings.{word_missed, value_missed, word_went, value_went, no_answer, answer}
+use Rattle.text.specs.Reading.{and_rest}
 use Rattle.text.proofs.line.line.Goals as goal
 
+pub returns-in_err-begin : goal.returns-in_err-begin
+returns-in_err-begin g c =
+    let a = c.args in
+    let first = word_missed _ _ _ c.word.ensures c.in_err-begin.was in
+    ap and_rest c.from_residual.ensures ∙ no_answer a.s.now _ (line_first a.s.now a.w.now g.row.N first)
+
 pub returns-in_default : goal.returns-in_default
-returns-in_default c =
+returns-in_default g c =
     let a = c.args in
-    c.otherwise.ensures ∙ sym (line_first a.s.now a.w.now a.count a.c (word_missed _ _ (sym c.word-first.ensures ∙ c.in_default.is)))
+    let first = word_went _ _ _ _ c.word.ensures c.in_ok-begin.was in
+    let middle = value_missed _ _ _ c.fields.ensures c.in_default.is in
+    no_answer a.s.now _ (line_middle a.s.now a.w.now g.row.N _ first middle)
 
-pub returns-in_default-middle : goal.returns-in_default-middle
-returns-in_default-middle c =
+pub returns-in_err-after : goal.returns-in_err-after
+returns-in_err-after g c =
     let a = c.args in
-    let first = word_went a.c _ _ (sym c.word-first.ensures ∙ c.in-Found.is) in
-    let missed = line_missed _ _ _ c.fields-f.ensures c.in_default-middle.is in
-    c.otherwise-in_default-middle.ensures ∙ sym (line_middle a.s.now a.w.now a.count a.c _ first missed)
-
-pub returns-in_default-last : goal.returns-in_default-last
-returns-in_default-last c =
-    let a = c.args in
-    let first = word_went a.c _ _ (sym c.word-first.ensures ∙ c.in-Found.is) in
-    let middle = line_went c.in-Found.begin _ _ _ c.fields-f.ensures c.in-Found-middle.is in
-    let missed = word_missed _ _ (sym c.word-last.ensures ∙ c.in_default-last.is) in
-    c.otherwise-in_default-last.ensures ∙ sym (line_last a.s.now a.w.now a.count a.c _ first _ _ middle.went missed)
+    let first = word_went _ _ _ _ c.word.ensures c.in_ok-begin.was in
+    let middle = value_went _ _ _ _ c.fields.ensures c.in-Some.is in
+    let last = word_missed _ _ _ c.word-2.ensures c.in_err-after.was in
+    ap and_rest c.from_residual-in_err-after.ensures ∙ no_answer a.s.now _ (line_last a.s.now a.w.now g.row.N _ first _ _ middle last)
 
 pub returns : goal.returns
-returns c =
+returns g c =
     let a = c.args in
-    let first = word_went a.c _ _ (sym c.word-first.ensures ∙ c.in-Found.is) in
-    let middle = line_went c.in-Found.begin _ _ _ c.fields-f.ensures c.in-Found-middle.is in
-    let ends = c.in-Found-last.is in
-    let last = word_went c.in-Found-middle.end _ _ (sym c.word-last.ensures ∙ ends) in
-    ap₂ (λ (x : ReadAnswer) (l : List ℕ). record { answer = x; numbers = l }) ends middle.held_is
-    ∙ sym (line_whole a.s.now a.w.now a.count a.c _ first _ _ middle.went _ last)
+    let first = word_went _ _ _ _ c.word.ensures c.in_ok-begin.was in
+    let middle = value_went _ _ _ _ c.fields.ensures c.in-Some.is in
+    let last = word_went _ _ _ _ c.word-2.ensures c.in_ok-after.was in
+    answer (line_whole a.s.now a.w.now g.row.N _ first _ _ middle _ last)

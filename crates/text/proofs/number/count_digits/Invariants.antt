@@ -7,9 +7,7 @@ use Rattle.text.proofs.Digits.{counted_from}
 use Rattle.text.specs.Number.{digits, counted}
 use Rattle.text.proofs.number.count_digits.Given as goal
 
-abbrev pub invariant-loop-count : goal.invariant-loop-count
-invariant-loop-count l =
-    (l.count ≤ 10) × (l.value < 10 ^ l.count) × (counted (take 10 (digits (drop l.at l.s))) ≡ counted_from l.count l.value (take (10 - l.count) (digits (drop l.i l.s))))
-
-abbrev pub decreases-loop-count : goal.decreases-loop-count
-decreases-loop-count l = 10 - l.count
+abbrev pub invariant-loop-b : goal.invariant-loop-b
+invariant-loop-b l =
+    (l.count ≡ l.b-index) × (l.count ≤ 10) × (l.value < 10 ^ l.count)
+    × (counted (take 10 (digits l.s)) ≡ counted_from l.count l.value (take (10 - l.count) (digits (drop l.count l.s))))
