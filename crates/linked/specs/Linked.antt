@@ -1,6 +1,8 @@
 -- What the entries reply to a program in C: the number is returned, 0 on success; what else there is goes into what the caller lends.
+--   said r                        number and place of what is refused, zeros where nothing is
 --   Replies f k o n r             n is the number of the outcome o; r is its place, then the values f, k zeros where data is refused
---   FiguresReply o, ClassReply o, TorsionReply o    of figures: V, V_M, V*, V_D and T; of a class: its number; of torsion: its factor
+--   FiguresReply o, NumberReply o, ClassReply o, TorsionReply o    of figures: V, V_M, V*, V_D and T; of a number; of a class: its number; of torsion: its
+--                                 factor
 --   LaidReplies lay o old n p held    n is the number of the outcome o, p its place; held is what is held that held old, where a value x is laid by `lay x`
 --   on_site l, in_basin z           the ground of the nine numbers l of a site, and of a zone z
 --   JobReplies g m ws hs b n r b'   so for the job of a ground g and a frame line m; b' is what the buffers hold that held b
@@ -15,11 +17,14 @@
 --   SheetReplies s old n held r   n is the number of the outcome of a sheet s; an array that held old holds its listing in the first bytes, the
 --                                 rest as it was; r is its place, and the length of the listing
 --   version, edition, source      of the library, of the code, of the rules: three things
-use Rattle.std.specs.Prelude.{◌≡◌, List, [], ◌∷◌, ℕ, ℤ, length}
+use Rattle.std.specs.Prelude.{◌≡◌, List, [], ◌∷◌, ℕ, ℤ, length, Option, Some, None}
 use Rattle.whole.specs.Cells.{laid}
 use Rattle.limits.specs.declared.class.Class.{Class}
 use Rattle.limits.specs.declared.ground.GroundValues.{GroundValues}
 use Rattle.limits.specs.declared.ground.GroundValues.TheVariants.{Site, Basin}
+use Rattle.limits.specs.declared.refusal.Refusal.{Refusal}
+use Rattle.limits.specs.Frame.{frame_values}
+use Rattle.limits.specs.Site.{site_values}
 use Rattle.limits.specs.Outcome.{Outcome, number, place, values}
 use Rattle.base_shear.specs.declared.Figures.{Figures}
 use Rattle.soil.specs.Class.{table3, class_number}
@@ -33,8 +38,11 @@ use Rattle.drift.specs.Answering.{after}
 use Rattle.drift.specs.Drift.{drift_of}
 use Rattle.drift.specs.Torsion.{torsion_of}
 use Rattle.drift.specs.Accidental.{moments_of, MomentBuffers, shorter, laid_each_way}
-use Rattle.sheet.specs.Sheet.{site_values, frame_values}
 use Rattle.sheet.specs.Listing.{outcome_of, sheet_listing}
+
+abbrev pub said : Option Refusal → ℕ × ℕ
+said (Some r) = (r.number, r.place)
+said None = (0, 0)
 
 pub record Replies {A : Type 0} (f : A → List ℕ) (k : ℕ) (o : Outcome A) (n : ℕ) (r : List ℕ) : Type 0 where
   pub returned : n ≡ number o
@@ -43,11 +51,14 @@ pub record Replies {A : Type 0} (f : A → List ℕ) (k : ℕ) (o : Outcome A) (
 abbrev pub FiguresReply : Outcome Figures → ℕ → List ℕ → Type 0
 FiguresReply = Replies five 5
 
+abbrev pub NumberReply : Outcome ℕ → ℕ → List ℕ → Type 0
+NumberReply = Replies (λ (k : ℕ). k ∷ []) 1
+
 abbrev pub ClassReply : Outcome Class → ℕ → List ℕ → Type 0
 ClassReply = Replies (λ (c : Class). class_number c ∷ []) 1
 
 abbrev pub TorsionReply : Outcome ℕ → ℕ → List ℕ → Type 0
-TorsionReply = Replies (λ (k : ℕ). k ∷ []) 1
+TorsionReply = NumberReply
 
 pub record LaidReplies {A B : Type 0} (lay : A → B → B) (o : Outcome A) (old : B) (n p : ℕ) (held : B) : Type 0 where
   pub returned : n ≡ number o

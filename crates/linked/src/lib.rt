@@ -3,13 +3,16 @@
 // the accidental moments through a cell for the place.
 #![tactic(auto)]
 
-use arrays::{REPORT, frame_values, put_class, put_figures, put_report, put_torsion, site_values};
+use arrays::{REPORT, put_figures, put_number, put_report, said};
 use district_call::district;
 use district_call::entered::JOB;
+use district_call::report::Report;
 use district_call::row::ROW;
 use drift::accidental::accidental_moments;
 use job::distribution::distribution;
+use limits::frame::FrameValues;
 use limits::ground::GroundValues;
+use limits::site::SiteValues;
 use sheet::listing::LONGEST;
 use sheet::put_in_array;
 
@@ -27,6 +30,54 @@ pub const EDITION: u64 = 2_005;
 // The state of the rules (CHANGELOG.md says what each number has). A change of what any call answers takes the next number.
 pub const SOURCE: u64 = 6;
 
+// A job on a ground, and its reply.
+fn job_on(
+    ground: GroundValues,
+    frame: &[u64; 5],
+    weights: &[u64],
+    heights: &[u64],
+    forces: &mut [u64],
+    shears: &mut [u64],
+    overturnings: &mut [u64],
+    figures: &mut [u64; 6],
+) -> u64
+    ensures { JobReplies ground frame.now weights.now heights.now (record { forces = forces.old; shears = shears.old; overturnings = overturnings.old }) result figures.new (record { forces = forces.new; shears = shears.new; overturnings = overturnings.new }) }
+{
+    let f = FrameValues::of(frame);
+    let a = job::job(ground, f, weights, heights, forces, shears, overturnings);
+    put_figures(figures, a)
+}
+
+// The five figures of a job on a ground, and their reply.
+fn figures_on(
+    ground: GroundValues,
+    frame: &[u64; 5],
+    weights: &[u64],
+    heights: &[u64],
+    figures: &mut [u64; 6],
+) -> u64
+    ensures { FiguresReplies ground frame.now weights.now heights.now result figures.new }
+{
+    let f = FrameValues::of(frame);
+    let a = job::figures::figures(ground, f, weights, heights);
+    put_figures(figures, a)
+}
+
+// A shear call on a ground, and its reply.
+fn shear_call_on(
+    ground: GroundValues,
+    frame: &[u64; 5],
+    weight: u64,
+    height: u64,
+    figures: &mut [u64; 6],
+) -> u64
+    ensures { ShearCallReplies ground frame.now weight height result figures.new }
+{
+    let f = FrameValues::of(frame);
+    let a = job::shear_call::shear_call(ground, f, weight, height);
+    put_figures(figures, a)
+}
+
 // The job on a site: a force, a shear and an overturning moment of each level in the lent buffers, place and figures in `figures`.
 #[unsafe(no_mangle)]
 pub extern "C" fn rukeshomaji_job(
@@ -41,10 +92,17 @@ pub extern "C" fn rukeshomaji_job(
 ) -> u64
     ensures { JobReplies (on_site site.now) frame.now weights.now heights.now (record { forces = forces.old; shears = shears.old; overturnings = overturnings.old }) result figures.new (record { forces = forces.new; shears = shears.new; overturnings = overturnings.new }) }
 {
-    let ground = GroundValues::Site(site_values(site));
-    let f = frame_values(frame);
-    let a = job::job(ground, f, weights, heights, forces, shears, overturnings);
-    put_figures(figures, a)
+    let ground = GroundValues::Site(SiteValues::of(site));
+    job_on(
+        ground,
+        frame,
+        weights,
+        heights,
+        forces,
+        shears,
+        overturnings,
+        figures,
+    )
 }
 
 // The five figures of a job on a site, with no buffer to write to.
@@ -58,10 +116,8 @@ pub extern "C" fn rukeshomaji_figures(
 ) -> u64
     ensures { FiguresReplies (on_site site.now) frame.now weights.now heights.now result figures.new }
 {
-    let ground = GroundValues::Site(site_values(site));
-    let f = frame_values(frame);
-    let a = job::figures::figures(ground, f, weights, heights);
-    put_figures(figures, a)
+    let ground = GroundValues::Site(SiteValues::of(site));
+    figures_on(ground, frame, weights, heights, figures)
 }
 
 // The same job in a zone of the Taipei Basin. There is no zone number for 'no zone'.
@@ -78,17 +134,16 @@ pub extern "C" fn rukeshomaji_basin_job(
 ) -> u64
     ensures { JobReplies (in_basin zone) frame.now weights.now heights.now (record { forces = forces.old; shears = shears.old; overturnings = overturnings.old }) result figures.new (record { forces = forces.new; shears = shears.new; overturnings = overturnings.new }) }
 {
-    let f = frame_values(frame);
-    let a = job::job(
+    job_on(
         GroundValues::Basin(zone),
-        f,
+        frame,
         weights,
         heights,
         forces,
         shears,
         overturnings,
-    );
-    put_figures(figures, a)
+        figures,
+    )
 }
 
 // The five figures of a job in a zone of the Taipei Basin.
@@ -102,9 +157,7 @@ pub extern "C" fn rukeshomaji_basin_figures(
 ) -> u64
     ensures { FiguresReplies (in_basin zone) frame.now weights.now heights.now result figures.new }
 {
-    let f = frame_values(frame);
-    let a = job::figures::figures(GroundValues::Basin(zone), f, weights, heights);
-    put_figures(figures, a)
+    figures_on(GroundValues::Basin(zone), frame, weights, heights, figures)
 }
 
 // The shear call on a site: V, V_M, V*, V_D and T of a total weight in kN and a top height in dm.
@@ -118,10 +171,8 @@ pub extern "C" fn rukeshomaji_shear_call(
 ) -> u64
     ensures { ShearCallReplies (on_site site.now) frame.now weight height result figures.new }
 {
-    let ground = GroundValues::Site(site_values(site));
-    let f = frame_values(frame);
-    let a = job::shear_call::shear_call(ground, f, weight, height);
-    put_figures(figures, a)
+    let ground = GroundValues::Site(SiteValues::of(site));
+    shear_call_on(ground, frame, weight, height, figures)
 }
 
 // The shear call in a zone of the Taipei Basin.
@@ -135,9 +186,7 @@ pub extern "C" fn rukeshomaji_basin_shear_call(
 ) -> u64
     ensures { ShearCallReplies (in_basin zone) frame.now weight height result figures.new }
 {
-    let f = frame_values(frame);
-    let a = job::shear_call::shear_call(GroundValues::Basin(zone), f, weight, height);
-    put_figures(figures, a)
+    shear_call_on(GroundValues::Basin(zone), frame, weight, height, figures)
 }
 
 // The distribution of a base shear in N at a period in ms: a force, a shear and an overturning moment of each level in the lent buffers, its
@@ -164,9 +213,9 @@ pub extern "C" fn rukeshomaji_distribution(
         shears,
         overturnings,
     );
-    let r = a.refusal();
-    *place = r.place;
-    r.number
+    let (number, at) = said(a.err());
+    *place = at;
+    number
 }
 
 // A whole district: a row for each job in the lent buffer, the report in `report`. The one refusal of the whole call, 22, has no place.
@@ -180,12 +229,16 @@ pub extern "C" fn rukeshomaji_district(
 ) -> u64
     ensures { DistrictReplies jobs.now weights.now heights.now rows.old result report.new rows.new }
 {
-    let a = district(jobs, weights, heights, rows);
-    let r = a.report;
-    put_report(report, r);
-    let v = a.verdict;
-    let refused = v.refusal();
-    refused.number
+    match district(jobs, weights, heights, rows) {
+        Ok(r) => {
+            put_report(report, &r);
+            0
+        }
+        Err(refused) => {
+            put_report(report, &Report::default());
+            refused.number
+        }
+    }
 }
 
 // The drift of each storey by displacements in 0.01 mm and a limit in ten-thousandths: a verdict of each in the lent buffer, 1 yes, 0 no; the place of a
@@ -201,9 +254,9 @@ pub extern "C" fn rukeshomaji_drift(
     ensures { DriftReplies heights.now displacements.now limit verdicts.old result place.new verdicts.new }
 {
     let a = drift::storey_drift::drift(heights, displacements, limit, verdicts);
-    let refused = a.refusal();
-    *place = refused.place;
-    refused.number
+    let (number, at) = said(a.err());
+    *place = at;
+    number
 }
 
 // The torsion factor of a floor by its largest and its average displacement in 0.01 mm: place, and the factor in thousandths.
@@ -211,8 +264,7 @@ pub extern "C" fn rukeshomaji_drift(
 pub extern "C" fn rukeshomaji_torsion(largest: u64, average: u64, reply: &mut [u64; 2]) -> u64
     ensures { TorsionReplies largest average result reply.new }
 {
-    let a = drift::torsion::torsion(largest, average);
-    put_torsion(reply, a)
+    put_number(reply, drift::torsion::torsion(largest, average))
 }
 
 // The accidental moments of each level by a base shear in N, a period in ms and a plan dimension in dm: in 0.01 N·dm, positive in one lent buffer and
@@ -233,9 +285,9 @@ pub extern "C" fn rukeshomaji_accidental_moments(
     let a = accidental_moments(
         shear, period, weights, heights, dimension, positive, negative,
     );
-    let refused = a.refusal();
-    *place = refused.place;
-    refused.number
+    let (number, at) = said(a.err());
+    *place = at;
+    number
 }
 
 // The site class of a soil log: place and class.
@@ -249,7 +301,7 @@ pub extern "C" fn rukeshomaji_site_class(
     ensures { LogReplies thicknesses.now kinds.now values.now result reply.new }
 {
     let a = soil::log::site_class(thicknesses, kinds, values);
-    put_class(reply, a)
+    put_number(reply, a.map(|class| class as u64))
 }
 
 // The listing of a sheet, or the line of its refusal, over the first bytes of `listing`; in `reply` place, and how many bytes these are.
@@ -262,10 +314,9 @@ pub extern "C" fn rukeshomaji_sheet(
     ensures { SheetReplies sheet.now listing.old result listing.new reply.new }
 {
     let put = put_in_array(listing, sheet);
-    let refusal = put.refusal;
-    let length = put.length as u64;
-    *reply = [refusal.place, length];
-    refusal.number
+    let (number, place) = said(put.refusal);
+    *reply = [place, put.length as u64];
+    number
 }
 
 #[unsafe(no_mangle)]

@@ -3,4 +3,4 @@ use Rattle.linked.proofs.Replies.{sheet_replies}
 use Rattle.linked.proofs.rukeshomaji_sheet.Goals as goal
 
 pub returns : goal.returns
-returns c = sheet_replies c.args.sheet.now c.put_in_array-put.result c.put_in_array-put.ensures
+returns c = sheet_replies c.args.sheet.now c.put_in_array-put.result c.put_in_array-put.ensures c.said-number.ensures
