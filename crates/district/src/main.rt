@@ -1,76 +1,28 @@
 // The program `district`: a file of sheets on standard input, rows and report of the district on standard output.
 #![tactic(auto)]
 
-ghost use Rattle.std.specs.Counts.{IsPrefixLen};
-
 use sheets::judged::BYTES_MOST;
 use sheets::listing::LONGEST;
 use sheets::put_district;
-use std::io::{Read, Stderr, Stdin, Stdout};
+use std::io;
 
 // One byte more than a file may have says that it is too long, and the rest is left unread.
 const ROOM: usize = BYTES_MOST + 1;
 
-// How many bytes came before the input ended or the cells were full, and whether a read failed before that.
-#[derive(Clone, Copy)]
-struct Arrived {
-    count: usize,
-    failed: bool,
-}
-
-fn say(err: Stderr, words: &[u8]) {
-    let _ = err.write_all(words);
-}
-
-fn print(out: Stdout, err: Stderr, file: &[u8]) {
+fn print(rt: &impl Print, file: &[u8]) -> io::Result<()> {
     let mut bytes = [0; LONGEST];
     let put = put_district(&mut bytes, file);
-    let n = put.length;
-    if out.write_all(&bytes[..n]).is_err() {
-        say(
-            err,
-            b"district: the rows and the report could not be written\n",
-        );
-    }
+    rt.write_all(&bytes[..put.length])
 }
 
-// The first read that brings nothing is the end: a terminal has to say so only once. A read that fails ends no file, and neither does
-// input that has not arrived.
-fn fill(mut stdin: Stdin, input: &mut [u8]) -> Arrived
-    ensures { IsPrefixLen result.count input.new }
-{
-    let mut n = 0;
-    while n < input.len() {
-        let Ok(more) = stdin.read(&mut input[n..]) else {
-            return Arrived {
-                count: n,
-                failed: true,
-            };
-        };
-        if more == 0 {
-            return Arrived {
-                count: n,
-                failed: false,
-            };
-        }
-        n += more;
-    }
-    Arrived {
-        count: n,
-        failed: false,
-    }
-}
-
+// A read that fails ends no file, and neither does input that has not arrived.
 fn main(rt: HostRuntime) {
     let mut input = [0; ROOM];
-    let arrived = fill(rt.stdin(), &mut input);
-    if arrived.failed {
-        say(
-            rt.stderr(),
-            b"district: standard input could not be read to its end\n",
-        );
+    let Ok(n) = streams::fill(&mut rt.stdin(), &mut input) else {
+        let _ = eprintln!(rt; "district: standard input could not be read to its end");
         return;
+    };
+    if print(&rt, &input[..n]).is_err() {
+        let _ = eprintln!(rt; "district: the rows and the report could not be written");
     }
-    let n = arrived.count;
-    print(rt.stdout(), rt.stderr(), &input[..n]);
 }

@@ -2,227 +2,77 @@
 // cell of the three buffers.
 #![tactic(auto)]
 
-use fields::{
-    BASE_SHEAR, BUFFERS, DISTRIBUTION_HEAD, FRAME, HEIGHT, HEIGHT_COUNT, IN_BASIN, LISTED, OLD,
-    PERIOD, SHEAR_HEAD, SITE, WEIGHT, WEIGHT_COUNT,
-};
-use job::FiguresAnswer;
+use cases::entered::{ground, in_order};
+use cases::said::{Answer, Tabbed};
 use job::distribution::distribution;
 use job::shear_call::shear_call;
 use limits::frame::FrameValues;
-use limits::ground::GroundValues;
-use limits::refusal::{Refusal, Verdict};
-use limits::site::SiteValues;
-use rows::{number, row};
-use std::io::Stdout;
+use rows::Numbers;
+use std::io;
 
-mod fields;
+// The first number of a case: 0 a shear call on a site, 1 one in the Taipei Basin, any other a distribution.
+const IN_BASIN: u64 = 1;
 
-ghost use Rattle.std.specs.Prelude.{◌≤◌, length};
+// The most weights, heights and cells of a buffer that a case has.
+const LISTED: usize = 60;
 
-fn number_said(out: Stdout, n: u64) {
-    streams::write_all(out, b"\t");
-    streams::print_decimal(out, n);
+// Of a shear call ground, frame, weight and height follow.
+fn shear_case(rt: &impl Print, in_basin: bool, numbers: &mut Numbers) -> io::Result<()> {
+    let ground = ground(in_basin, numbers.row());
+    let frame = FrameValues::of(&numbers.row::<5>());
+    let weight = numbers.number();
+    let height = numbers.number();
+    let a = shear_call(ground, frame, weight, height);
+    println!(rt; "{}", Answer(a.map(in_order)))
 }
 
-fn refusal_said(out: Stdout, r: Refusal) {
-    streams::write_all(out, b"refused");
-    number_said(out, r.number);
-    number_said(out, r.place);
-}
-
-fn figures_said(out: Stdout, a: FiguresAnswer) {
-    match a {
-        FiguresAnswer::Taken(f) => {
-            streams::write_all(out, b"taken");
-            number_said(out, f.v);
-            number_said(out, f.vm);
-            number_said(out, f.star);
-            number_said(out, f.vd);
-            number_said(out, f.t);
-        }
-        FiguresAnswer::Refused(r) => {
-            refusal_said(out, r);
-        }
-    }
-    streams::write_all(out, b"\n");
-}
-
-fn verdict_said(out: Stdout, a: Verdict) {
-    match a {
-        Verdict::Passed => {
-            streams::write_all(out, b"taken");
-        }
-        Verdict::Refused(r) => {
-            refusal_said(out, r);
-        }
-    }
-    streams::write_all(out, b"\n");
-}
-
-fn cells_said(out: Stdout, name: &[u8], cells: &[u64]) {
-    streams::write_all(out, name);
-    let mut i = 0;
-    while i < cells.len() {
-        number_said(out, cells[i]);
-        i += 1;
-    }
-    streams::write_all(out, b"\n");
-}
-
-fn site(head: [u64; 140]) -> SiteValues {
-    SiteValues {
-        ssd: head[SITE],
-        s1d: head[SITE + 1],
-        ssm: head[SITE + 2],
-        s1m: head[SITE + 3],
-        nad: head[SITE + 4],
-        nvd: head[SITE + 5],
-        nam: head[SITE + 6],
-        nvm: head[SITE + 7],
-        class: head[SITE + 8],
-    }
-}
-
-fn ground(case: u64, head: [u64; 140]) -> GroundValues {
-    if case == IN_BASIN {
-        return GroundValues::Basin(head[SITE]);
-    }
-    GroundValues::Site(site(head))
-}
-
-fn frame(head: [u64; 140]) -> FrameValues {
-    FrameValues {
-        kind: head[FRAME],
-        calculated: head[FRAME + 1],
-        r: head[FRAME + 2],
-        i: head[FRAME + 3],
-        alpha: head[FRAME + 4],
-    }
-}
-
-fn shear_case(out: Stdout, case: u64, head: [u64; 140]) {
-    let a = shear_call(ground(case, head), frame(head), head[WEIGHT], head[HEIGHT]);
-    figures_said(out, a);
-}
-
-// So many cells, or as many as there are.
-fn least(count: u64) -> usize
-    ensures { result ≤ 60 }
-{
-    let cells = count as usize;
-    if cells < LISTED {
-        return cells;
-    }
-    LISTED
-}
-
-// The call, and what comes back of it.
-fn called(
-    out: Stdout,
-    shear: u64,
-    period: u64,
-    weights: &[u64],
-    heights: &[u64],
-    forces: &mut [u64],
-    shears: &mut [u64],
-    overturnings: &mut [u64],
-) {
+// Of a distribution base shear and period follow, how many weights and heights there are, the lengths of the buffers of forces, shears and overturning
+// moments, what each cell of the three holds before the call, the weights and the heights.
+fn distribution_case(rt: &impl Print, numbers: &mut Numbers) -> io::Result<()> {
+    let shear = numbers.number();
+    let period = numbers.number();
+    let weight_count = numbers.at_most(LISTED);
+    let height_count = numbers.at_most(LISTED);
+    let force_cells = numbers.at_most(LISTED);
+    let shear_cells = numbers.at_most(LISTED);
+    let overturning_cells = numbers.at_most(LISTED);
+    let mut forces = [numbers.number(); LISTED];
+    let mut shears = [numbers.number(); LISTED];
+    let mut overturnings = [numbers.number(); LISTED];
+    let weights: [u64; LISTED] = numbers.row_of(weight_count);
+    let heights: [u64; LISTED] = numbers.row_of(height_count);
+    let forces = &mut forces[..force_cells];
+    let shears = &mut shears[..shear_cells];
+    let overturnings = &mut overturnings[..overturning_cells];
     let a = distribution(
         shear,
         period,
-        weights,
-        heights,
+        &weights[..weight_count],
+        &heights[..height_count],
         forces,
         shears,
         overturnings,
     );
-    verdict_said(out, a);
-    cells_said(out, b"forces", forces);
-    cells_said(out, b"shears", shears);
-    cells_said(out, b"moments", overturnings);
+    println!(rt; "{}", Answer(a.map(|()| [])))?;
+    println!(rt; "forces{}", Tabbed(forces))?;
+    println!(rt; "shears{}", Tabbed(shears))?;
+    println!(rt; "moments{}", Tabbed(overturnings))
 }
 
-// Weights and heights are parts of what was read, and the buffers that are lent are parts too.
-fn parted(
-    out: Stdout,
-    head: [u64; 140],
-    weights: &[u64],
-    heights: &[u64],
-    forces: &mut [u64],
-    shears: &mut [u64],
-    overturnings: &mut [u64],
-)
-    requires { (60 ≤ length weights.now) × (60 ≤ length heights.now) × (60 ≤ length forces.old) × (60 ≤ length shears.old) × (60 ≤ length overturnings.old) }
-{
-    let weight_count = least(head[WEIGHT_COUNT]);
-    let height_count = least(head[HEIGHT_COUNT]);
-    let force_cells = least(head[BUFFERS]);
-    let shear_cells = least(head[BUFFERS + 1]);
-    let overturning_cells = least(head[BUFFERS + 2]);
-    called(
-        out,
-        head[BASE_SHEAR],
-        head[PERIOD],
-        &weights[..weight_count],
-        &heights[..height_count],
-        &mut forces[..force_cells],
-        &mut shears[..shear_cells],
-        &mut overturnings[..overturning_cells],
-    );
-}
-
-fn distribution_case(out: Stdout, head: [u64; 140], weights: [u64; 140], heights: [u64; 140]) {
-    let mut forces = [head[OLD]; 60];
-    let mut shears = [head[OLD + 1]; 60];
-    let mut overturnings = [head[OLD + 2]; 60];
-    parted(
-        out,
-        head,
-        &weights,
-        &heights,
-        &mut forces,
-        &mut shears,
-        &mut overturnings,
-    );
-}
-
-// A case that begins at a byte; where the one after it begins.
-fn case(out: Stdout, s: &[u8], at: usize) -> usize
-    requires { at ≤ length s.now }
-    ensures { result ≤ length s.now }
-{
-    let kind = number(s, at);
-    if kind.value <= IN_BASIN {
-        let only = row(s, kind.next, SHEAR_HEAD);
-        let head = only.values;
-        shear_case(out, kind.value, head);
-        return only.next;
-    }
-    let first = row(s, kind.next, DISTRIBUTION_HEAD);
-    let head = first.values;
-    let second = row(s, first.next, least(head[WEIGHT_COUNT]));
-    let weights = second.values;
-    let third = row(s, second.next, least(head[HEIGHT_COUNT]));
-    let heights = third.values;
-    distribution_case(out, head, weights, heights);
-    third.next
-}
-
-// The first number says how many cases follow.
-fn run(out: Stdout, s: &[u8]) {
-    let count = number(s, 0);
-    let mut left = count.value;
-    let mut at = count.next;
-    while 0 < left {
-        at = case(out, s, at);
-        left -= 1;
+fn case(rt: &impl Print, numbers: &mut Numbers) -> io::Result<()> {
+    let kind = numbers.number();
+    if kind <= IN_BASIN {
+        shear_case(rt, kind == IN_BASIN, numbers)
+    } else {
+        distribution_case(rt, numbers)
     }
 }
 
+// The first number says how many cases follow. Where a write fails the run ends, and what was printed is not what is wanted.
 fn main(rt: HostRuntime) {
-    let out = rt.stdout();
     let mut input = [0; streams::ROOM];
     let n = streams::read_full(&mut rt.stdin(), &mut input);
-    run(out, &input[..n]);
+    let mut numbers = Numbers { rest: &input[..n] };
+    let count = numbers.number();
+    let _ = (0..count).try_for_each(|_| case(&rt, &mut numbers));
 }

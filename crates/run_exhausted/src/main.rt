@@ -4,6 +4,7 @@
 #![tactic(auto)]
 
 ghost use Rattle.std.specs.Prelude.{◌*◌, ◌≤◌, ◌<◌};
+ghost use Rattle.whole.specs.Digits.{Place};
 
 use limits::class::Class;
 use limits::frame::Frame;
@@ -16,171 +17,136 @@ use site::capacity::{
     basin_capacity, basin_square, design_capacity, design_square, mce_capacity, mce_square,
 };
 use site::coefficients::{fa, fv};
-use std::io::Stdout;
+use std::io;
 use whole::Fraction;
-use whole::paper::{FIRST, digits_down_to};
+use whole::paper::digits_down_to;
 use whole::quotients::{down, up};
 use whole::roots::{lower_root, upper_root};
 
 // Document 01's own unit.
 const MILLIONTHS: u64 = 1_000_000;
-
-fn number(out: Stdout, n: u64) {
-    streams::write_all(out, b" ");
-    streams::print_decimal(out, n);
-}
+// The zeros of the first place on paper.
+const FIRST_ZEROS: u32 = 7;
 
 // A square's lower and upper root, in s-ths.
-fn roots(out: Stdout, s: u64, square: Fraction)
+fn roots(rt: &impl Print, s: u64, square: Fraction) -> io::Result<()>
     requires { (0 < s) × (s ≤ 10_000_000) × (0 < square.num) × (0 < square.den) × (square.den ≤ 1000) × (square.num ≤ 11 * square.den) }
 {
-    number(out, lower_root(s, square.num, square.den));
-    number(out, upper_root(s, square.num, square.den));
+    let lower = lower_root(s, square);
+    let upper = upper_root(s, square);
+    print!(rt; " {lower} {upper}")
 }
 
 // A capacity, rounded down and up to s-ths.
-fn capacity(out: Stdout, s: u64, c: Fraction)
+fn capacity(rt: &impl Print, s: u64, c: Fraction) -> io::Result<()>
     requires { (s ≤ 10_000_000) × (0 < c.den) × (c.num ≤ 2000) }
 {
-    number(out, down(s * c.num, c.den));
-    number(out, up(s * c.num, c.den));
+    let low = down(s * c.num, c.den);
+    let high = up(s * c.num, c.den);
+    print!(rt; " {low} {high}")
 }
 
-fn ductility(out: Stdout, s: u64, r: u64)
-    requires { (0 < s) × (s ≤ 10_000_000) × (100 ≤ r) × (r ≤ 600) }
-{
-    streams::write_all(out, b"R");
-    number(out, r);
-    roots(out, s, design_square(r));
-    roots(out, s, mce_square(r));
-    capacity(out, s, design_capacity(r));
-    capacity(out, s, mce_capacity(r));
-    streams::write_all(out, b"\n");
-}
-
-fn ductilities(out: Stdout, s: u64)
+fn ductilities(rt: &impl Print, s: u64) -> io::Result<()>
     requires { (0 < s) × (s ≤ 10_000_000) }
 {
-    let mut r = Frame::R_LEAST;
-    while r <= Frame::R_MOST {
-        ductility(out, s, r);
-        r += 1;
+    for r in Frame::R_LEAST..=Frame::R_MOST {
+        print!(rt; "R {r}")?;
+        roots(rt, s, design_square(r))?;
+        roots(rt, s, mce_square(r))?;
+        capacity(rt, s, design_capacity(r))?;
+        capacity(rt, s, mce_capacity(r))?;
+        println!(rt)?;
     }
+    Ok(())
 }
 
-fn basin_ductility(out: Stdout, s: u64, r: u64)
-    requires { (0 < s) × (s ≤ 10_000_000) × (100 ≤ r) × (r ≤ 600) }
-{
-    streams::write_all(out, b"basin");
-    number(out, r);
-    roots(out, s, basin_square(r));
-    capacity(out, s, basin_capacity(r));
-    streams::write_all(out, b"\n");
-}
-
-fn basin_ductilities(out: Stdout, s: u64)
+fn basin_ductilities(rt: &impl Print, s: u64) -> io::Result<()>
     requires { (0 < s) × (s ≤ 10_000_000) }
 {
-    let mut r = Frame::R_LEAST;
-    while r <= Frame::R_MOST {
-        basin_ductility(out, s, r);
-        r += 1;
+    for r in Frame::R_LEAST..=Frame::R_MOST {
+        print!(rt; "basin {r}")?;
+        roots(rt, s, basin_square(r))?;
+        capacity(rt, s, basin_capacity(r))?;
+        println!(rt)?;
     }
+    Ok(())
 }
 
-// Place by place the digits found and what is left beside them, of design and of MCE.
-fn on_paper(out: Stdout, r: u64)
+// The place with so many zeros.
+fn place_at(zeros: u32) -> u64
+    requires { zeros ≤ 7 }
+    ensures { Place result × (result ≤ 10_000_000) }
+{
+    10u64.pow(zeros)
+}
+
+// Place by place, from the first down to 1, the digits found and what is left beside them, of design and of MCE.
+fn on_paper(rt: &impl Print, r: u64) -> io::Result<()>
     requires { (100 ≤ r) × (r ≤ 600) }
 {
     let design = design_square(r);
     let mce = mce_square(r);
-    let mut place = FIRST;
-    while 0 < place {
-        let d = digits_down_to(UNIT, design.num, design.den, place);
-        let m = digits_down_to(UNIT, mce.num, mce.den, place);
-        streams::write_all(out, b"place");
-        number(out, place);
-        number(out, d.found);
-        number(out, d.left);
-        number(out, m.found);
-        number(out, m.left);
-        streams::write_all(out, b"\n");
-        place /= 10;
+    for zeros in (0..=FIRST_ZEROS).rev() {
+        let place = place_at(zeros);
+        let d = digits_down_to(UNIT, design, place);
+        let m = digits_down_to(UNIT, mce, place);
+        println!(rt;
+            "place {place} {} {} {} {}",
+            d.found, d.left, m.found, m.left
+        )?;
     }
+    Ok(())
 }
 
-fn height(out: Stdout, h: u64)
-    requires { (1 ≤ h) × (h ≤ 2000) }
-{
-    streams::write_all(out, b"h");
-    number(out, h);
-    number(out, approximate(Kind::Steel, h));
-    number(out, approximate(Kind::Concrete, h));
-    number(out, approximate(Kind::Braced, h));
-    number(out, approximate(Kind::Other, h));
-    streams::write_all(out, b"\n");
-}
-
-fn heights(out: Stdout) {
-    let mut h = Level::HEIGHT_LEAST;
-    while h <= Level::HEIGHT_MOST {
-        height(out, h);
-        h += 1;
+fn heights(rt: &impl Print) -> io::Result<()> {
+    for h in Level::HEIGHT_LEAST..=Level::HEIGHT_MOST {
+        let steel = approximate(Kind::Steel, h);
+        let concrete = approximate(Kind::Concrete, h);
+        let braced = approximate(Kind::Braced, h);
+        let other = approximate(Kind::Other, h);
+        println!(rt; "h {h} {steel} {concrete} {braced} {other}")?;
     }
+    Ok(())
 }
 
-// F_a of a mapped S_S with every N_A.
-fn short_periods(out: Stdout, mapped: u64)
-    requires { mapped ≤ 100 }
+// A coefficient of a mapped value with every near-fault factor, for each class.
+fn products<F: Fn(Class, u64) -> u64>(
+    rt: &impl Print,
+    name: &str,
+    mapped: u64,
+    least: u64,
+    most: u64,
+    coefficient: F,
+) -> io::Result<()>
+    requires callable { F.IsAlwaysCallable coefficient }
+    requires fits { (mapped ≤ 100) × (most ≤ 200) }
 {
-    let mut n = Site::NA_LEAST;
-    while n <= Site::NA_MOST {
+    for n in least..=most {
         let s = mapped * n;
-        streams::write_all(out, b"S_S");
-        number(out, s);
-        number(out, fa(Class::Hard, s));
-        number(out, fa(Class::Normal, s));
-        number(out, fa(Class::Soft, s));
-        streams::write_all(out, b"\n");
-        n += 1;
+        let hard = coefficient(Class::Hard, s);
+        let normal = coefficient(Class::Normal, s);
+        let soft = coefficient(Class::Soft, s);
+        println!(rt; "{name} {s} {hard} {normal} {soft}")?;
     }
+    Ok(())
 }
 
-// F_v of a mapped S_1 with every N_V.
-fn long_periods(out: Stdout, mapped: u64)
-    requires { mapped ≤ 100 }
-{
-    let mut n = Site::NV_LEAST;
-    while n <= Site::NV_MOST {
-        let s = mapped * n;
-        streams::write_all(out, b"S_1");
-        number(out, s);
-        number(out, fv(Class::Hard, s));
-        number(out, fv(Class::Normal, s));
-        number(out, fv(Class::Soft, s));
-        streams::write_all(out, b"\n");
-        n += 1;
+fn run(rt: &impl Print) -> io::Result<()> {
+    ductilities(rt, UNIT)?;
+    heights(rt)?;
+    for mapped in [50, 60, 70, 80, 90, 100] {
+        products(rt, "S_S", mapped, Site::NA_LEAST, Site::NA_MOST, fa)?;
     }
+    for mapped in [30, 35, 40, 45, 50, 55] {
+        products(rt, "S_1", mapped, Site::NV_LEAST, Site::NV_MOST, fv)?;
+    }
+    basin_ductilities(rt, UNIT)?;
+    ductilities(rt, MILLIONTHS)?;
+    basin_ductilities(rt, MILLIONTHS)?;
+    on_paper(rt, 480)
 }
 
+// Where a write fails the run ends, and what was printed is not what is wanted.
 fn main(rt: HostRuntime) {
-    let out = rt.stdout();
-    ductilities(out, UNIT);
-    heights(out);
-    short_periods(out, 50);
-    short_periods(out, 60);
-    short_periods(out, 70);
-    short_periods(out, 80);
-    short_periods(out, 90);
-    short_periods(out, 100);
-    long_periods(out, 30);
-    long_periods(out, 35);
-    long_periods(out, 40);
-    long_periods(out, 45);
-    long_periods(out, 50);
-    long_periods(out, 55);
-    basin_ductilities(out, UNIT);
-    ductilities(out, MILLIONTHS);
-    basin_ductilities(out, MILLIONTHS);
-    on_paper(out, 480);
+    let _ = run(&rt);
 }

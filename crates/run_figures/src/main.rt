@@ -1,14 +1,14 @@
 // Document 01's 'Figures to hold it to', in ten-millionths: each beside the figure that was worked out.
 #![tactic(auto)]
 
-ghost use Rattle.std.specs.Prelude.{◌≤◌, ◌<◌};
+ghost use Rattle.std.specs.Prelude.{◌*◌, ◌≤◌, ◌<◌};
 
-use job::FiguresAnswer;
+use job::job;
 use limits::class::Class;
 use limits::frame::FrameValues;
 use limits::ground::GroundValues;
 use limits::kind::Kind;
-use limits::layer::Layer;
+use limits::layer::LayerKind;
 use limits::site::SiteValues;
 use response::UNIT;
 use response::period::approximate;
@@ -17,23 +17,19 @@ use response::spectrum::spectrum;
 use site::capacity::{design_square, mce_square};
 use site::coefficients::{acceleration_a, acceleration_b, fa, fv};
 use site::lines::LINES;
-use soil::velocity::VelocityAnswer;
-use std::io::Stdout;
+use std::fmt::Display;
+use std::io;
+use whole::Fraction;
 use whole::roots::lower_root;
 
 const MILLIONTHS: u64 = 1_000_000;
 
-fn hold(out: Stdout, name: &[u8], got: u64, stated: u64) {
-    streams::write_all(out, name);
-    streams::write_all(out, b": ");
-    streams::print_decimal(out, got);
+fn hold(rt: &impl Print, name: impl Display + Drop, got: u64, stated: u64) -> io::Result<()> {
     if got == stated {
-        streams::write_all(out, b", as stated\n");
-        return;
+        println!(rt; "{name}: {got}, as stated")
+    } else {
+        println!(rt; "{name}: {got}, but stated {stated}")
     }
-    streams::write_all(out, b", but stated ");
-    streams::print_decimal(out, stated);
-    streams::write_all(out, b"\n");
 }
 
 fn hard_spectrum(t: u64) -> u64
@@ -44,219 +40,124 @@ fn hard_spectrum(t: u64) -> u64
     spectrum(UNIT, a, b, t)
 }
 
-fn spectra(out: Stdout) {
-    hold(
-        out,
-        b"spectrum, hard 80/45, T 112",
-        hard_spectrum(112),
-        7_978_667,
-    );
-    hold(
-        out,
-        b"spectrum, hard 80/45, T 113",
-        hard_spectrum(113),
-        8_000_000,
-    );
-    hold(
-        out,
-        b"spectrum, hard 80/45, T 563",
-        hard_spectrum(563),
-        7_992_896,
-    );
-    hold(
-        out,
-        b"spectrum, hard 80/45, T 1406",
-        hard_spectrum(1406),
-        3_200_569,
-    );
-    hold(
-        out,
-        b"spectrum, hard 80/45, T 1407",
-        hard_spectrum(1407),
-        3_200_000,
-    );
+fn spectra(rt: &impl Print) -> io::Result<()> {
+    let stated = [
+        (112, 7_978_667),
+        (113, 8_000_000),
+        (563, 7_992_896),
+        (1406, 3_200_569),
+        (1407, 3_200_000),
+    ];
+    for (t, stated) in stated {
+        hold(
+            rt,
+            format_args!("spectrum, hard 80/45, T {t}"),
+            hard_spectrum(t),
+            stated,
+        )?;
+    }
+    Ok(())
 }
 
-fn ratios(out: Stdout) {
-    hold(
-        out,
-        b"ratio 2999999",
-        modified(UNIT, LINES, 2_999_999),
-        2_999_999,
-    );
-    hold(
-        out,
-        b"ratio 3000000",
-        modified(UNIT, LINES, 3_000_000),
-        3_000_000,
-    );
-    hold(
-        out,
-        b"ratio 3000001",
-        modified(UNIT, LINES, 3_000_001),
-        3_000_001,
-    );
-    hold(
-        out,
-        b"ratio 7999999",
-        modified(UNIT, LINES, 7_999_999),
-        5_600_000,
-    );
-    hold(
-        out,
-        b"ratio 8000000",
-        modified(UNIT, LINES, 8_000_000),
-        5_600_000,
-    );
-    hold(
-        out,
-        b"ratio 8000001",
-        modified(UNIT, LINES, 8_000_001),
-        5_600_001,
-    );
+fn ratios(rt: &impl Print) -> io::Result<()> {
+    let stated = [
+        (2_999_999, 2_999_999),
+        (3_000_000, 3_000_000),
+        (3_000_001, 3_000_001),
+        (7_999_999, 5_600_000),
+        (8_000_000, 5_600_000),
+        (8_000_001, 5_600_001),
+    ];
+    for (q, stated) in stated {
+        hold(
+            rt,
+            format_args!("ratio {q}"),
+            modified(UNIT, LINES, q),
+            stated,
+        )?;
+    }
+    Ok(())
 }
 
-fn design_root(s: u64, r: u64) -> u64
-    requires { (0 < s) × (s ≤ 10_000_000) × (100 ≤ r) × (r ≤ 600) }
+fn root(s: u64, square: Fraction) -> u64
+    requires { (0 < s) × (s ≤ 10_000_000) × (0 < square.num) × (0 < square.den) × (square.den ≤ 1000) × (square.num ≤ 11 * square.den) }
 {
-    let q = design_square(r);
-    lower_root(s, q.num, q.den)
+    lower_root(s, square)
 }
 
-fn mce_root(s: u64, r: u64) -> u64
-    requires { (0 < s) × (s ≤ 10_000_000) × (100 ≤ r) × (r ≤ 600) }
+// The root is a function of its unit.
+fn roots(rt: &impl Print, name: &str, s: u64, stated: [u64; 4]) -> io::Result<()>
+    requires { (0 < s) × (s ≤ 10_000_000) }
 {
-    let q = mce_square(r);
-    lower_root(s, q.num, q.den)
+    let [design, mce, least_design, least_mce] = stated;
+    hold(
+        rt,
+        format_args!("{name}, design, R 480"),
+        root(s, design_square(480)),
+        design,
+    )?;
+    hold(
+        rt,
+        format_args!("{name}, MCE, R 480"),
+        root(s, mce_square(480)),
+        mce,
+    )?;
+    hold(
+        rt,
+        format_args!("{name}, design, R 100"),
+        root(s, design_square(100)),
+        least_design,
+    )?;
+    hold(
+        rt,
+        format_args!("{name}, MCE, R 100"),
+        root(s, mce_square(100)),
+        least_mce,
+    )
 }
 
-fn roots(out: Stdout) {
+fn periods(rt: &impl Print) -> io::Result<()> {
     hold(
-        out,
-        b"lower root, design, R 480",
-        design_root(UNIT, 480),
-        24_630_604,
-    );
-    hold(
-        out,
-        b"lower root, MCE, R 480",
-        mce_root(UNIT, 480),
-        29_325_756,
-    );
-    hold(
-        out,
-        b"lower root, design, R 100",
-        design_root(UNIT, 100),
-        10_000_000,
-    );
-    hold(
-        out,
-        b"lower root, MCE, R 100",
-        mce_root(UNIT, 100),
-        10_000_000,
-    );
-}
-
-// Document 01's own figures: the root is a function of its unit.
-fn roots_in_millionths(out: Stdout) {
-    hold(
-        out,
-        b"in millionths, design, R 480",
-        design_root(MILLIONTHS, 480),
-        2_463_060,
-    );
-    hold(
-        out,
-        b"in millionths, MCE, R 480",
-        mce_root(MILLIONTHS, 480),
-        2_932_575,
-    );
-    hold(
-        out,
-        b"in millionths, design, R 100",
-        design_root(MILLIONTHS, 100),
-        1_000_000,
-    );
-    hold(
-        out,
-        b"in millionths, MCE, R 100",
-        mce_root(MILLIONTHS, 100),
-        1_000_000,
-    );
-}
-
-fn periods(out: Stdout) {
-    hold(
-        out,
-        b"period, kind 2, 300 dm",
+        rt,
+        "period, kind 2, 300 dm",
         approximate(Kind::Concrete, 300),
         897,
-    );
-    hold(out, b"period, kind 4, 1 dm", approximate(Kind::Other, 1), 8);
+    )?;
+    hold(rt, "period, kind 4, 1 dm", approximate(Kind::Other, 1), 8)?;
     hold(
-        out,
-        b"period, kind 1, 2000 dm",
+        rt,
+        "period, kind 1, 2000 dm",
         approximate(Kind::Steel, 2000),
         4520,
-    );
+    )
 }
 
-fn velocity(kind: u64, count: u64) -> u64 {
-    let v = soil::velocity::velocity(kind, count, 1);
-    let VelocityAnswer::Taken(dms) = v else {
-        return 0;
-    };
-    dms
+fn velocity(kind: LayerKind, count: u64) -> u64 {
+    soil::velocity::velocity(kind as u64, count, 1).unwrap_or(0)
 }
 
-fn velocities(out: Stdout) {
+fn velocities(rt: &impl Print) -> io::Result<()> {
     hold(
-        out,
-        b"velocity, cohesive, N 25",
-        velocity(Layer::COHESIVE, 25),
+        rt,
+        "velocity, cohesive, N 25",
+        velocity(LayerKind::Cohesive, 25),
         2924,
-    );
+    )?;
     hold(
-        out,
-        b"velocity, cohesionless, N 50",
-        velocity(Layer::COHESIONLESS, 50),
+        rt,
+        "velocity, cohesionless, N 50",
+        velocity(LayerKind::Cohesionless, 50),
         2947,
-    );
+    )
 }
 
-fn coefficients(out: Stdout) {
-    hold(out, b"F_a, normal, 6500", fa(Class::Normal, 6500), 10_500);
-    hold(out, b"F_v, soft, 3200", fv(Class::Soft, 3200), 17_600);
+fn coefficients(rt: &impl Print) -> io::Result<()> {
+    hold(rt, "F_a, normal, 6500", fa(Class::Normal, 6500), 10_500)?;
+    hold(rt, "F_v, soft, 3200", fv(Class::Soft, 3200), 17_600)
 }
 
-fn cell(out: Stdout, name: &[u8], cells: &[u64], x: usize, stated: u64) {
-    if x < cells.len() {
-        hold(out, name, cells[x], stated);
-    }
-}
-
-// The listing's levels, roof first.
-fn levels(out: Stdout, forces: &[u64], shears: &[u64], overturnings: &[u64]) {
-    cell(out, b"level 3, force", forces, 2, 573_215);
-    cell(out, b"level 3, shear", shears, 2, 573_215);
-    cell(out, b"level 3, overturning", overturnings, 2, 57_321_500);
-    cell(out, b"level 2, force", forces, 1, 332_143);
-    cell(out, b"level 2, shear", shears, 1, 905_358);
-    cell(out, b"level 2, overturning", overturnings, 1, 147_857_300);
-    cell(out, b"level 1, force", forces, 0, 166_071);
-    cell(out, b"level 1, shear", shears, 0, 1_071_429);
-    cell(out, b"level 1, overturning", overturnings, 0, 255_000_200);
-}
-
-// The worked sheet's listing, by the job call.
-fn sheet(
-    out: Stdout,
-    weights: &[u64],
-    heights: &[u64],
-    forces: &mut [u64],
-    shears: &mut [u64],
-    overturnings: &mut [u64],
-) {
+// The worked sheet's listing, by the job call: its figures, and its levels, roof first.
+fn listing(rt: &impl Print) -> io::Result<()> {
     let site = SiteValues {
         ssd: 80,
         s1d: 45,
@@ -266,60 +167,72 @@ fn sheet(
         nvd: 100,
         nam: 100,
         nvm: 100,
-        class: Class::HARD,
+        class: Class::Hard as u64,
     };
     let frame = FrameValues {
-        kind: Kind::CONCRETE,
+        kind: Kind::Concrete as u64,
         calculated: 1000,
         r: 480,
         i: 100,
         alpha: 150,
     };
-    let ground = GroundValues::Site(site);
-    let a = job::job(
-        ground,
-        frame,
-        weights,
-        heights,
-        forces,
-        shears,
-        overturnings,
-    );
-    let FiguresAnswer::Taken(f) = a else {
-        return;
-    };
-    hold(out, b"V", f.v, 909_704);
-    hold(out, b"V_M", f.vm, 818_453);
-    hold(out, b"V*", f.star, 1_071_429);
-    hold(out, b"V_D", f.vd, 1_071_429);
-    hold(out, b"T", f.t, 1000);
-    levels(out, forces, shears, overturnings);
-}
-
-fn listing(out: Stdout) {
-    let weights = [5000; 3];
-    let heights = [100, 200, 300];
     let mut forces = [0; 3];
     let mut shears = [0; 3];
     let mut overturnings = [0; 3];
-    sheet(
-        out,
-        &weights,
-        &heights,
+    let a = job(
+        GroundValues::Site(site),
+        frame,
+        &[5000; 3],
+        &[100, 200, 300],
         &mut forces,
         &mut shears,
         &mut overturnings,
     );
+    let Ok(f) = a else {
+        return Ok(());
+    };
+    hold(rt, "V", f.v, 909_704)?;
+    hold(rt, "V_M", f.vm, 818_453)?;
+    hold(rt, "V*", f.star, 1_071_429)?;
+    hold(rt, "V_D", f.vd, 1_071_429)?;
+    hold(rt, "T", f.t, 1000)?;
+    let [force1, force2, force3] = forces;
+    let [shear1, shear2, shear3] = shears;
+    let [overturning1, overturning2, overturning3] = overturnings;
+    hold(rt, "level 3, force", force3, 573_215)?;
+    hold(rt, "level 3, shear", shear3, 573_215)?;
+    hold(rt, "level 3, overturning", overturning3, 57_321_500)?;
+    hold(rt, "level 2, force", force2, 332_143)?;
+    hold(rt, "level 2, shear", shear2, 905_358)?;
+    hold(rt, "level 2, overturning", overturning2, 147_857_300)?;
+    hold(rt, "level 1, force", force1, 166_071)?;
+    hold(rt, "level 1, shear", shear1, 1_071_429)?;
+    hold(rt, "level 1, overturning", overturning1, 255_000_200)
 }
 
+fn run(rt: &impl Print) -> io::Result<()> {
+    spectra(rt)?;
+    ratios(rt)?;
+    roots(
+        rt,
+        "lower root",
+        UNIT,
+        [24_630_604, 29_325_756, 10_000_000, 10_000_000],
+    )?;
+    // document 01's own figures
+    roots(
+        rt,
+        "in millionths",
+        MILLIONTHS,
+        [2_463_060, 2_932_575, 1_000_000, 1_000_000],
+    )?;
+    periods(rt)?;
+    velocities(rt)?;
+    coefficients(rt)?;
+    listing(rt)
+}
+
+// Where a write fails the run ends, and what was printed is not what is wanted.
 fn main(rt: HostRuntime) {
-    let out = rt.stdout();
-    spectra(out);
-    ratios(out);
-    roots(out);
-    roots_in_millionths(out);
-    periods(out);
-    velocities(out);
-    coefficients(out);
-    listing(out);
+    let _ = run(&rt);
 }

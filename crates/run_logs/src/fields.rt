@@ -1,4 +1,4 @@
-// The numbers of a log in one array: where each stands.
+// The numbers of a log in one array, as a change names a field by its place there: where each stands.
 
 pub const THICKNESS_COUNT: usize = 0;
 

@@ -1,4 +1,4 @@
-// The numbers of a job in one array: where each stands.
+// The numbers of a job in one array, as a change names a field by its place there: where each stands.
 
 pub const SITE: usize = 0;
 
@@ -13,6 +13,11 @@ pub const ROOM: usize = 16;
 pub const GROUND: usize = 17;
 
 pub const ZONE: usize = 18;
+// What the fields up to here are called.
+pub const NAMES: [&str; 19] = [
+    "S_S D", "S_1 D", "S_S M", "S_1 M", "N_A", "N_V", "N_A M", "N_V M", "class", "kind", "period",
+    "R", "I", "alpha-y", "weights", "heights", "room", "ground", "zone",
+];
 
 pub const WEIGHTS: usize = 20;
 

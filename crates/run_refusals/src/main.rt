@@ -1,173 +1,80 @@
 // Runs the judgments on changed copies of one good job, as standard input gives them, and says what comes back of each.
 #![tactic(auto)]
 
+use cases::changed::change;
+use cases::said::InWords;
 use fields::{
-    FIELDS, FRAME, GROUND, HEIGHT_COUNT, HEIGHTS, LISTED, ROOM, SITE, WEIGHT_COUNT, WEIGHTS, ZONE,
+    FIELDS, FRAME, GROUND, HEIGHT_COUNT, HEIGHTS, LISTED, NAMES, ROOM, SITE, WEIGHT_COUNT, WEIGHTS,
+    ZONE,
 };
 use limits::frame::FrameValues;
 use limits::ground::GroundValues;
-use limits::judging::{GivenAnswer, judged_given};
+use limits::judging::{Given, judged_given};
 use limits::levels::judged_levels;
+use limits::refusal::Refusal;
 use limits::site::SiteValues;
-use rows::{number, row};
-use std::io::Stdout;
+use rows::Numbers;
+use std::io;
 
 mod fields;
 
-ghost use Rattle.std.specs.Prelude.{◌≤◌, length};
+// The changes of a case, each a field and its value.
+const CHANGES: u64 = 4;
 
-// The numbers of a case: up to four changes, each a field and its value.
-const CHANGES: usize = 8;
+const IN_BASIN: u64 = 1;
 
 // Writes a field's name, eight bytes wide, its level where it has one, and its value.
-fn say_field(out: Stdout, at: usize, value: u64) {
-    if at <= ZONE {
-        say_name(
-            out,
-            b"S_S D   S_1 D   S_S M   S_1 M   N_A     N_V     N_A M   N_V M   class   kind    period  R       I       alpha-y weights heights room    ground  zone    ",
-            at,
-        );
-    } else if at < HEIGHTS {
-        streams::write_all(out, b"weight  ");
-        say_level(out, at, WEIGHTS);
+fn say_field(rt: &impl Print, at: usize, value: u64) -> io::Result<()> {
+    if let Some(name) = NAMES.get(at) {
+        print!(rt; "{name:<8}")?;
+    } else if let Some(below) = at.checked_sub(HEIGHTS) {
+        print!(rt; "height  {}: ", below + 1)?;
+    } else if let Some(below) = at.checked_sub(WEIGHTS) {
+        print!(rt; "weight  {}: ", below + 1)?;
     } else {
-        streams::write_all(out, b"height  ");
-        say_level(out, at, HEIGHTS);
+        print!(rt; "weight  ")?;
     }
-    streams::print_decimal(out, value);
-    streams::write_all(out, b"; ");
+    print!(rt; "{value}; ")
 }
 
-fn say_name(out: Stdout, names: &[u8], at: usize) {
-    if at <= ZONE {
-        let from = 8 * at;
-        let end = from + 8;
-        if end <= names.len() {
-            streams::write_all(out, &names[from..end]);
-        }
-    }
-}
-
-fn say_level(out: Stdout, at: usize, first: usize) {
-    if first <= at {
-        if at < FIELDS {
-            streams::print_decimal(out, (at - first) as u64 + 1);
-            streams::write_all(out, b": ");
-        }
-    }
-}
-
-// The job with one field changed; a field that there is none of changes nothing.
-fn changed(out: Stdout, job: [u64; 140], field: u64, value: u64) -> [u64; 140] {
-    let mut next = job;
-    let at = field as usize;
-    if at < FIELDS {
-        next[at] = value;
-        say_field(out, at, value);
-    }
-    next
-}
-
-fn ground(job: [u64; 140]) -> GroundValues {
-    if job[GROUND] == 1 {
-        return GroundValues::Basin(job[ZONE]);
-    }
-    GroundValues::Site(SiteValues {
-        ssd: job[SITE],
-        s1d: job[SITE + 1],
-        ssm: job[SITE + 2],
-        s1m: job[SITE + 3],
-        nad: job[SITE + 4],
-        nvd: job[SITE + 5],
-        nam: job[SITE + 6],
-        nvm: job[SITE + 7],
-        class: job[SITE + 8],
-    })
-}
-
-fn answer(job: [u64; 140]) -> GivenAnswer {
-    let frame = FrameValues {
-        kind: job[FRAME],
-        calculated: job[FRAME + 1],
-        r: job[FRAME + 2],
-        i: job[FRAME + 3],
-        alpha: job[FRAME + 4],
+fn judged(job: &[u64; FIELDS]) -> Result<Given, Refusal> {
+    let ground = if job[GROUND] == IN_BASIN {
+        GroundValues::Basin(job[ZONE])
+    } else {
+        GroundValues::Site(SiteValues::of(&job[SITE..]))
     };
-    let weights = least(job[WEIGHT_COUNT]);
-    let heights = least(job[HEIGHT_COUNT]);
-    let room = job[ROOM] as usize;
-    judged(ground(job), frame, &job, weights, heights, room)
-}
-
-// So many levels, or as many as the array has.
-fn least(count: u64) -> usize
-    ensures { result ≤ 51 }
-{
-    let levels = count as usize;
-    if levels < LISTED {
-        return levels;
-    }
-    LISTED
-}
-
-fn judged(
-    ground: GroundValues,
-    frame: FrameValues,
-    job: &[u64],
-    weights: usize,
-    heights: usize,
-    room: usize,
-) -> GivenAnswer
-    requires { (weights ≤ 51) × (heights ≤ 51) × (131 ≤ length job.now) }
-{
-    let weights_end = WEIGHTS + weights;
-    let heights_end = HEIGHTS + heights;
-    let levels = judged_levels(&job[WEIGHTS..weights_end], &job[HEIGHTS..heights_end], room);
+    let frame = FrameValues::of(&job[FRAME..]);
+    // so many levels, or as many as the array has
+    let weights_end = WEIGHTS + (job[WEIGHT_COUNT] as usize).min(LISTED);
+    let heights_end = HEIGHTS + (job[HEIGHT_COUNT] as usize).min(LISTED);
+    let levels = judged_levels(
+        &job[WEIGHTS..weights_end],
+        &job[HEIGHTS..heights_end],
+        job[ROOM] as usize,
+    );
     judged_given(levels, ground, frame)
 }
 
-fn say(out: Stdout, a: GivenAnswer) {
-    match a {
-        GivenAnswer::Taken(_) => {
-            streams::write_all(out, b"taken\n");
+// The good job with some fields changed.
+fn case(rt: &impl Print, good: &[u64; FIELDS], numbers: &mut Numbers) -> io::Result<()> {
+    let mut job = *good;
+    for _ in 0..CHANGES {
+        if let Some((at, value)) = change(&mut job, numbers) {
+            say_field(rt, at, value)?;
         }
-        GivenAnswer::Refused(r) => {
-            streams::write_all(out, b"refused ");
-            streams::print_decimal(out, r.number);
-            streams::write_all(out, b" at ");
-            streams::print_decimal(out, r.place);
-            streams::write_all(out, b"\n");
-        }
+    }
+    match judged(&job) {
+        Ok(_) => println!(rt; "taken"),
+        Err(r) => println!(rt; "{}", InWords(r)),
     }
 }
 
-fn case(out: Stdout, good: [u64; 140], changes: [u64; 140]) {
-    let a = changed(out, good, changes[0], changes[1]);
-    let b = changed(out, a, changes[2], changes[3]);
-    let c = changed(out, b, changes[4], changes[5]);
-    let d = changed(out, c, changes[6], changes[7]);
-    say(out, answer(d));
-}
-
-// The first number says how many cases follow the good job.
-fn run(out: Stdout, s: &[u8]) {
-    let count = number(s, 0);
-    let good = row(s, count.next, FIELDS);
-    let job = good.values;
-    let mut left = count.value;
-    let mut at = good.next;
-    while 0 < left {
-        let r = row(s, at, CHANGES);
-        let changes = r.values;
-        case(out, job, changes);
-        at = r.next;
-        left -= 1;
-    }
-}
-
+// The first number says how many cases follow the good job. Where a write fails the run ends, and what was printed is not what is wanted.
 fn main(rt: HostRuntime) {
-    let out = rt.stdout();
     let mut input = [0; streams::ROOM];
     let n = streams::read_full(&mut rt.stdin(), &mut input);
-    run(out, &input[..n]);
+    let mut numbers = Numbers { rest: &input[..n] };
+    let count = numbers.number();
+    let good = numbers.row();
+    let _ = (0..count).try_for_each(|_| case(&rt, &good, &mut numbers));
 }

@@ -2,75 +2,58 @@
 // the sheet's name.
 #![tactic(auto)]
 
-ghost use Rattle.std.specs.Prelude.{◌≤◌, ◌<◌, length};
+ghost use Rattle.std.specs.Prelude.{IfSome};
+ghost use Rattle.std.specs.Counts.{IsPrefixLen};
 
 use limits::sheet::Sheet;
+use sheet::listing::Listing;
 use sheet::sheet_listing;
 use std::fs::File;
-use std::io::Stdout;
+use std::io;
 
-const LF: u8 = 10;
+const LF: u8 = b'\n';
 
 // One byte more than a sheet may have: the file of a sheet that is too long need not be read further.
 const ROOM: usize = Sheet::BYTES_MOST as usize + 1;
 
-fn print(out: Stdout, s: &[u8]) {
-    let l = sheet_listing(s);
-    let bytes = l.bytes;
-    let n = l.length;
-    streams::write_all(out, &bytes[..n]);
-}
-
-// A sheet that is not there is said to be so, and the output then differs. A name that is no text names none.
-fn one(rt: HostRuntime, name: &[u8]) {
-    let out = rt.stdout();
-    streams::write_all(out, name);
-    streams::write_all(out, b"\n");
-    let Ok(path) = str::from_utf8(name) else {
-        streams::write_all(out, b"not there\n");
-        return;
-    };
-    let Ok(mut file) = File::open(&rt, path) else {
-        streams::write_all(out, b"not there\n");
-        return;
-    };
-    let mut input = [0; ROOM];
-    let n = streams::read_full(&mut file, &mut input);
-    print(out, &input[..n]);
-}
-
-// Where the line that begins at `at` ends.
-fn line_end(s: &[u8], at: usize) -> usize
-    requires { at ≤ length s.now }
-    ensures { (at ≤ result) × (result ≤ length s.now) }
+// How many bytes of the sheet of a name came, where there is such a sheet. A name that is no text names none.
+fn read(rt: &HostRuntime, name: &[u8], cells: &mut [u8]) -> Option<usize>
+    ensures { IfSome result (λ n. IsPrefixLen n cells.new) }
 {
-    let mut i = at;
-    while i < s.len() {
-        if s[i] == LF {
-            break;
-        }
-        i += 1;
-    }
-    i
+    let path = str::from_utf8(name).ok()?;
+    let mut file = File::open(rt, path).ok()?;
+    Some(streams::read_full(&mut file, cells))
 }
 
-fn run(rt: HostRuntime, names: &[u8]) {
-    let mut at = 0;
-    while at < names.len() {
-        let end = line_end(names, at);
-        one(rt, &names[at..end]);
-        if end == names.len() {
-            return;
-        }
-        at = end + 1;
+fn print(rt: &impl Print, sheet: &[u8]) -> io::Result<()> {
+    let Listing { bytes, length } = sheet_listing(sheet);
+    rt.write_all(&bytes[..length])
+}
+
+// A sheet that is not there is said to be so, and the output then differs.
+fn one(rt: &HostRuntime, name: &[u8]) -> io::Result<()> {
+    rt.write_all(name)?;
+    rt.write_all(b"\n")?;
+    let mut input = [0; ROOM];
+    match read(rt, name, &mut input) {
+        Some(n) => print(rt, &input[..n]),
+        None => rt.write_all(b"not there\n"),
     }
 }
 
+fn run(rt: &HostRuntime, names: &[u8]) -> io::Result<()> {
+    for line in names.split_inclusive(|b| *b == LF) {
+        one(rt, line.strip_suffix(&[LF]).unwrap_or(line))?;
+    }
+    Ok(())
+}
+
+// Where a write fails the run ends, and what was printed is not what is wanted.
 fn main(rt: HostRuntime) {
     let Ok(mut file) = File::open(&rt, "names") else {
         return;
     };
     let mut input = [0; streams::ROOM];
     let n = streams::read_full(&mut file, &mut input);
-    run(rt, &input[..n]);
+    let _ = run(&rt, &input[..n]);
 }

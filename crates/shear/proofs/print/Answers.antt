@@ -4,7 +4,7 @@ use Rattle.sheet.proofs.Length.{listing_part}
 use Rattle.shear.proofs.print.Goals as goal
 
 pub slice_bounds-bytes-end : goal.slice_bounds-bytes-end
-slice_bounds-bytes-end c = (listing_part _ _ c.sheet_listing-l.ensures).0
+slice_bounds-bytes-end g c = (listing_part _ _ c.sheet_listing-length.ensures).0
 
 pub slice_bounds-write_all-end : goal.slice_bounds-write_all-end
-slice_bounds-write_all-end c = sym (length-take-le _ _ (listing_part _ _ c.sheet_listing-l.ensures).0)
+slice_bounds-write_all-end g c = sym (length-take-le _ _ (listing_part _ _ c.sheet_listing-length.ensures).0)
