@@ -16,6 +16,8 @@ import sys
 
 from tests.compares import check_model
 from tests.draws.roof import ENDS
+from tests.model import limits
+from tests.writes.stored_calls import BASIN_GROUND
 from tests.writes.stored_drifts import DRIFT, MOMENTS, TORSION
 
 ROOT = pathlib.Path(__file__).resolve().parents[1]
@@ -24,6 +26,7 @@ NUMBER = r'(\d[\d,]*|one|two|three|four|five|six|seven|eight|nine|ten|eleven|twe
 WORDS = dict(zip('one two three four five six seven eight nine ten eleven twelve'.split(), range(1, 13)))
 REFUSED = re.compile('^refused', re.M)
 PAIRS = (4, 5), (6, 7)         # places of the near-fault factors among the numbers of a site
+GROUND, SITE = 0, 1            # places of the two among the numbers of a case of `run_jobs`; the frame and the counts of the lists follow the site
 
 
 def lines(crate, name):
@@ -49,9 +52,8 @@ def refused(crate):
     return len(REFUSED.findall((CRATES / crate / 'stdout').read_text()))
 
 
-def grounds(crate, rows):
-    """How many cases of a program are in the Basin, and how many on sites whose two pairs of near-fault factors differ."""
-    ground, site = field(crate, 'GROUND'), field(crate, 'SITE')
+def grounds(rows, ground, site):
+    """How many cases of a program are in the Basin, and how many on sites whose two pairs of near-fault factors differ, by the places of the two."""
     on_sites = [row for row in rows if row[ground] == 0]
     pairs = [[[row[site + place] for place in pair] for pair in PAIRS] for row in on_sites]
     return len(rows) - len(on_sites), sum(design != mce for design, mce in pairs)
@@ -60,9 +62,10 @@ def grounds(crate, rows):
 def jobs():
     """Cases of `run_jobs`, in the Basin, with two pairs, refused; the numbers that a case begins with."""
     rows, _ = numbered('run_jobs')
-    weights, heights = (field('run_jobs', name) for name in ('WEIGHT_COUNT', 'HEIGHT_COUNT'))
+    weights = SITE + len(limits.Site._fields) + len(limits.Frame._fields)
+    heights = weights + 1
     (head,) = {len(row) - row[weights] - row[heights] for row in rows}
-    return len(rows), *grounds('run_jobs', rows), refused('run_jobs'), head
+    return len(rows), *grounds(rows, GROUND, SITE), refused('run_jobs'), head
 
 
 def sheets():
@@ -77,13 +80,13 @@ def changed_jobs():
     """Cases of `run_refusals`, in the Basin, with two pairs."""
     changes, (good,) = numbered('run_refusals', before=1)
     cases = [dict(enumerate(good)) | dict(zip(row[::2], row[1::2])) for row in changes]
-    return len(cases), *grounds('run_refusals', cases)
+    return len(cases), *grounds(cases, *(field('run_refusals', name) for name in ('GROUND', 'SITE')))
 
 
 def calls():
     """Cases of `run_calls`: all, shear calls, distributions, refused."""
     rows, _ = numbered('run_calls')
-    shears = sum(row[0] <= field('run_calls', 'IN_BASIN') for row in rows)
+    shears = sum(row[0] <= BASIN_GROUND for row in rows)
     return len(rows), shears, len(rows) - shears, refused('run_calls')
 
 

@@ -89,11 +89,13 @@ def source(name):
 
 
 def constants(text):
-    """name -> number, or list of numbers, of the constants that a file of the core declares."""
+    """name -> number, or list of numbers, of the constants that a file of the core declares, and of the kinds of its enums that have numbers."""
     found = {}
     for name, value in re.findall(r'\bconst (\w+): [^=]+ = ([^;]+);', text):
         numbers = [int(each.replace('_', '')) for each in re.findall(r'\b\d[\d_]*\b', value)]
         found[name] = numbers if value.startswith('[') else numbers[0] if numbers else None
+    for name, value in re.findall(r'^ {4}(\w+) = (\d+),$', text, re.M):
+        found[re.sub(r'(?<=[a-z])(?=[A-Z])', '_', name).upper()] = int(value)
     return found
 
 
@@ -184,22 +186,31 @@ def function(file, name):
     return re.search(rf'fn {name}\b.*?^}}', source(file), re.S | re.M)[0]
 
 
+def numbered(file):
+    """The names of the values that a file of the core makes of a line's numbers, in their order."""
+    places = {int(place): RENAMED.get(name, name) for name, place in re.findall(r'(\w+): numbers\[(\d+)\]', function(file, 'of'))}
+    return [places[place] for place in range(len(places))]
+
+
 def orders():
     """The names of a struct's numbers in the order of the core's array."""
-    for struct, name in (('RukeshomajiSite', 'site_values'), ('RukeshomajiFrame', 'frame_values')):
-        yield struct, [RENAMED.get(each, each) for each in re.findall(r'(\w+): l\[\d\]', function('linked/arrays', name))]
+    values = {'Site': numbered('limits/site'), 'Frame': numbered('limits/frame')}
+    for name, names in values.items():
+        yield f'Rukeshomaji{name}', names
     entered = source('district_call/entered')
-    places = {int(place): RENAMED.get(name, name) for name, place in re.findall(r'(\w+): j\[(\d+)\]', entered)}
+    places = {int(place): name for name, place in re.findall(r'(\w+): j\[(\d+)\]', entered)}
     places |= {int(re.search(r'if j\[(\d+)\] == ON_SITE', entered)[1]): 'basin', int(re.search(r'Basin\(j\[(\d+)\]\)', entered)[1]): 'zone'}
+    for name, first, end in re.findall(r'(\w+)Values::of\(&j\[(\d+)\.\.(\d+)\]\)', entered):
+        assert int(end) - int(first) == len(values[name])
+        places |= dict(enumerate(values[name], int(first)))
     yield 'RukeshomajiDistrictJob', [places[place] for place in range(len(places))]
     taken, refused = (re.search(rf'{variant}\(\w\) => (?:{{.*?)?\[([^\]]*)\]', function('district_call/row', 'row_of'), re.S)[1].split(', ')
-                      for variant in ('Taken', 'Refused'))
+                      for variant in ('Ok', 'Err'))
     yield 'RukeshomajiRow', [(one if one != '0' else other).split('.')[1] for one, other in zip(taken, refused)]
     put = function('linked/arrays', 'put_report')
-    totals = {int(place): name for place, name in re.findall(r'out\[(\d+)\] = t\.(\w+);', put)}
-    first = size(re.search(r'let mut i = (\w+);', put)[1])
-    assert sorted(totals) == list(range(first)) and 'out[i] = cells[i - TOTALS];' in put
-    yield 'RukeshomajiReport', [BY.get(totals[place], totals[place]) for place in range(first)] + ['cells'] * (size('REPORT') - first)
+    totals = re.findall(r'\bt\.(\w+)', re.search(r'totals\.copy_from_slice\(&\[([^\]]*)\]\);', put)[1])
+    assert len(totals) == size('TOTALS') and 'out.split_at_mut(TOTALS)' in put and 'cells.copy_from_slice(&r.cells);' in put
+    yield 'RukeshomajiReport', [BY.get(name, name) for name in totals] + ['cells'] * (size('REPORT') - len(totals))
 
 
 def check_comments():

@@ -9,7 +9,7 @@ CRATES = ROOT / 'crates'
 DECLARED = re.compile(
     r'^\s*(?:(?:abbrev|unfoldable|pub|record|data|infix[lr]?|\d+)\s+)*(?P<antt>[^\s:(){}]+)\s*(?:[({].*)?:\s'
     r'|^\s*(?:pub )?(?:record|data) (?P<record>[^\s:(]+)'
-    r'|\b(?:fn|struct|enum|const|mod) (?P<code>\w+)'
+    r'|\b(?:fn|struct|enum|trait|const|static|mod) (?P<code>\w+)'
     r'|^\s+(?P<variant>[A-Z]\w*)(?:\(\w+\))?,$'
     r'|^(?:\w+ )+\**(?P<c>rukeshomaji_\w+)\(', re.M)
 DEFINED = re.compile(r'^\s*(?:pub\s+)?(?:abbrev|unfoldable|opaque)\s+(?:pub\s+)?(?P<name>[^\s:(){}]+)', re.M)
