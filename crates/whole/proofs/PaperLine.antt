@@ -6,7 +6,6 @@ use Prim.Native.Nat.{ℕ, ◌+◌, ◌-◌, ◌*◌, ◌/◌, ◌≤◌, ◌<◌
 use native.Mathlib.Nat.{mul-le-mul, le_of_mul-le-mul_right, dvd-zero, div-mul_cancel}
 use native.Mathlib.Omega.{arith}
 use Rattle.whole.specs.declared.Fraction.{Fraction}
-use Rattle.whole.specs.Root.{Radicand}
 use Rattle.whole.specs.Digits.{Left, Found, taken, Digit, Place}
 use Rattle.whole.proofs.Root.{le_of_square, radicand}
 use Rattle.whole.proofs.Places.{place_positive, tenth, zeros_next}
@@ -20,12 +19,12 @@ pub record Line (s : ℕ) (ρ : Fraction) (last p left k : ℕ) : Type 0 where
   pub found : Found s ρ p k
   pub rest : Left s ρ k left
 
-module _ (s : ℕ) (ρ : Fraction) (q : Radicand s ρ) where
+module _ (s : ℕ) (ρ : Fraction) (unit : s ≤ 10_000_000) (positive : 0 < ρ.den) (most : ρ.num ≤ 11 * ρ.den) where
   -- what fits is at most 4·10⁷
   pub fits_small : (k : ℕ) → ρ.den * (k * k) ≤ s * s * ρ.num → k ≤ 40_000_000
   fits_small k h =
       le_of_square k 40_000_000
-      (le_of_mul-le-mul_right {k = ρ.den} (omega (arith, h, radicand s ρ.num ρ.den q.unit_most q.most)) q.positive)
+      (le_of_mul-le-mul_right {k = ρ.den} (omega (arith, h, radicand s ρ.num ρ.den unit most)) positive)
 
   -- before the first digit: no multiple of 10⁸ but 0 fits, and all is left
   pub first_line : (last : ℕ) → last ≤ 10_000_000 → Line s ρ last 100_000_000 (s * s * ρ.num) 0

@@ -5,7 +5,7 @@ use Rattle.whole.proofs.PaperLine.{first_line, line_small, next_positive, next_s
 use Rattle.whole.proofs.paper.digits_down_to.Goals as goal
 
 pub loop-p-init : goal.loop-p-init
-loop-p-init c = first_line c.args.s c.args.square c.requires.0 c.args.last c.requires.2
+loop-p-init c = (let q = c.requires.0 in first_line c.args.s c.args.square q.unit_most q.positive q.most c.args.last c.requires.2)
 
 pub digit-requires : goal.digit-requires
 digit-requires c =
@@ -15,12 +15,13 @@ digit-requires c =
     let l = c.requires.1 in
     let i = c.loop-p.invariant in
     let t = c.loop-p-test.true in
-    (q.positive, q.small, line_small s ρ q l i, next_positive s ρ q l i t, next_small s ρ q l i t, ten_more s ρ q l i t)
+    (q.positive, q.small, line_small s ρ q.unit_most q.positive q.most l i, next_positive s ρ q.unit_most q.positive q.most l i t, next_small s ρ q.unit_most q.positive q.most l i t, ten_more s ρ q.unit_most q.positive q.most l i t)
 
 pub overflow_mul-x : goal.overflow_mul-x
 overflow_mul-x c =
+    let q = c.requires.0 in
     let i = c.loop-p.invariant in
-    omega (arith, next_fits c.args.s c.args.square c.requires.0 c.requires.1 i c.loop-p-test.true c.digit.result c.digit.ensures.holds)
+    omega (arith, next_fits c.args.s c.args.square q.unit_most q.positive q.most c.requires.1 i c.loop-p-test.true c.digit.result c.digit.ensures.holds)
 
 pub taken-left-requires : goal.taken-left-requires
 taken-left-requires c =
@@ -29,7 +30,7 @@ taken-left-requires c =
     let q = c.requires.0 in
     let l = c.requires.1 in
     let i = c.loop-p.invariant in
-    (q.small, line_small s ρ q l i, next_fits s ρ q l i c.loop-p-test.true c.digit.result c.digit.ensures.holds)
+    (q.small, line_small s ρ q.unit_most q.positive q.most l i, next_fits s ρ q.unit_most q.positive q.most l i c.loop-p-test.true c.digit.result c.digit.ensures.holds)
 
 pub overflow_add-k : goal.overflow_add-k
 overflow_add-k c =
@@ -38,10 +39,11 @@ overflow_add-k c =
     let q = c.requires.0 in
     let l = c.requires.1 in
     let i = c.loop-p.invariant in
-    omega (arith, line_small s ρ q l i, next_fits s ρ q l i c.loop-p-test.true c.digit.result c.digit.ensures.holds)
+    omega (arith, line_small s ρ q.unit_most q.positive q.most l i, next_fits s ρ q.unit_most q.positive q.most l i c.loop-p-test.true c.digit.result c.digit.ensures.holds)
 
 pub loop-p-preserved : goal.loop-p-preserved
 loop-p-preserved c =
+    let q = c.requires.0 in
     let i = c.loop-p.invariant in
-    next_line c.args.s c.args.square c.requires.0 c.requires.1 i c.loop-p-test.true c.digit.result c.taken-left.result c.digit.ensures
+    next_line c.args.s c.args.square q.unit_most q.positive q.most c.requires.1 i c.loop-p-test.true c.digit.result c.taken-left.result c.digit.ensures
     c.taken-left.ensures
