@@ -9,9 +9,7 @@ ghost use Rattle.job.specs.ShearCall.{building_figures};
 
 use base_shear::Figures;
 use base_shear::base::base_figures;
-use limits::frame::FrameValues;
-use limits::ground::GroundValues;
-use limits::judging::{Given, judged_job};
+use limits::judging::{Given, GivenValues, judged_job};
 use limits::refusal::Refusal;
 use site::ground::ground_hazards;
 
@@ -40,6 +38,7 @@ pub fn building_figures(given: Given, weight: u64, height: u64) -> Figures
     base_figures(hazards, given.frame, weight, height)
 }
 
+// Two lists, as `judged_levels` of limits says why.
 // The five figures of a judged ground and frame on the levels of a job.
 pub fn job_figures(given: Given, weights: &[u64], heights: &[u64]) -> Figures
     requires { AllowedJob given weights.now heights.now }
@@ -48,15 +47,11 @@ pub fn job_figures(given: Given, weights: &[u64], heights: &[u64]) -> Figures
     building_figures(given, total_weight(weights), top_height(heights))
 }
 
+// Two lists, as `judged_levels` of limits says why.
 // The five figures of unjudged values, or the refusal, with no buffer to write to.
-pub fn figures(
-    ground: GroundValues,
-    frame: FrameValues,
-    weights: &[u64],
-    heights: &[u64],
-) -> Result<Figures, Refusal>
-    ensures { Figured ground frame weights.now heights.now result }
+pub fn figures(given: GivenValues, weights: &[u64], heights: &[u64]) -> Result<Figures, Refusal>
+    ensures { Figured given.ground given.frame weights.now heights.now result }
 {
-    let given = judged_job(ground, frame, weights, heights, weights.len())?;
+    let given = judged_job(given, weights, heights, weights.len())?;
     Ok(job_figures(given, weights, heights))
 }

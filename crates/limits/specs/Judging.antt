@@ -1,4 +1,5 @@
 -- All that is judged of a job, of the two calls that it is parted into and of a row of a district, in order. room is the length of the shortest result buffer.
+--   given_values G f                       a ground and a frame as they come
 --   judged_given o G f                    after a first judgment o: ground (5 to 7 of a site, 18 of a zone), frame (8 to 12); the judged ones, or
 --                                        the first refusal
 --   judged_job G f ws hs room              of a job: levels (1 to 4), ground, frame
@@ -10,6 +11,7 @@ use Rattle.std.specs.Prelude.{List, ℕ, length}
 use Rattle.limits.specs.declared.frame.FrameValues.{FrameValues}
 use Rattle.limits.specs.declared.ground.GroundValues.{GroundValues}
 use Rattle.limits.specs.declared.judging.Given.{Given}
+use Rattle.limits.specs.declared.judging.GivenValues.{GivenValues}
 use Rattle.limits.specs.Building.{judged_building}
 use Rattle.limits.specs.District.{stretch, judged_stretch}
 use Rattle.limits.specs.Frame.{judged_frame}
@@ -17,6 +19,9 @@ use Rattle.limits.specs.Ground.{judged_ground}
 use Rattle.limits.specs.Handed.{judged_handed}
 use Rattle.limits.specs.Levels.{judged_levels}
 use Rattle.limits.specs.Outcome.{Outcome, accepted, Done, ◌>>=◌, ◌>>◌}
+
+abbrev pub given_values : (ground : GroundValues) → FrameValues → GivenValues
+given_values G f = record { ground = G; frame = f }
 
 abbrev pub judged_given : Outcome Done → (ground : GroundValues) → FrameValues → Outcome Given
 judged_given o G f = do

@@ -24,6 +24,7 @@ impl Displacement {
         ensures { outcome result ≡ judged_displacement d place }
     {
         require(
+            // as `in_range`, which is of numbers without a sign, as its definition is
             Self::LEAST <= d && d <= Self::MOST,
             Refusal::at(Number::Displacement, place),
         )

@@ -5,6 +5,7 @@ ghost use Rattle.limits.specs.Outcome.{outcome};
 
 use crate::displacement::displaced;
 use crate::drift_limit::DriftLimit;
+use crate::handed::Handed;
 use crate::judging::judged_distribution;
 use crate::lengths::{roomy, same_length};
 use crate::levels::{counted, raised};
@@ -29,18 +30,18 @@ pub fn judged_drift(
     DriftLimit::judged(limit)
 }
 
+// Two lists, as `judged_levels` says why.
 // As the distribution is judged, then 26, with room cells in the shorter result buffer.
 #[tactic(auto, unfolding(crate::specs::DriftJudging::judged_moments))]
 pub fn judged_moments(
-    shear: u64,
-    period: u64,
+    handed: Handed,
     weights: &[u64],
     heights: &[u64],
     dimension: u64,
     room: usize,
 ) -> Result<(), Refusal>
-    ensures { outcome result ≡ judged_moments shear period weights.now heights.now dimension room }
+    ensures { outcome result ≡ judged_moments handed.shear handed.period weights.now heights.now dimension room }
 {
-    judged_distribution(shear, period, weights, heights, room)?;
+    judged_distribution(handed, weights, heights, room)?;
     Plan::judged_dimension(dimension)
 }

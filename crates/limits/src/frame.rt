@@ -18,7 +18,7 @@ pub struct FrameValues {
 }
 
 impl FrameValues {
-    // Of the five numbers of a frame line, in its order.
+    // Of the five numbers of a frame line, in its order: no `From`, as it asks for so many.
     pub fn of(numbers: &[u64]) -> FrameValues
         requires { 5 ≤ length numbers.now }
         ensures { result ≡ frame_values numbers.now }
@@ -34,6 +34,7 @@ impl FrameValues {
 }
 
 // The frame line, judged.
+// As they come and as judged are two types: one over the type of the kind would put a type argument into every contract and definition that names either.
 #[derive(Clone, Copy)]
 pub struct Frame {
     pub kind: Kind,
@@ -76,7 +77,7 @@ impl Frame {
         )
     }
 
-    // 8 to 12 in turn.
+    // 8 to 12 in turn: `judged`, as of all that is judged; docs/PROMISES.md names it.
     #[tactic(auto, unfolding(crate::specs::Frame::judged_frame))]
     pub fn judged(v: FrameValues) -> Result<Frame, Refusal>
         ensures { outcome result ≡ judged_frame v }

@@ -14,7 +14,7 @@ pub enum GroundValues {
     Basin(u64),
 }
 
-// The ground, judged.
+// The ground, judged. A type of its own, as `Site` is beside `SiteValues`.
 #[derive(Clone, Copy)]
 pub enum Ground {
     Site(Site),

@@ -20,7 +20,7 @@ pub fn counted(levels: usize) -> Result<(), Refusal>
     )
 }
 
-// 3: the weights.
+// 3: the weights. `raised` and `displaced` go through a list so too, each with a judgment of its own.
 #[tactic(auto, using(crate::proofs::Lists::weights_step, crate::proofs::Lists::weights_end))]
 pub fn weighed(weights: &[u64]) -> Result<(), Refusal>
     ensures { outcome result ≡ weighed 1 weights.now }
@@ -45,6 +45,7 @@ pub fn raised(heights: &[u64]) -> Result<(), Refusal>
 }
 
 // 1 to 4 in turn, with room cells in the shortest result buffer.
+// Weights and heights are two lists: a struct of both would make each clause read `levels.now.weights.now`, and every entry of C would build it.
 #[tactic(auto, unfolding(crate::specs::Levels::judged_levels))]
 pub fn judged_levels(weights: &[u64], heights: &[u64], room: usize) -> Result<(), Refusal>
     ensures { outcome result ≡ judged_levels weights.now heights.now room }

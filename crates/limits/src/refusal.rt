@@ -48,7 +48,8 @@ pub enum Number {
     Dimension = 26,
 }
 
-// A refusal: document 01's number, and its place. The number is any u64, as what prints or hands on a refusal promises it of any: `put_refusal`, `row_of`.
+// A refusal: document 01's number, and its place, 0 where none is named. Both are any u64, as what prints or hands on a refusal promises it of any:
+// `put_refusal`, `row_of`.
 #[derive(Clone, Copy, Debug, PartialEq, Eq)]
 pub struct Refusal {
     pub number: u64,

@@ -24,7 +24,7 @@ pub struct SiteValues {
 }
 
 impl SiteValues {
-    // Of the nine numbers of a site line, in its order.
+    // Of the nine numbers of a site line, in its order: no `From`, as it asks for so many.
     pub fn of(numbers: &[u64]) -> SiteValues
         requires { 9 ≤ length numbers.now }
         ensures { result ≡ site_values numbers.now }
@@ -44,6 +44,7 @@ impl SiteValues {
 }
 
 // The site line, judged.
+// As they come and as judged are two types: one over the type of the class would put a type argument into every contract and definition that names either.
 #[derive(Clone, Copy)]
 pub struct Site {
     pub ssd: u64,

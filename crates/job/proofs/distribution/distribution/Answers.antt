@@ -12,15 +12,15 @@ use Rattle.job.proofs.distribution.distribution.Goals as goal
 pub returns-in_err-judged_distribution : goal.returns-in_err-judged_distribution
 returns-in_err-judged_distribution c =
     let a = c.args in
-    refused_distributed a.shear a.period a.weights.now a.heights.now _ _ c.shortest-room.ensures _ _ (handed_on _ _ c.from_residual.ensures.1) (ap outcome (handed_on _ _ c.from_residual.ensures.1) ∙ c.in_err-judged_distribution.ensures)
+    refused_distributed a.handed.shear a.handed.period a.weights.now a.heights.now _ _ c.shortest-room.ensures _ _ (handed_on _ _ c.from_residual.ensures.1) (ap outcome (handed_on _ _ c.from_residual.ensures.1) ∙ c.in_err-judged_distribution.ensures)
 
 pub fill_storeys-requires : goal.fill_storeys-requires
 fill_storeys-requires c =
     let a = c.args in
     let short = c.shortest-room.ensures in
-    let all = distribution_allowed a.shear a.period a.weights.now a.heights.now _ (sym c.in_ok-judged_distribution.ensures) in
+    let all = distribution_allowed a.handed.shear a.handed.period a.weights.now a.heights.now _ (sym c.in_ok-judged_distribution.ensures) in
     let shear = all.2.shear.1 in (
-      record { part = roof_at_most_one a.period; shear = omega (arith, shear) },
+      record { part = roof_at_most_one a.handed.period; shear = omega (arith, shear) },
       standing a.weights.now a.heights.now all.0,
       omega (arith, all.1),
       omega (arith, all.1),
@@ -31,4 +31,4 @@ pub returns : goal.returns
 returns c =
     let a = c.args in
     let cells = c.fill_storeys.ensures in
-    passed_distributed a.shear a.period a.weights.now a.heights.now _ _ c.shortest-room.ensures (sym c.in_ok-judged_distribution.ensures) cells.0 cells.1 cells.2
+    passed_distributed a.handed.shear a.handed.period a.weights.now a.heights.now _ _ c.shortest-room.ensures (sym c.in_ok-judged_distribution.ensures) cells.0 cells.1 cells.2

@@ -9,18 +9,18 @@ use Rattle.job.proofs.shear_call.shear_call.Goals as goal
 pub returns-in_err-given : goal.returns-in_err-given
 returns-in_err-given c =
     let a = c.args in
-    let j = judged_call a.ground a.frame a.weight a.height c.judged-building.ensures in
+    let j = judged_call a.given.ground a.given.frame a.building.weight a.building.height c.judged.ensures in
     ap outcome (handed_on _ _ c.from_residual.ensures.1)
-    ∙ sym (call_refused a.ground a.frame a.weight a.height (sym (c.in_err-given.ensures ∙ j)))
+    ∙ sym (call_refused a.given.ground a.given.frame a.building.weight a.building.height (sym (c.in_err-given.ensures ∙ j)))
 
 pub building_figures-requires : goal.building_figures-requires
 building_figures-requires c =
     let a = c.args in
-    let j = judged_call a.ground a.frame a.weight a.height c.judged-building.ensures in
-    shear_call_allowed a.ground a.frame a.weight a.height _ (sym (c.in_ok-given.ensures ∙ j))
+    let j = judged_call a.given.ground a.given.frame a.building.weight a.building.height c.judged.ensures in
+    shear_call_allowed a.given.ground a.given.frame a.building.weight a.building.height _ (sym (c.in_ok-given.ensures ∙ j))
 
 pub returns : goal.returns
 returns c =
     let a = c.args in
-    let j = judged_call a.ground a.frame a.weight a.height c.judged-building.ensures in
-    ap accepted c.building_figures.ensures ∙ sym (call_accepted a.ground a.frame a.weight a.height (sym (c.in_ok-given.ensures ∙ j)))
+    let j = judged_call a.given.ground a.given.frame a.building.weight a.building.height c.judged.ensures in
+    ap accepted c.building_figures.ensures ∙ sym (call_accepted a.given.ground a.given.frame a.building.weight a.building.height (sym (c.in_ok-given.ensures ∙ j)))
