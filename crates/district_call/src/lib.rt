@@ -33,7 +33,7 @@ fn fill_rows(
     let mut cells = [0; CELLS];
     for (i, j) in jobs.iter().enumerate() {
         let a = answer_to(j, weights, heights);
-        // By its index: no proof knows what is written through `iter_mut`.
+        // By its place: of the cells that a `zip` with `iter_mut` lends a proof does not know what was written.
         rows[i] = row_of(a);
         totals = totals.with_answer(a);
         count_in(&mut cells, a);

@@ -31,7 +31,7 @@ pub struct Report {
     pub cells: [u64; CELLS],
 }
 
-// The report of no job.
+// The report of no job. Written out: the derive does not say so of the cells.
 impl Default for Report {
     ghost is_default = { λ r. r ≡ report_of [] };
 

@@ -6,6 +6,7 @@ ghost use Rattle.district_call.specs.Row.{answer_to, row_of};
 
 use crate::entered::{JOB, frame_in, ground_in, stretch_in};
 use crate::weighed::{Weighed, weighed_job};
+use limits::judging::GivenValues;
 use limits::refusal::Refusal;
 
 // How many numbers a row has: number, place, V, V_M, V*, V_D and T.
@@ -21,12 +22,11 @@ pub fn answer_to(j: &[u64; JOB], weights: &[u64], heights: &[u64]) -> Result<Wei
     stretch.judged(weights.len() as u64)?;
     let start = stretch.start as usize;
     let end = start + stretch.count as usize;
-    weighed_job(
-        ground_in(j),
-        frame_in(j),
-        &weights[start..end],
-        &heights[start..end],
-    )
+    let given = GivenValues {
+        ground: ground_in(j),
+        frame: frame_in(j),
+    };
+    weighed_job(given, &weights[start..end], &heights[start..end])
 }
 
 // The numbers of a row; zeros for figures where the job is refused.

@@ -5,8 +5,7 @@ ghost use Rattle.district_call.specs.Weighed.{weighed_job};
 
 use base_shear::Figures;
 use job::figures::{figures, total_weight};
-use limits::frame::FrameValues;
-use limits::ground::GroundValues;
+use limits::judging::GivenValues;
 use limits::refusal::Refusal;
 
 // V, V_M, V*, V_D and T, and W in kN.
@@ -16,17 +15,13 @@ pub struct Weighed {
     pub weight: u64,
 }
 
+// Two lists, as `judged_levels` of limits says why.
 // The figures of a job without buffers, or its refusal.
 #[tactic(auto, unfolding(crate::specs::Weighed::weighed_job), using(crate::proofs::WeighedJobs::weighs))]
-pub fn weighed_job(
-    ground: GroundValues,
-    frame: FrameValues,
-    weights: &[u64],
-    heights: &[u64],
-) -> Result<Weighed, Refusal>
-    ensures { outcome result ≡ weighed_job ground frame weights.now heights.now }
+pub fn weighed_job(given: GivenValues, weights: &[u64], heights: &[u64]) -> Result<Weighed, Refusal>
+    ensures { outcome result ≡ weighed_job given.ground given.frame weights.now heights.now }
 {
-    let figures = figures(ground, frame, weights, heights)?;
+    let figures = figures(given, weights, heights)?;
     let weight = total_weight(weights);
     Ok(Weighed { figures, weight })
 }

@@ -7,6 +7,7 @@ ghost use Rattle.drift.specs.Accidental.{accidental_moment, each_way, moments_at
 ghost use Rattle.drift.specs.Reach.{Carried};
 
 use limits::drift::judged_moments;
+use limits::handed::Handed;
 use limits::level::Level;
 use limits::refusal::Refusal;
 use storeys::level_force::level_force;
@@ -39,25 +40,25 @@ fn fill_each_way(shears: &[u64], dimension: u64, positive: &mut [i64], negative:
     }
 }
 
-// A base shear in N at a period in ms, weights in kN, heights and a plan dimension in dm: the accidental moment of each level in the lent buffers, in
-// 0.01 N·dm, positive in one, negative in the other. Lists and buffers come apart, as `rukeshomaji_accidental_moments` has them of C.
+// A base shear in N at a period in ms, as they are handed in, weights in kN, heights and a plan dimension in dm: the accidental moment of each level in
+// the lent buffers, in 0.01 N·dm, positive in one, negative in the other.
+// Lists and buffers come apart, as `rukeshomaji_accidental_moments` has them of C.
 #[tactic(auto, unfolding(crate::specs::Accidental::moments_of))]
 pub fn accidental_moments(
-    shear: u64,
-    period: u64,
+    handed: Handed,
     weights: &[u64],
     heights: &[u64],
     dimension: u64,
     positive: &mut [i64],
     negative: &mut [i64],
 ) -> Result<(), Refusal>
-    ensures { MomentAnswers shear period weights.now heights.now dimension (record { positive = positive.old; negative = negative.old }) result (record { positive = positive.new; negative = negative.new }) }
+    ensures { MomentAnswers handed.shear handed.period weights.now heights.now dimension (record { positive = positive.old; negative = negative.old }) result (record { positive = positive.new; negative = negative.new }) }
 {
     let room = positive.len().min(negative.len());
-    judged_moments(shear, period, weights, heights, dimension, room)?;
+    judged_moments(handed, weights, heights, dimension, room)?;
     let mut room_for_shears = [0u64; LEVELS];
     let shears = &mut room_for_shears[..weights.len()];
-    fill_shears(period, shear, weights, heights, shears);
+    fill_shears(handed.period, handed.shear, weights, heights, shears);
     fill_each_way(shears, dimension, positive, negative);
     Ok(())
 }

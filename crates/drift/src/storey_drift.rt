@@ -47,6 +47,7 @@ impl Storeys<'_> {
         requires { x < length self.now.heights.now }
         ensures { result ≡ verdict_of self.now.heights.now self.now.displacements.now self.now.limit x }
     {
+        // as the lent buffer holds it
         u64::from(self.apart(x) <= self.limit * self.height(x))
     }
 

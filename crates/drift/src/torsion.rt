@@ -27,12 +27,11 @@ fn torsion_factor(floor: Floor) -> u64
     .min(FACTOR_MOST)
 }
 
-// The largest and the average displacement of a floor in 0.01 mm, without a sign: the factor in thousandths, or why not.
+// A floor, its largest and its average displacement in 0.01 mm, without a sign: the factor in thousandths, or why not.
 #[tactic(auto, using(limits::proofs::AcceptedDrift::floor_allowed), unfolding(crate::specs::Torsion::torsion_of))]
-pub fn torsion(largest: u64, average: u64) -> Result<u64, Refusal>
-    ensures { TorsionAnswers largest average result }
+pub fn torsion(floor: Floor) -> Result<u64, Refusal>
+    ensures { TorsionAnswers floor.largest floor.average result }
 {
-    let floor = Floor { largest, average };
     floor.judged()?;
     Ok(torsion_factor(floor))
 }

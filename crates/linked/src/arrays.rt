@@ -33,6 +33,7 @@ pub fn put_figures(out: &mut [u64; 6], answer: Result<Figures, Refusal>) -> u64
     }
 }
 
+// Beside `put_figures`, as an array of one cell more than there are values is no type over a const parameter.
 // Place; a number, 0 where data is refused: a class by its number, a torsion factor in thousandths.
 pub fn put_number(out: &mut [u64; 2], answer: Result<u64, Refusal>) -> u64
     ensures { NumberReply (outcome answer) result out.new }

@@ -10,8 +10,12 @@ use district_call::report::Report;
 use district_call::row::ROW;
 use drift::accidental::accidental_moments;
 use job::distribution::distribution;
+use limits::building::Building;
+use limits::floor::Floor;
 use limits::frame::FrameValues;
 use limits::ground::GroundValues;
+use limits::handed::Handed;
+use limits::judging::GivenValues;
 use limits::site::SiteValues;
 use sheet::listing::LONGEST;
 use sheet::put_in_array;
@@ -19,6 +23,8 @@ use sheet::put_in_array;
 pub mod arrays;
 
 ghost use Rattle.std.specs.Prelude.{◌≡◌};
+ghost use Rattle.limits.specs.Frame.{frame_values};
+ghost use Rattle.limits.specs.Judging.{given_values};
 ghost use Rattle.linked.specs.Linked.{on_site, in_basin, JobReplies, FiguresReplies, ShearCallReplies, DistributionReplies, DistrictReplies, DriftReplies, TorsionReplies, MomentsReplies, LogReplies, SheetReplies, version, edition, source};
 
 // The version of the library: 1,000,000 times the major number, 1,000 times the minor one, and the last.
@@ -29,6 +35,16 @@ pub const EDITION: u64 = 2_005;
 
 // The state of the rules (CHANGELOG.md says what each number has). A change of what any call answers takes the next number.
 pub const SOURCE: u64 = 6;
+
+// What is given on a ground, with a frame line.
+fn given_on(ground: GroundValues, frame: &[u64; 5]) -> GivenValues
+    ensures { result ≡ given_values ground (frame_values frame.now) }
+{
+    GivenValues {
+        ground,
+        frame: FrameValues::of(frame),
+    }
+}
 
 // A job on a ground, and its reply.
 fn job_on(
@@ -43,8 +59,8 @@ fn job_on(
 ) -> u64
     ensures { JobReplies ground frame.now weights.now heights.now (record { forces = forces.old; shears = shears.old; overturnings = overturnings.old }) result figures.new (record { forces = forces.new; shears = shears.new; overturnings = overturnings.new }) }
 {
-    let f = FrameValues::of(frame);
-    let a = job::job(ground, f, weights, heights, forces, shears, overturnings);
+    let given = given_on(ground, frame);
+    let a = job::job(given, weights, heights, forces, shears, overturnings);
     put_figures(figures, a)
 }
 
@@ -58,8 +74,8 @@ fn figures_on(
 ) -> u64
     ensures { FiguresReplies ground frame.now weights.now heights.now result figures.new }
 {
-    let f = FrameValues::of(frame);
-    let a = job::figures::figures(ground, f, weights, heights);
+    let given = given_on(ground, frame);
+    let a = job::figures::figures(given, weights, heights);
     put_figures(figures, a)
 }
 
@@ -73,8 +89,8 @@ fn shear_call_on(
 ) -> u64
     ensures { ShearCallReplies ground frame.now weight height result figures.new }
 {
-    let f = FrameValues::of(frame);
-    let a = job::shear_call::shear_call(ground, f, weight, height);
+    let given = given_on(ground, frame);
+    let a = job::shear_call::shear_call(given, Building { weight, height });
     put_figures(figures, a)
 }
 
@@ -204,15 +220,12 @@ pub extern "C" fn rukeshomaji_distribution(
 ) -> u64
     ensures { DistributionReplies base_shear period weights.now heights.now (record { forces = forces.old; shears = shears.old; overturnings = overturnings.old }) result place.new (record { forces = forces.new; shears = shears.new; overturnings = overturnings.new }) }
 {
-    let a = distribution(
-        base_shear,
+    let handed = Handed {
+        shear: base_shear,
         period,
-        weights,
-        heights,
-        forces,
-        shears,
-        overturnings,
-    );
+    };
+    let a = distribution(handed, weights, heights, forces, shears, overturnings);
+    // said so of drift and moments too: one function would hide which cell is written
     let (number, at) = said(a.err());
     *place = at;
     number
@@ -264,7 +277,7 @@ pub extern "C" fn rukeshomaji_drift(
 pub extern "C" fn rukeshomaji_torsion(largest: u64, average: u64, reply: &mut [u64; 2]) -> u64
     ensures { TorsionReplies largest average result reply.new }
 {
-    put_number(reply, drift::torsion::torsion(largest, average))
+    put_number(reply, drift::torsion::torsion(Floor { largest, average }))
 }
 
 // The accidental moments of each level by a base shear in N, a period in ms and a plan dimension in dm: in 0.01 N·dm, positive in one lent buffer and
@@ -283,7 +296,12 @@ pub extern "C" fn rukeshomaji_accidental_moments(
     ensures { MomentsReplies shear period weights.now heights.now dimension (record { positive = positive.old; negative = negative.old }) result place.new (record { positive = positive.new; negative = negative.new }) }
 {
     let a = accidental_moments(
-        shear, period, weights, heights, dimension, positive, negative,
+        Handed { shear, period },
+        weights,
+        heights,
+        dimension,
+        positive,
+        negative,
     );
     let (number, at) = said(a.err());
     *place = at;

@@ -27,7 +27,7 @@ use Rattle.sheet.proofs.ReadLaid.{read_same}
 record SheetTaken (o : Outcome Sheet) (c : SheetRead) : Type 0 where
   pub read : Sheet
   pub is : o ≡ accepted read
-  pub held : ◌≡◌ {A = SheetRead} (record { ground_values = read.ground; frame_values = read.frame; levels = levels_kept read.levels }) c
+  pub held : ◌≡◌ {A = SheetRead} (record { given = record { ground = read.ground; frame = read.frame }; levels = levels_kept read.levels }) c
 
 -- ---- an answer, once it is known
 module _ (o : Outcome Sheet) (r : Answer SheetRead) (e : r ≡ sheet_read o) where
@@ -75,8 +75,8 @@ sheet_job s r e ev ef ew eh same =
 pub record SheetHeld (s : List ℕ) (c : SheetRead) : Type 0 where
   pub read : Sheet
   pub is : read_sheet s ≡ accepted read
-  pub ground : read.ground ≡ c.ground_values
-  pub frame : read.frame ≡ c.frame_values
+  pub ground : read.ground ≡ c.given.ground
+  pub frame : read.frame ≡ c.given.frame
   pub weights : take c.levels.count c.levels.weights ≡ kept read.levels.weights
   pub heights : take c.levels.count c.levels.heights ≡ kept read.levels.heights
   pub same : length read.levels.heights ≡ length read.levels.weights
@@ -86,7 +86,7 @@ pub record SheetHeld (s : List ℕ) (c : SheetRead) : Type 0 where
 pub record SheetJob (s : List ℕ) (c : SheetRead) : Type 0 where
   pub room : c.levels.count ≤ kept_most
   pub outcome : {ws hs : List ℕ} → ws ≡ take c.levels.count c.levels.weights → hs ≡ take c.levels.count c.levels.heights
-      → job_of c.ground_values c.frame_values ws hs (length ws) ≡ outcome_of s
+      → job_of c.given.ground c.given.frame ws hs (length ws) ≡ outcome_of s
 
 module _ (s : List ℕ) (r : Answer SheetRead) (e : r ≡ sheet_read (read_sheet s)) where
   pub sheet_refused : (f : Refusal) → r ≡ Err f → outcome_of s ≡ refused f.number f.place
@@ -106,8 +106,8 @@ module _ (s : List ℕ) (r : Answer SheetRead) (e : r ≡ sheet_read (read_sheet
         record {
           read = t.read;
           is = t.is;
-          ground = ap (λ (x : SheetRead). x.ground_values) t.held;
-          frame = ap (λ (x : SheetRead). x.frame_values) t.held;
+          ground = ap (λ (x : SheetRead). x.given.ground) t.held;
+          frame = ap (λ (x : SheetRead). x.given.frame) t.held;
           weights =
               sym (ap (λ (x : SheetRead). take n x.levels.weights) t.held) ∙ laid_part (kept ws) (zeros kept_most) n count;
           heights =

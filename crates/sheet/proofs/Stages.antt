@@ -78,6 +78,6 @@ module _ (s : List ℕ) where
       lines_later n p o = simp (begun, continued, o)
 
       pub lines_all : {l : LevelsRead} {f : FrameValues} → LevelsTaken third l → f ≡ frame_values ns
-          → Ok (record { ground_values = g; frame_values = f; levels = l }) ≡ sheet_read (sheet_lines s)
+          → Ok (record { given = record { ground = g; frame = f }; levels = l }) ≡ sheet_read (sheet_lines s)
       unfolding sheet_lines sheet_read
       lines_all {l} {f} last ef = simp (begun, continued, last.are) (rw (last.held, first.holds, ef))

@@ -12,6 +12,7 @@
 use Rattle.std.specs.Prelude.{List, ℕ, ◌+◌, leb, length, take, Option, Some, None, Ok, Err}
 use Rattle.whole.specs.Cells.{laid}
 use Rattle.limits.specs.declared.ground.GroundValues.{GroundValues}
+use Rattle.limits.specs.Judging.{given_values}
 use Rattle.limits.specs.Outcome.{Outcome, Answer, accepted, refused, zeros, require, ◌>>=◌, ◌>>◌}
 use Rattle.sheet.specs.declared.levels.LevelsRead.{LevelsRead}
 use Rattle.sheet.specs.declared.reader.SheetRead.{SheetRead}
@@ -54,5 +55,5 @@ levels_read (accepted ls) = Ok (levels_kept ls)
 levels_read (refused n p) = Err (record { number = n; place = p })
 
 unfoldable pub sheet_read : Outcome Sheet → Answer SheetRead
-sheet_read (accepted r) = Ok (record { ground_values = r.ground; frame_values = r.frame; levels = levels_kept r.levels })
+sheet_read (accepted r) = Ok (record { given = given_values r.ground r.frame; levels = levels_kept r.levels })
 sheet_read (refused n p) = Err (record { number = n; place = p })

@@ -42,6 +42,7 @@ pub fn level_lines(s: &[u8]) -> Result<LevelsRead, Refusal>
 {
     let mut weights = [0; KEPT];
     let mut heights = [0; KEPT];
+    // Counted by hand: there is no list of lines to go through, as where a line ends is known once it is read.
     let mut n = 0;
     let mut left = s;
     while !left.is_empty() {

@@ -2,8 +2,7 @@
 #![tactic(auto)]
 
 use job::job;
-use limits::frame::FrameValues;
-use limits::ground::GroundValues;
+use limits::judging::GivenValues;
 use limits::level::Level;
 use limits::refusal::Refusal;
 use listing::{LONGEST, Listing, put_refusal, put_results};
@@ -22,14 +21,14 @@ ghost use Rattle.sheet.specs.Listing.{outcome_of, sheet_listing, longest, printe
 // Result buffers for every job that is accepted.
 const ROOM: usize = Level::MOST as usize;
 
-// What was written into a buffer: how many bytes, and the refusal that they say, if they are no results.
+// What was written into a buffer: how many bytes, and the refusal that they say, if they are no results. The length is within a buffer of the caller.
 #[derive(Clone, Copy)]
 pub struct Put {
     pub length: usize,
     pub refusal: Option<Refusal>,
 }
 
-// Writes the line of a refusal.
+// Writes the line of a refusal. A buffer may be longer than a listing, as that of a district is: `&mut [u8; LONGEST]` would ask more.
 pub fn put_refused(out: &mut [u8], refusal: Refusal) -> Put
     requires { longest ≤ length out.old }
     ensures { Puts (refused refusal.number refusal.place) out.old out.new result }
@@ -40,23 +39,17 @@ pub fn put_refused(out: &mut [u8], refusal: Refusal) -> Put
     }
 }
 
+// Two lists, as `judged_levels` of limits says why.
 // Does a job and writes its listing. The job refuses over 50 levels before it looks at the buffers.
-pub fn put_job(
-    out: &mut [u8],
-    ground: GroundValues,
-    frame: FrameValues,
-    weights: &[u64],
-    heights: &[u64],
-) -> Put
+pub fn put_job(out: &mut [u8], given: GivenValues, weights: &[u64], heights: &[u64]) -> Put
     requires { longest ≤ length out.old }
-    ensures { Puts (job_of ground frame weights.now heights.now (length weights.now)) out.old out.new result }
+    ensures { Puts (job_of given.ground given.frame weights.now heights.now (length weights.now)) out.old out.new result }
 {
     let mut forces = [0; ROOM];
     let mut shears = [0; ROOM];
     let mut overturnings = [0; ROOM];
     let answer = job(
-        ground,
-        frame,
+        given,
         weights,
         heights,
         &mut forces,
@@ -84,13 +77,7 @@ pub fn put_sheet(out: &mut [u8], s: &[u8]) -> Put
         Err(refusal) => put_refused(out, refusal),
         Ok(read) => {
             let levels = &read.levels;
-            put_job(
-                out,
-                read.ground_values,
-                read.frame_values,
-                levels.weights(),
-                levels.heights(),
-            )
+            put_job(out, read.given, levels.weights(), levels.heights())
         }
     }
 }

@@ -24,6 +24,7 @@ pub fn put_levels(w: &mut Writer, forces: &[u64], shears: &[u64], overturnings: 
     ensures same_buffer { w.new.out.ghost_name ≡ w.old.out.ghost_name }
     ensures bytes { Writes w.old (all_levels forces.now shears.now overturnings.now) w.new }
 {
+    // By its place: three lists and a number zipped and reversed would have to be taken apart again.
     for x in (0..forces.len()).rev() {
         let numbers = [x as u64 + 1, forces[x], shears[x], overturnings[x]];
         w.line(b"level", &numbers);

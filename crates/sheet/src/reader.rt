@@ -12,6 +12,7 @@ use crate::layout::{
 use crate::levels::{LevelsRead, level_lines};
 use limits::frame::FrameValues;
 use limits::ground::GroundValues;
+use limits::judging::GivenValues;
 use limits::refusal::{Number, Refusal};
 use limits::sheet::Sheet;
 use limits::site::SiteValues;
@@ -20,8 +21,7 @@ use text::line::line;
 // What line 1, line 2 and the level lines hold.
 #[derive(Clone, Copy)]
 pub struct SheetRead {
-    pub ground_values: GroundValues,
-    pub frame_values: FrameValues,
+    pub given: GivenValues,
     pub levels: LevelsRead,
 }
 
@@ -72,8 +72,10 @@ pub fn sheet_lines(s: &[u8]) -> Result<SheetRead, Refusal>
     ))?;
     let levels = level_lines(third)?;
     Ok(SheetRead {
-        ground_values: ground,
-        frame_values: FrameValues::of(&n),
+        given: GivenValues {
+            ground,
+            frame: FrameValues::of(&n),
+        },
         levels,
     })
 }

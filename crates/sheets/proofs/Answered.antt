@@ -44,7 +44,7 @@ kept_weighed v f ws hs same = go (leb (length ws) 50) refl
 module _ (s : List ℕ) (r : Answer SheetRead) (e : r ≡ sheet_read (read_sheet s)) where
   pub answer_taken : (c : SheetRead) → r ≡ Ok c → {ws hs : List ℕ}
       → ws ≡ take c.levels.count c.levels.weights → hs ≡ take c.levels.count c.levels.heights
-      → weighed_job c.ground_values c.frame_values ws hs ≡ sheet_answer s
+      → weighed_job c.given.ground c.given.frame ws hs ≡ sheet_answer s
   unfolding sheet_answer
   answer_taken c m ew eh =
       let t = sheet_held s r e c m in

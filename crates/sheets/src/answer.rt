@@ -13,10 +13,5 @@ pub fn sheet_answer(s: &[u8]) -> Result<Weighed, Refusal>
 {
     let read = read_sheet(s)?;
     let levels = &read.levels;
-    weighed_job(
-        read.ground_values,
-        read.frame_values,
-        levels.weights(),
-        levels.heights(),
-    )
+    weighed_job(read.given, levels.weights(), levels.heights())
 }

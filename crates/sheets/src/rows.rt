@@ -12,7 +12,7 @@ use crate::split::Sheets;
 use district_call::report::{CELLS, Report, Totals, count_in};
 use text::writing::Writer;
 
-// Writes a row for each sheet, and returns the report.
+// Writes a row for each sheet, and returns the report. It counts as `fill_rows` of a district does, of another list and with a row written.
 pub fn put_rows(w: &mut Writer, file: &[u8]) -> Report
     requires { (length (sheets_in file.now) ≤ 256) × Room w.old (row_lines (answers_in file.now)) }
     ensures report_value { result ≡ report_of (answers_in file.now) }
@@ -21,6 +21,7 @@ pub fn put_rows(w: &mut Writer, file: &[u8]) -> Report
 {
     let mut totals = Totals::default();
     let mut cells = [0; CELLS];
+    // Counted with the totals: the number of a row, its totals and its cell grow together.
     let mut number = 0;
     for s in Sheets(file) {
         let a = sheet_answer(s);

@@ -26,10 +26,10 @@ pub fill_each_way-requires : goal.fill_each_way-requires
 fill_each_way-requires c =
     let a = c.args in
     let asked = moments_asked _ _ _ _ _ _ c.in_ok-judged_moments.ensures in
-    let size = shears_length a.period a.shear a.weights.now a.heights.now in
+    let size = shears_length a.handed.period a.handed.shear a.weights.now a.heights.now in
     rw (shears_whole _ _ _ _ _ (omega (arith, length-take {A = ℕ})) c.fill_shears.ensures) (
-      shears_fall a.period a.shear a.weights.now a.heights.now asked.1.positive,
-      shears_carried a.period a.shear a.weights.now a.heights.now asked.0 asked.1.positive,
+      shears_fall a.handed.period a.handed.shear a.weights.now a.heights.now asked.1.positive,
+      shears_carried a.handed.period a.handed.shear a.weights.now a.heights.now asked.0 asked.1.positive,
       asked.2,
       omega (arith, size, asked.4, c.min-room.ensures),
       omega (arith, size, asked.4, c.min-room.ensures),
@@ -39,4 +39,4 @@ pub returns : goal.returns
 returns c =
     let a = c.args in
     let laid = rw (shears_whole _ _ _ _ _ (omega (arith, length-take {A = ℕ})) c.fill_shears.ensures) at c.fill_each_way.ensures in
-    passed_moments a.shear a.period a.weights.now a.heights.now a.dimension _ c.min-room.ensures (sym c.in_ok-judged_moments.ensures) laid.0 laid.1
+    passed_moments a.handed.shear a.handed.period a.weights.now a.heights.now a.dimension _ c.min-room.ensures (sym c.in_ok-judged_moments.ensures) laid.0 laid.1
