@@ -24,8 +24,8 @@ pub fn figures_at(s: u64, k: Hazards, f: Frame, w: u64, t: u64) -> Figures
     Figures { v, vm, star, vd, t }
 }
 
-// Weight and height are judged numbers: types of them would be built of W and h for this one call.
 // The five figures of three hazards, whatever made them, a judged frame, a total weight in kN and a top height in dm.
+// Weight and height are judged numbers: types of them would be built of W and h for this one call.
 pub fn base_figures(hazards: Hazards, frame: Frame, weight: u64, height: u64) -> Figures
     requires { Reached hazards × AllowedFrame frame × (weight ≤ total_most) × (1 ≤ height) × (height ≤ 2000) }
     ensures { result ≡ base_figures hazards frame weight height }

@@ -28,7 +28,8 @@ pub fn approximate(kind: Kind, h: u64) -> u64
     largest(1000, 4, power(coefficient(kind), 4) * power(h, 3), PAST)
 }
 
-// With a calculated period the smaller of it and 14 t / 10 rounded down; else t. 0 is 'none', in the definition `in_use` too.
+// With a calculated period the smaller of it and 14 t / 10 rounded down; else t. 0 is 'none', as the definitions `in_use` and `AllowedFrame` have it of a
+// `Frame` that holds it so.
 #[tactic(auto, unfolding(crate::specs::Period::in_use))]
 pub fn in_use(calculated: u64, t: u64) -> u64
     requires { t ≤ 1_000_000 }

@@ -6,31 +6,41 @@ use cases::entered::{ground, in_order};
 use cases::said::{Answer, Tabbed};
 use job::distribution::distribution;
 use job::shear_call::shear_call;
+use limits::building::Building;
 use limits::frame::FrameValues;
+use limits::handed::Handed;
+use limits::judging::GivenValues;
 use rows::Numbers;
 use std::io;
 
 // The first number of a case: 0 a shear call on a site, 1 one in the Taipei Basin, any other a distribution.
 const IN_BASIN: u64 = 1;
 
+// In fixed memory, a count beside them: no heap, as `streams::ROOM`.
 // The most weights, heights and cells of a buffer that a case has.
 const LISTED: usize = 60;
 
 // Of a shear call ground, frame, weight and height follow.
 fn shear_case(rt: &impl Print, in_basin: bool, numbers: &mut Numbers) -> io::Result<()> {
-    let ground = ground(in_basin, numbers.row());
-    let frame = FrameValues::of(&numbers.row::<5>());
-    let weight = numbers.number();
-    let height = numbers.number();
-    let a = shear_call(ground, frame, weight, height);
+    let given = GivenValues {
+        ground: ground(in_basin, numbers.row()),
+        frame: FrameValues::of(&numbers.row::<5>()),
+    };
+    let building = Building {
+        weight: numbers.number(),
+        height: numbers.number(),
+    };
+    let a = shear_call(given, building);
     println!(rt; "{}", Answer(a.map(in_order)))
 }
 
 // Of a distribution base shear and period follow, how many weights and heights there are, the lengths of the buffers of forces, shears and overturning
 // moments, what each cell of the three holds before the call, the weights and the heights.
 fn distribution_case(rt: &impl Print, numbers: &mut Numbers) -> io::Result<()> {
-    let shear = numbers.number();
-    let period = numbers.number();
+    let handed = Handed {
+        shear: numbers.number(),
+        period: numbers.number(),
+    };
     let weight_count = numbers.at_most(LISTED);
     let height_count = numbers.at_most(LISTED);
     let force_cells = numbers.at_most(LISTED);
@@ -45,8 +55,7 @@ fn distribution_case(rt: &impl Print, numbers: &mut Numbers) -> io::Result<()> {
     let shears = &mut shears[..shear_cells];
     let overturnings = &mut overturnings[..overturning_cells];
     let a = distribution(
-        shear,
-        period,
+        handed,
         &weights[..weight_count],
         &heights[..height_count],
         forces,
@@ -69,6 +78,7 @@ fn case(rt: &impl Print, numbers: &mut Numbers) -> io::Result<()> {
 }
 
 // The first number says how many cases follow. Where a write fails the run ends, and what was printed is not what is wanted.
+// Each program of cases has such a `main`: a function cannot hand out a part of an array of its own.
 fn main(rt: HostRuntime) {
     let mut input = [0; streams::ROOM];
     let n = streams::read_full(&mut rt.stdin(), &mut input);

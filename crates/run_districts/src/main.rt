@@ -11,6 +11,7 @@ use district_call::row::ROW;
 use rows::Numbers;
 use std::io;
 
+// In fixed memory, a count beside them: no heap, as `streams::ROOM`.
 // The most jobs and rows that a case has.
 const LISTED: usize = 260;
 // The most weights and heights that a case has.
@@ -68,6 +69,7 @@ fn case(rt: &impl Print, numbers: &mut Numbers) -> io::Result<()> {
 }
 
 // The first number says how many cases follow. Where a write fails the run ends, and what was printed is not what is wanted.
+// Each program of cases has such a `main`: a function cannot hand out a part of an array of its own.
 fn main(rt: HostRuntime) {
     let mut input = [0; streams::ROOM];
     let n = streams::read_full(&mut rt.stdin(), &mut input);

@@ -5,6 +5,8 @@ use cases::said::{Answer, Tabbed};
 use drift::accidental::accidental_moments;
 use drift::storey_drift::drift;
 use drift::torsion::torsion;
+use limits::floor::Floor;
+use limits::handed::Handed;
 use rows::Numbers;
 use std::io;
 
@@ -13,6 +15,7 @@ const DRIFT: u64 = 0;
 
 const TORSION: u64 = 1;
 
+// In fixed memory, a count beside them: no heap, as `streams::ROOM`.
 // The most numbers of a list and cells of a buffer that a case has.
 const LISTED: usize = 52;
 
@@ -52,17 +55,21 @@ fn drift_case(rt: &impl Print, numbers: &mut Numbers) -> io::Result<()> {
 
 // Of a torsion the largest and the average displacement follow.
 fn torsion_case(rt: &impl Print, numbers: &mut Numbers) -> io::Result<()> {
-    let largest = numbers.number();
-    let average = numbers.number();
-    let a = torsion(largest, average);
+    let floor = Floor {
+        largest: numbers.number(),
+        average: numbers.number(),
+    };
+    let a = torsion(floor);
     println!(rt; "{}", Answer(a.map(|factor| [factor])))
 }
 
 // Of accidental moments base shear and period follow, how many weights and heights there are, the dimension, how many cells the two buffers have,
 // what each holds before the call, the weights and the heights.
 fn moments_case(rt: &impl Print, numbers: &mut Numbers) -> io::Result<()> {
-    let shear = numbers.number();
-    let period = numbers.number();
+    let handed = Handed {
+        shear: numbers.number(),
+        period: numbers.number(),
+    };
     let weight_count = numbers.at_most(LISTED);
     let height_count = numbers.at_most(LISTED);
     let dimension = numbers.number();
@@ -75,8 +82,7 @@ fn moments_case(rt: &impl Print, numbers: &mut Numbers) -> io::Result<()> {
     let positive = &mut positive[..positive_cells];
     let negative = &mut negative[..negative_cells];
     let a = accidental_moments(
-        shear,
-        period,
+        handed,
         &weights[..weight_count],
         &heights[..height_count],
         dimension,
@@ -97,6 +103,7 @@ fn case(rt: &impl Print, numbers: &mut Numbers) -> io::Result<()> {
 }
 
 // The first number says how many cases follow. Where a write fails the run ends, and what was printed is not what is wanted.
+// Each program of cases has such a `main`: a function cannot hand out a part of an array of its own.
 fn main(rt: HostRuntime) {
     let mut input = [0; streams::ROOM];
     let n = streams::read_full(&mut rt.stdin(), &mut input);

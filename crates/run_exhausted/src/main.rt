@@ -60,6 +60,7 @@ fn ductilities(rt: &impl Print, s: u64) -> io::Result<()>
     Ok(())
 }
 
+// The same of the capacities and squares of the Basin, and over other columns.
 fn basin_ductilities(rt: &impl Print, s: u64) -> io::Result<()>
     requires { (0 < s) × (s ≤ 10_000_000) }
 {

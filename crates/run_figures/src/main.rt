@@ -7,6 +7,7 @@ use job::job;
 use limits::class::Class;
 use limits::frame::FrameValues;
 use limits::ground::GroundValues;
+use limits::judging::GivenValues;
 use limits::kind::Kind;
 use limits::layer::LayerKind;
 use limits::site::SiteValues;
@@ -180,8 +181,10 @@ fn listing(rt: &impl Print) -> io::Result<()> {
     let mut shears = [0; 3];
     let mut overturnings = [0; 3];
     let a = job(
-        GroundValues::Site(site),
-        frame,
+        GivenValues {
+            ground: GroundValues::Site(site),
+            frame,
+        },
         &[5000; 3],
         &[100, 200, 300],
         &mut forces,

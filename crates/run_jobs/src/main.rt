@@ -6,12 +6,14 @@ use cases::said::{Answer, Tabbed};
 use job::figures::figures;
 use job::job;
 use limits::frame::FrameValues;
+use limits::judging::GivenValues;
 use rows::Numbers;
 use std::io;
 
 // What the ground is: 0 a site, 1 a zone of the Taipei Basin.
 const IN_BASIN: u64 = 1;
 
+// In fixed memory, a count beside them: no heap, as `streams::ROOM`.
 // The most weights, heights and cells of a buffer that a case has.
 const LISTED: usize = 60;
 
@@ -19,8 +21,11 @@ const LISTED: usize = 60;
 // each cell of the three holds before the call, its weights and its heights.
 fn case(rt: &impl Print, numbers: &mut Numbers) -> io::Result<()> {
     let in_basin = numbers.number() == IN_BASIN;
-    let ground = ground(in_basin, numbers.row());
-    let frame = FrameValues::of(&numbers.row::<5>());
+    let given = GivenValues {
+        ground: ground(in_basin, numbers.row()),
+        frame: FrameValues::of(&numbers.row::<5>()),
+    };
+    // read as in run_calls: a struct of the two lists and three buffers would be taken apart for the call
     let weight_count = numbers.at_most(LISTED);
     let height_count = numbers.at_most(LISTED);
     let force_cells = numbers.at_most(LISTED);
@@ -36,24 +41,17 @@ fn case(rt: &impl Print, numbers: &mut Numbers) -> io::Result<()> {
     let forces = &mut forces[..force_cells];
     let shears = &mut shears[..shear_cells];
     let overturnings = &mut overturnings[..overturning_cells];
-    let a = job(
-        ground,
-        frame,
-        weights,
-        heights,
-        forces,
-        shears,
-        overturnings,
-    );
+    let a = job(given, weights, heights, forces, shears, overturnings);
     println!(rt; "{}", Answer(a.map(in_order)))?;
     println!(rt; "forces{}", Tabbed(forces))?;
     println!(rt; "shears{}", Tabbed(shears))?;
     println!(rt; "moments{}", Tabbed(overturnings))?;
-    let a = figures(ground, frame, weights, heights);
+    let a = figures(given, weights, heights);
     println!(rt; "without buffers {}", Answer(a.map(in_order)))
 }
 
 // The first number says how many cases follow. Where a write fails the run ends, and what was printed is not what is wanted.
+// Each program of cases has such a `main`: a function cannot hand out a part of an array of its own.
 fn main(rt: HostRuntime) {
     let mut input = [0; streams::ROOM];
     let n = streams::read_full(&mut rt.stdin(), &mut input);

@@ -9,7 +9,7 @@ use fields::{
 };
 use limits::frame::FrameValues;
 use limits::ground::GroundValues;
-use limits::judging::{Given, judged_given};
+use limits::judging::{Given, GivenValues, judged_given};
 use limits::levels::judged_levels;
 use limits::refusal::Refusal;
 use limits::site::SiteValues;
@@ -52,7 +52,7 @@ fn judged(job: &[u64; FIELDS]) -> Result<Given, Refusal> {
         &job[HEIGHTS..heights_end],
         job[ROOM] as usize,
     );
-    judged_given(levels, ground, frame)
+    judged_given(levels, GivenValues { ground, frame })
 }
 
 // The good job with some fields changed.
@@ -70,6 +70,7 @@ fn case(rt: &impl Print, good: &[u64; FIELDS], numbers: &mut Numbers) -> io::Res
 }
 
 // The first number says how many cases follow the good job. Where a write fails the run ends, and what was printed is not what is wanted.
+// Each program of cases has such a `main`: a function cannot hand out a part of an array of its own.
 fn main(rt: HostRuntime) {
     let mut input = [0; streams::ROOM];
     let n = streams::read_full(&mut rt.stdin(), &mut input);

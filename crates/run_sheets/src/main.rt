@@ -25,6 +25,7 @@ fn read(rt: &HostRuntime, name: &[u8], cells: &mut [u8]) -> Option<usize>
     Some(streams::read_full(&mut file, cells))
 }
 
+// So in each program that prints a listing, which holds its bytes in an array and its length.
 fn print(rt: &impl Print, sheet: &[u8]) -> io::Result<()> {
     let Listing { bytes, length } = sheet_listing(sheet);
     rt.write_all(&bytes[..length])

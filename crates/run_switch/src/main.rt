@@ -8,6 +8,7 @@ use job::figures::figures;
 use limits::class::Class;
 use limits::frame::FrameValues;
 use limits::ground::GroundValues;
+use limits::judging::GivenValues;
 use limits::kind::Kind;
 use limits::site::SiteValues;
 use std::io;
@@ -31,14 +32,11 @@ fn run(class: Class) -> Figures {
         i: 125,
         alpha: 150,
     };
-    let refused = Figures {
-        v: 0,
-        vm: 0,
-        star: 0,
-        vd: 0,
-        t: 0,
+    let given = GivenValues {
+        ground: GroundValues::Site(site),
+        frame,
     };
-    figures(GroundValues::Site(site), frame, &[15_000], &[300]).unwrap_or(refused)
+    figures(given, &[15_000], &[300]).unwrap_or_default()
 }
 
 fn say(rt: &impl Print) -> io::Result<()> {

@@ -9,6 +9,7 @@ use std::io;
 // One byte more than a sheet may have says that it is too long, and the rest is left unread.
 const ROOM: usize = Sheet::BYTES_MOST as usize + 1;
 
+// So in each program that prints a listing, which holds its bytes in an array and its length.
 fn print(rt: &impl Print, sheet: &[u8]) -> io::Result<()> {
     let Listing { bytes, length } = sheet_listing(sheet);
     rt.write_all(&bytes[..length])

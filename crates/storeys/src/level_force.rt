@@ -15,7 +15,7 @@ pub fn level_force(shears: &[u64], x: usize) -> u64
     }
 }
 
-// The force of every level, into the first cells of out.
+// The force of every level, into the first cells of out. The verdicts of drift are filled so too: a loop over any step would ask what the step promises.
 #[tactic(auto, using(crate::proofs::Laying::laid_by_place))]
 pub fn fill_forces(shears: &[u64], out: &mut [u64])
     requires { Falling shears.now × (length shears.now ≤ length out.old) }

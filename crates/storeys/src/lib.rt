@@ -1,5 +1,6 @@
 // The storeys: roof force, shears, forces, overturning.
-// Weights and heights, and T and V, are handed on apart: `Weighing`, `Standing` and `Load` are clauses of public functions that docs/PROMISES.md names.
+// Weights and heights, and T and V, are handed on apart, and `Weighing`, `Standing`, `Falling` and `Load` stand in clauses: of the two a struct would make
+// each clause read `levels.now.weights.now`, and one pass down a list hands on parts of both.
 #![tactic(auto)]
 
 pub mod level_force;

@@ -18,6 +18,7 @@ pub fn shared(ft: u64, v: u64, px: u64, p: u64) -> u64
     ft + up((v - ft) * px, p)
 }
 
+// Two lists, as the head of the crate says why.
 // The shear under every level, into the first cells of out: P_x is that of the parts from level x on, which P_(x+1) is made of.
 pub fn fill_shears(t: u64, v: u64, weights: &[u64], heights: &[u64], out: &mut [u64])
     requires { Load t v × Weighing weights.now heights.now × (0 < weight_height weights.now heights.now) × (length weights.now ≤ length out.old) }

@@ -7,6 +7,7 @@ use crate::level_force::fill_forces;
 use crate::overturning::fill_overturnings;
 use crate::shear::fill_shears;
 
+// Two lists, as the head of the crate says why.
 // Shears, forces and overturning of every storey, into the first cells of the three buffers.
 pub fn fill_storeys(
     t: u64,

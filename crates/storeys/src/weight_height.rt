@@ -3,6 +3,7 @@ ghost use Rattle.std.specs.Prelude.{◌≡◌, ◌<◌, length, drop};
 ghost use Rattle.storeys.specs.Reach.{Weighing};
 ghost use Rattle.storeys.specs.Storeys.{weight_height};
 
+// Two lists, as the head of the crate says why.
 // P: weight times height, added over the levels.
 pub fn weight_height(weights: &[u64], heights: &[u64]) -> u64
     requires { Weighing weights.now heights.now }

@@ -1,9 +1,9 @@
 // What a reader gives, for the programs: where its bytes are known, those that came stand in the cells in their order, and no other is gone.
 #![tactic(auto)]
 
-ghost use Rattle.std.specs.Prelude.{take, MatchResult};
+ghost use Rattle.std.specs.Prelude.{◌<◌, length, take, MatchResult, IfOk};
 ghost use Rattle.std.specs.Counts.{IsPrefixLen};
-ghost use Rattle.std.specs.Io.KnownBytes.{Consumes};
+ghost use Rattle.std.specs.Io.KnownBytes.{Consumes, IsAtEnd};
 
 use std::io::Read;
 
@@ -21,6 +21,7 @@ pub struct CutShort {
 pub fn fill<R: Read>(input: &mut R, cells: &mut [u8]) -> Result<usize, CutShort>
     ensures within { MatchResult result (λ n. IsPrefixLen n cells.new) (λ e. IsPrefixLen e.came cells.new) }
     ensures bytes { MatchResult result (λ n. Consumes (R.remaining input.old) (R.remaining input.new) (take n cells.new)) (λ e. Consumes (R.remaining input.old) (R.remaining input.new) (take e.came cells.new)) }
+    ensures end { IfOk result (λ n. n < length cells.new → IsAtEnd (R.remaining input.new)) }
 {
     let mut n = 0;
     // By hand: of std's methods `read_to_end` needs a heap, and no clause says what `read_exact` leaves where the input ends before.
@@ -29,7 +30,7 @@ pub fn fill<R: Read>(input: &mut R, cells: &mut [u8]) -> Result<usize, CutShort>
             return Err(CutShort { came: n });
         };
         if more == 0 {
-            break;
+            return Ok(n);
         }
         n += more;
     }

@@ -32,7 +32,7 @@ pub fn line<'a, const N: usize>(s: &'a [u8], w: &[u8]) -> Option<([u64; N], &'a 
     ensures { and_rest result ≡ reads (line w.now N) s.now }
 {
     let begin = word(s, w)?;
-    // `?` is not yet covered where the array's length is a parameter.
+    // Without `?`: the check has no rule for it where the length of an array is a parameter.
     let Some(read) = fields(begin) else {
         return None;
     };

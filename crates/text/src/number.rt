@@ -16,6 +16,7 @@ pub struct Digits {
 fn count_digits(s: &[u8]) -> Digits
     ensures { result ≡ counted (take 10 (digits s.now)) }
 {
+    // One pass: count and value grow together, and two chains would read the digits twice.
     let mut count = 0;
     let mut value = 0;
     for b in s {

@@ -24,6 +24,7 @@ pub struct Writer<'a> {
     pub at: usize,
 }
 
+// `same_buffer` stands in each contract: it is said of a `&mut` before and after a call, which no invariant of one value can say.
 impl<'a> Writer<'a> {
     // Writes n in decimal, its last digit first.
     pub fn decimal(&mut self, n: u64)
@@ -33,6 +34,7 @@ impl<'a> Writer<'a> {
     {
         let end = self.at + digit_count(n);
         let mut rest = n;
+        // By its place: of the cells that `iter_mut` lends under `rev` a proof does not know what was written.
         for p in (self.at..end).rev() {
             self.out[p] = digit(rest);
             rest /= 10;
