@@ -25,7 +25,7 @@ NUMBER_WORDS = {2: 'two', 3: 'three', 4: 'four', 5: 'five', 7: 'seven', 9: 'nine
 MARGIN, BASE, STOREY, HANDED_IN = 6, 1, 3, 2       # Wishes 7 and 6 of 02: six ten-millionths, plus 1 N, plus two more; below 2 N of a shear handed in
 # what is said in digits and is no number of the rules
 SAID = ('its exit status is 1', 'its exit status is 1 if there is one', '(0 and 0 if it is accepted)', 'for x86-64 Linux', 'processors of level x86-64-v2', 'the largest of the three',
-        'A job is two calls in one', 'The module for Python has all three', 'took 19 minutes on four cores beside other work', '`N passed, 0 failed`',
+        'A job is two calls in one', 'The module for Python has all three', 'took 11 minutes on four cores', '`N passed, 0 failed`',
         'each as two compilers build it', 'in about half a minute')
 
 
