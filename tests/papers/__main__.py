@@ -27,7 +27,7 @@ from tests.papers.paper import LINK, Paper
 DOCS = ROOT / 'docs'
 NOTES = sorted(DOCS.glob('landings/*.md'))
 # pages that speak of names which are gone
-PORT = sorted([*DOCS.glob('PORT*.md'), DOCS / 'DESIGN-PASS.md'])
+PORT = sorted([*DOCS.glob('PORT*.md'), DOCS / 'DESIGN-PASS.md', DOCS / 'LOOK-BACK.md'])
 
 
 def every_paper():

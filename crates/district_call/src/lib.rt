@@ -14,7 +14,8 @@ pub mod weighed;
 
 ghost use Rattle.std.specs.Prelude.{◌≡◌, map, ◌≤◌, length};
 ghost use Rattle.whole.specs.Cells.{laid};
-ghost use Rattle.district_call.specs.District.{answers_to, DistrictAnswers};
+ghost use Rattle.limits.specs.Outcome.{outcome};
+ghost use Rattle.district_call.specs.District.{answers_to, reported, DistrictAnswers};
 ghost use Rattle.district_call.specs.Report.{report_of};
 ghost use Rattle.district_call.specs.Row.{row_of};
 
@@ -53,4 +54,11 @@ pub fn district(
 {
     District::judged(jobs.len(), weights.len(), heights.len(), rows.len())?;
     Ok(fill_rows(jobs, weights, heights, rows))
+}
+
+// The report that comes back of a district: of one that is refused, that of no job.
+pub fn reported(answer: Result<Report, Refusal>) -> Report
+    ensures { result ≡ reported (outcome answer) }
+{
+    answer.unwrap_or_default()
 }

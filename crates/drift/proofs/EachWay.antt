@@ -14,7 +14,8 @@ use mir.Facts.{to_z-of_z}
 use Rattle.std.proofs.lemmas.Int.{to_z_pos}
 use Rattle.whole.specs.Cells.{laid}
 use Rattle.whole.proofs.Cells.{Filling, filling_none, filling_more, filling_all, cells_at}
-use Rattle.whole.proofs.Floor.{neg_fits}
+use Rattle.whole.proofs.Difference.{from_zero}
+use Rattle.whole.proofs.Floor.{back, neg_fits}
 use Rattle.storeys.specs.Reach.{Load, Falling}
 use Rattle.storeys.specs.Storeys.{weight_height, shear_under, shears, force, forces}
 use Rattle.storeys.proofs.Chain.{shears_length, forces_length}
@@ -26,7 +27,11 @@ use Rattle.drift.specs.Reach.{Carried}
 pub moment_most : (f d : ℕ) → f ≤ 1_400_000_000 → d ≤ 5_000 → accidental_moment f d ≤ 35_000_000_000_000
 moment_most f d h l = mul-le-mul h (let e : 5 * d ≤ 25_000 = omega arith in e)
 
--- ---- a moment with its sign reversed, as it is made and as it is stored
+-- ---- a moment with its sign, as it is made and as it is stored
+pub as_positive : (m : ℕ) {z : ℤ} → m ≤ 35_000_000_000_000 → z ≡ pos m -ℤ pos 0 → to_z w64 (of_z w64 z) ≡ pos m
+as_positive m h e =
+    ap (λ (y : ℤ). to_z w64 (of_z w64 y)) (e ∙ sym (from_zero m)) ∙ back (pos m) (omega (arith, h))
+
 pub as_negative : (m : ℕ) {z : ℤ} → m ≤ 35_000_000_000_000 → z ≡ pos 0 -ℤ pos m → to_z w64 (of_z w64 z) ≡ neg_ℤ (pos m)
 as_negative m h e =
     ap (λ (y : ℤ). to_z w64 (of_z w64 y)) (e ∙ +ℤ_idl (neg_ℤ (pos m))) ∙ to_z-of_z {w = w64} (neg_fits m (omega (arith, h)))

@@ -4,10 +4,9 @@
 #![tactic(auto)]
 
 use arrays::{REPORT, put_figures, put_number, put_report, said};
-use district_call::district;
 use district_call::entered::JOB;
-use district_call::report::Report;
 use district_call::row::ROW;
+use district_call::{district, reported};
 use drift::accidental::accidental_moments;
 use job::distribution::distribution;
 use limits::building::Building;
@@ -242,16 +241,10 @@ pub extern "C" fn rukeshomaji_district(
 ) -> u64
     ensures { DistrictReplies jobs.now weights.now heights.now rows.old result report.new rows.new }
 {
-    match district(jobs, weights, heights, rows) {
-        Ok(r) => {
-            put_report(report, &r);
-            0
-        }
-        Err(refused) => {
-            put_report(report, &Report::default());
-            refused.number
-        }
-    }
+    let a = district(jobs, weights, heights, rows);
+    put_report(report, &reported(a));
+    let (number, _) = said(a.err());
+    number
 }
 
 // The drift of each storey by displacements in 0.01 mm and a limit in ten-thousandths: a verdict of each in the lent buffer, 1 yes, 0 no; the place of a

@@ -2,7 +2,7 @@
 -- Assumes nothing.
 use mathlib.Core.Path.{◌≡◌, refl, sym, ap, subst}
 use Prim.Native.Nat.{ℕ, ◌-◌, ◌*◌, ◌/◌, ◌^◌, ◌≤◌, ◌<◌}
-use native.Mathlib.Nat.{le_trans, mul-le-mul, mul-le-mul_left, mul-le-mul_right, le_of_mul-le-mul_right}
+use native.Mathlib.Nat.{le_trans, mul-le-mul, mul-le-mul_left, mul-le-mul_right, le_of_mul-le-mul_right, div-le_self}
 use native.Mathlib.Omega.{arith}
 use lib.IntN.{ℤ}
 use Rattle.whole.specs.declared.Fraction.{Fraction}
@@ -22,6 +22,9 @@ module _ (s : ℕ) (u : FineUnit s) where
   pub parts_positive : 0 < 100_000_000 / s
   parts_positive = left_positive (100_000_000 / s) s 100_000_000 u.divides (omega arith)
 
+  pub parts_most : 100_000_000 / s ≤ 100_000_000
+  parts_most = div-le_self 100_000_000 s
+
 -- ---- a capacity n/d and a square m/e
 pub ductile_of : (s n d m e : ℕ)
     → (0 < d) × (d ≤ 1000) × (d ≤ n) × (n ≤ 6 * d) × (0 < e) × (e ≤ 1000) × (e ≤ m) × (m ≤ 11 * e)
@@ -39,6 +42,10 @@ ductile_of s n d m e h t r =
       square_most = h.7;
       root_most = r;
     }
+
+-- ---- T·A
+pub ta_most : (a b t : ℕ) → Shape a b t → t * a ≤ 101_800_000_000_000
+ta_most a b t h = mul-le-mul h.t_most h.a_most
 
 -- ---- what the code of the factor needs of a root k
 pub record Rooted (s : ℕ) (c : Fraction) (k : ℕ) : Type 0 where

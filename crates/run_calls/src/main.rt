@@ -12,6 +12,7 @@ use limits::handed::Handed;
 use limits::judging::GivenValues;
 use rows::Numbers;
 use std::io;
+use streams::goes_on::GoesOn;
 
 // The first number of a case: 0 a shear call on a site, 1 one in the Taipei Basin, any other a distribution.
 const IN_BASIN: u64 = 1;
@@ -77,12 +78,12 @@ fn case(rt: &impl Print, numbers: &mut Numbers) -> io::Result<()> {
     }
 }
 
-// The first number says how many cases follow. Where a write fails the run ends, and what was printed is not what is wanted.
+// The first number says how many cases follow. A write that fails stops none that follows, and what was printed is then not what is wanted.
 // Each program of cases has such a `main`: a function cannot hand out a part of an array of its own.
 fn main(rt: HostRuntime) {
     let mut input = [0; streams::ROOM];
     let n = streams::read_full(&mut rt.stdin(), &mut input);
     let mut numbers = Numbers { rest: &input[..n] };
     let count = numbers.number();
-    let _ = (0..count).try_for_each(|_| case(&rt, &mut numbers));
+    let _ = (0..count).try_for_each(|_| case(&GoesOn(&rt), &mut numbers));
 }

@@ -4,12 +4,13 @@
 ghost use Rattle.std.specs.Prelude.{◌≤◌};
 
 use cases::said::{Answer, Tabbed};
-use district_call::district;
 use district_call::entered::JOB;
 use district_call::report::Report;
 use district_call::row::ROW;
+use district_call::{district, reported};
 use rows::Numbers;
 use std::io;
+use streams::goes_on::GoesOn;
 
 // In fixed memory, a count beside them: no heap, as `streams::ROOM`.
 // The most jobs and rows that a case has.
@@ -55,8 +56,7 @@ fn case(rt: &impl Print, numbers: &mut Numbers) -> io::Result<()> {
     for row in rows.iter() {
         println!(rt; "row{}", Tabbed(row))?;
     }
-    // of a district that is refused the report is that of no job
-    let Report { totals, cells } = a.unwrap_or_default();
+    let Report { totals, cells } = reported(a);
     let totals = [
         totals.accepted,
         totals.refused,
@@ -68,12 +68,12 @@ fn case(rt: &impl Print, numbers: &mut Numbers) -> io::Result<()> {
     println!(rt; "report{}{}", Tabbed(&totals), Tabbed(&cells))
 }
 
-// The first number says how many cases follow. Where a write fails the run ends, and what was printed is not what is wanted.
+// The first number says how many cases follow. A write that fails stops none that follows, and what was printed is then not what is wanted.
 // Each program of cases has such a `main`: a function cannot hand out a part of an array of its own.
 fn main(rt: HostRuntime) {
     let mut input = [0; streams::ROOM];
     let n = streams::read_full(&mut rt.stdin(), &mut input);
     let mut numbers = Numbers { rest: &input[..n] };
     let count = numbers.number();
-    let _ = (0..count).try_for_each(|_| case(&rt, &mut numbers));
+    let _ = (0..count).try_for_each(|_| case(&GoesOn(&rt), &mut numbers));
 }

@@ -18,6 +18,7 @@ use site::capacity::{
 };
 use site::coefficients::{fa, fv};
 use std::io;
+use streams::goes_on::GoesOn;
 use whole::Fraction;
 use whole::paper::digits_down_to;
 use whole::quotients::{down, up};
@@ -147,7 +148,7 @@ fn run(rt: &impl Print) -> io::Result<()> {
     on_paper(rt, 480)
 }
 
-// Where a write fails the run ends, and what was printed is not what is wanted.
+// A write that fails stops none that follows, and what was printed is then not what is wanted.
 fn main(rt: HostRuntime) {
-    let _ = run(&rt);
+    let _ = run(&GoesOn(&rt));
 }

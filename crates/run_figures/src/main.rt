@@ -20,6 +20,7 @@ use site::coefficients::{acceleration_a, acceleration_b, fa, fv};
 use site::lines::LINES;
 use std::fmt::Display;
 use std::io;
+use streams::goes_on::GoesOn;
 use whole::Fraction;
 use whole::roots::lower_root;
 
@@ -235,7 +236,7 @@ fn run(rt: &impl Print) -> io::Result<()> {
     listing(rt)
 }
 
-// Where a write fails the run ends, and what was printed is not what is wanted.
+// A write that fails stops none that follows, and what was printed is then not what is wanted.
 fn main(rt: HostRuntime) {
-    let _ = run(&rt);
+    let _ = run(&GoesOn(&rt));
 }

@@ -9,6 +9,7 @@ use limits::frame::FrameValues;
 use limits::judging::GivenValues;
 use rows::Numbers;
 use std::io;
+use streams::goes_on::GoesOn;
 
 // What the ground is: 0 a site, 1 a zone of the Taipei Basin.
 const IN_BASIN: u64 = 1;
@@ -50,12 +51,12 @@ fn case(rt: &impl Print, numbers: &mut Numbers) -> io::Result<()> {
     println!(rt; "without buffers {}", Answer(a.map(in_order)))
 }
 
-// The first number says how many cases follow. Where a write fails the run ends, and what was printed is not what is wanted.
+// The first number says how many cases follow. A write that fails stops none that follows, and what was printed is then not what is wanted.
 // Each program of cases has such a `main`: a function cannot hand out a part of an array of its own.
 fn main(rt: HostRuntime) {
     let mut input = [0; streams::ROOM];
     let n = streams::read_full(&mut rt.stdin(), &mut input);
     let mut numbers = Numbers { rest: &input[..n] };
     let count = numbers.number();
-    let _ = (0..count).try_for_each(|_| case(&rt, &mut numbers));
+    let _ = (0..count).try_for_each(|_| case(&GoesOn(&rt), &mut numbers));
 }

@@ -14,6 +14,7 @@ use rows::Numbers;
 use soil::log::site_class;
 use soil::velocity::velocity;
 use std::io;
+use streams::goes_on::GoesOn;
 
 mod fields;
 
@@ -110,10 +111,10 @@ fn run(rt: &impl Print, mut numbers: Numbers) -> io::Result<()> {
     velocities(rt, LayerKind::SoftClay, Layer::SOFT_CLAY_MOST + 2)
 }
 
-// Where a write fails the run ends, and what was printed is not what is wanted.
+// A write that fails stops none that follows, and what was printed is then not what is wanted.
 fn main(rt: HostRuntime) {
     let mut input = [0; streams::ROOM];
     let n = streams::read_full(&mut rt.stdin(), &mut input);
     let numbers = Numbers { rest: &input[..n] };
-    let _ = run(&rt, numbers);
+    let _ = run(&GoesOn(&rt), numbers);
 }

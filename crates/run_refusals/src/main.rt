@@ -15,6 +15,7 @@ use limits::refusal::Refusal;
 use limits::site::SiteValues;
 use rows::Numbers;
 use std::io;
+use streams::goes_on::GoesOn;
 
 mod fields;
 
@@ -69,7 +70,7 @@ fn case(rt: &impl Print, good: &[u64; FIELDS], numbers: &mut Numbers) -> io::Res
     }
 }
 
-// The first number says how many cases follow the good job. Where a write fails the run ends, and what was printed is not what is wanted.
+// The first number says how many cases follow the good job. A write that fails stops none that follows, and what was printed is then not what is wanted.
 // Each program of cases has such a `main`: a function cannot hand out a part of an array of its own.
 fn main(rt: HostRuntime) {
     let mut input = [0; streams::ROOM];
@@ -77,5 +78,5 @@ fn main(rt: HostRuntime) {
     let mut numbers = Numbers { rest: &input[..n] };
     let count = numbers.number();
     let good = numbers.row();
-    let _ = (0..count).try_for_each(|_| case(&rt, &good, &mut numbers));
+    let _ = (0..count).try_for_each(|_| case(&GoesOn(&rt), &good, &mut numbers));
 }

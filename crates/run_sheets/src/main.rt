@@ -10,6 +10,7 @@ use sheet::listing::Listing;
 use sheet::sheet_listing;
 use std::fs::File;
 use std::io;
+use streams::goes_on::GoesOn;
 
 const LF: u8 = b'\n';
 
@@ -33,12 +34,13 @@ fn print(rt: &impl Print, sheet: &[u8]) -> io::Result<()> {
 
 // A sheet that is not there is said to be so, and the output then differs.
 fn one(rt: &HostRuntime, name: &[u8]) -> io::Result<()> {
-    rt.write_all(name)?;
-    rt.write_all(b"\n")?;
+    let out = GoesOn(rt);
+    out.write_all(name)?;
+    out.write_all(b"\n")?;
     let mut input = [0; ROOM];
     match read(rt, name, &mut input) {
-        Some(n) => print(rt, &input[..n]),
-        None => rt.write_all(b"not there\n"),
+        Some(n) => print(&out, &input[..n]),
+        None => out.write_all(b"not there\n"),
     }
 }
 
@@ -49,7 +51,7 @@ fn run(rt: &HostRuntime, names: &[u8]) -> io::Result<()> {
     Ok(())
 }
 
-// Where a write fails the run ends, and what was printed is not what is wanted.
+// A write that fails stops none that follows, and what was printed is then not what is wanted.
 fn main(rt: HostRuntime) {
     let Ok(mut file) = File::open(&rt, "names") else {
         return;

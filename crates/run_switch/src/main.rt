@@ -12,6 +12,7 @@ use limits::judging::GivenValues;
 use limits::kind::Kind;
 use limits::site::SiteValues;
 use std::io;
+use streams::goes_on::GoesOn;
 
 fn run(class: Class) -> Figures {
     let site = SiteValues {
@@ -55,7 +56,7 @@ fn say(rt: &impl Print) -> io::Result<()> {
     Ok(())
 }
 
-// Where a write fails the run ends, and what was printed is not what is wanted.
+// A write that fails stops none that follows, and what was printed is then not what is wanted.
 fn main(rt: HostRuntime) {
-    let _ = say(&rt);
+    let _ = say(&GoesOn(&rt));
 }

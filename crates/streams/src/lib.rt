@@ -1,4 +1,5 @@
-// What a reader gives, for the programs: where its bytes are known, those that came stand in the cells in their order, and no other is gone.
+// What a reader gives, for the programs: where its bytes are known, those that came stand in the cells in their order, and no other is gone. And how they
+// print.
 #![tactic(auto)]
 
 ghost use Rattle.std.specs.Prelude.{◌<◌, length, take, MatchResult, IfOk};
@@ -6,6 +7,8 @@ ghost use Rattle.std.specs.Counts.{IsPrefixLen};
 ghost use Rattle.std.specs.Io.KnownBytes.{Consumes, IsAtEnd};
 
 use std::io::Read;
+
+pub mod goes_on;
 
 // Enough for the cases of each program that is run: the programs have no heap, so what they read and list stands in fixed memory.
 pub const ROOM: usize = 65_536;

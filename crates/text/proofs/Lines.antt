@@ -1,14 +1,15 @@
--- The numbers of a line, read one by one into the first cells of an array.
+-- The numbers of a line, read one by one into cells.
 --   gathered before o    the reading o, its numbers after those before
 -- Assumes nothing.
 use mathlib.Core.Path.{◌≡◌, refl, sym, ap₂, ◌∙◌}
 use mathlib.Core.List.{List, [], ◌∷◌, ◌++◌, append_assoc, append-nil}
 use Prim.Native.Nat.{ℕ, suc}
 use native.Mathlib.Nat.{add-zero}
-use Rattle.std.specs.Prelude.{Some, None}
+use denote.Ref.{Bor}
+use Rattle.std.specs.Prelude.{Option, Some, None}
 use Rattle.text.specs.Line.{lf, field, fields, line}
-use Rattle.text.specs.Reading.{Reading, found, otherwise, read, later, next, left, word, ◌>>=◌, ◌>>◌}
-use Rattle.text.proofs.Readings.{left_later, Went, then_went, then_missed, first_missed, read_went}
+use Rattle.text.specs.Reading.{Reading, found, otherwise, read, later, next, left, beside, rest, word, ◌>>=◌, ◌>>◌}
+use Rattle.text.proofs.Readings.{word_missed, Went, word_went, left_later, then_went, then_missed, first_missed, read_went, no_answer, answer}
 
 unfoldable pub gathered : List ℕ → Reading (List ℕ) → Reading (List ℕ)
 gathered before (found ns n) = found (before ++ ns) n
@@ -74,3 +75,8 @@ module _ (s w : List ℕ) (k : ℕ) where
           then_went (word w) (λ _. fields k >>= λ ns. word lf >> read ns) first
           (then_went (fields k) (λ ns. word lf >> read ns) middle
           (then_went (word lf) (λ _. read ns) last (read_went x ns)))
+
+      -- the answer of the last stage is that of the line
+      pub line_ended : (r : Option (Bor (List ℕ))) → rest r ≡ left (word lf e) e → beside ns r ≡ left (line w k s) s
+      line_ended None q = no_answer s _ (line_last (word_missed e _ None q refl))
+      line_ended (Some x) q = answer (line_whole x.now (word_went e _ (Some x) x q refl))

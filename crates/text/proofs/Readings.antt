@@ -9,7 +9,7 @@ use lib.Seq.{drop-drop}
 use denote.Ref.{Bor}
 use Rattle.std.specs.Prelude.{Option, Some, None}
 use Rattle.limits.specs.Outcome.{Done}
-use Rattle.text.specs.Reading.{Reading, found, otherwise, Reader, read, later, next, left, and_rest, rest, ◌>>=◌}
+use Rattle.text.specs.Reading.{Reading, found, otherwise, Reader, read, later, next, left, beside, and_rest, rest, ◌>>=◌}
 
 -- ---- an answer that finds nothing
 pub nothing : {A X : Type 0} {a : A} {n : ℕ} → ◌≡◌ {A = Reading A} otherwise (found a n) → X
@@ -20,8 +20,12 @@ unfolding left
 missed s (found a n) e = cc
 missed s otherwise e = refl
 
+pub beside_missed : {A : Type 0} (a : A) (s : List ℕ) (o : Reading A) (r : Option (Bor (List ℕ))) → beside a r ≡ left o s → r ≡ None
+    → o ≡ otherwise
+beside_missed a s o r e is = missed s o (sym e ∙ ap (beside a) is)
+
 pub word_missed : (s : List ℕ) (o : Reading Done) (r : Option (Bor (List ℕ))) → rest r ≡ left o s → r ≡ None → o ≡ otherwise
-word_missed s o r e is = missed s o (sym e ∙ ap rest is)
+word_missed = beside_missed tt
 
 pub value_missed : {A : Type 0} (s : List ℕ) (o : Reading A) (r : Option (A × Bor (List ℕ))) → and_rest r ≡ left o s → r ≡ None
     → o ≡ otherwise
@@ -40,9 +44,13 @@ went {A} s t (found b n) a e =
     record { used = n; is = ap (λ (p : A × List ℕ). found p.0 n) held; to = ap (λ (p : A × List ℕ). p.1) held }
 went s t otherwise a e = cc
 
+pub beside_went : {A : Type 0} (a : A) (s : List ℕ) (o : Reading A) (r : Option (Bor (List ℕ))) (b : Bor (List ℕ)) → beside a r ≡ left o s
+    → r ≡ Some b → Went s b.now o a
+beside_went a s o r b e is = went s b.now o a (sym e ∙ ap (beside a) is)
+
 pub word_went : (s : List ℕ) (o : Reading Done) (r : Option (Bor (List ℕ))) (b : Bor (List ℕ)) → rest r ≡ left o s → r ≡ Some b
     → Went s b.now o tt
-word_went s o r b e is = went s b.now o tt (sym e ∙ ap rest is)
+word_went = beside_went tt
 
 pub value_went : {A : Type 0} (s : List ℕ) (o : Reading A) (r : Option (A × Bor (List ℕ))) (p : A × Bor (List ℕ))
     → and_rest r ≡ left o s → r ≡ Some p → Went s p.1.now o p.0

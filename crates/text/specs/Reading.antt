@@ -9,6 +9,7 @@
 --   left o bytes    what the reading o of the bytes found, and the bytes after it; none where they are otherwise
 --   reads r bytes   so of what r reads from their front
 --   and_rest x, rest x    the code's answer x by the bytes that it lends: a value and the bytes after it; of a word, these alone
+--   beside a x            so of an answer that lends these alone where the value a stands beside it, as in cells that were filled
 use Rattle.std.specs.Prelude.{List, [], ◌∷◌, ℕ, ◌+◌, eqb, length, drop, Bool, true, false, ◌&&◌, Option, Some, None, option_map}
 use denote.Ref.{Bor}
 use Rattle.whole.specs.Choice.{pick}
@@ -59,5 +60,8 @@ reads r bytes = left (r bytes) bytes
 abbrev pub and_rest : {A : Type 0} → Option (A × Bor (List ℕ)) → Option (A × List ℕ)
 and_rest x = option_map (λ p. (p.0, p.1.now)) x
 
+abbrev pub beside : {A : Type 0} → A → Option (Bor (List ℕ)) → Option (A × List ℕ)
+beside a x = option_map (λ b. (a, b.now)) x
+
 abbrev pub rest : Option (Bor (List ℕ)) → Option (Done × List ℕ)
-rest x = option_map (λ b. (tt, b.now)) x
+rest x = beside tt x

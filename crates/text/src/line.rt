@@ -1,7 +1,7 @@
 // A line of a sheet: its word, so many numbers separated by tabs, and LF.
-ghost use Rattle.std.specs.Prelude.{◌≡◌};
+ghost use Rattle.std.specs.Prelude.{◌≡◌, length, replicate, IfNone};
 ghost use Rattle.text.specs.Line.{field, fields, line};
-ghost use Rattle.text.specs.Reading.{reads, and_rest};
+ghost use Rattle.text.specs.Reading.{reads, beside, and_rest};
 
 use crate::number::number;
 use crate::reading::word;
@@ -13,30 +13,71 @@ pub fn field(s: &[u8]) -> Option<(u64, &[u8])>
     number(word(s, b"\t")?)
 }
 
+// As many of them as there are cells, each into its cell as soon as it is read.
+fn read_fields<'a>(s: &'a [u8], cells: &mut [u64]) -> Option<&'a [u8]>
+    ensures { beside cells.new result ≡ reads (fields (length cells.old)) s.now }
+{
+    let mut left = s;
+    for cell in cells.iter_mut() {
+        let (n, after) = field(left)?;
+        *cell = n;
+        left = after;
+    }
+    Some(left)
+}
+
+// As many of them as there are cells, where the count is known only as it runs: the bytes after them. Where they are otherwise, the cells hold zeros.
+pub fn fill_fields<'a>(s: &'a [u8], cells: &mut [u64]) -> Option<&'a [u8]>
+    ensures read { beside cells.new result ≡ reads (fields (length cells.old)) s.now }
+    ensures none { IfNone result (cells.new ≡ replicate (length cells.old) 0) }
+{
+    match read_fields(s, cells) {
+        Some(after) => Some(after),
+        None => {
+            cells.fill(0);
+            None
+        }
+    }
+}
+
 // N of them.
 pub fn fields<const N: usize>(s: &[u8]) -> Option<([u64; N], &[u8])>
     ensures { and_rest result ≡ reads (fields N) s.now }
 {
     let mut numbers = [0; N];
-    let mut left = s;
-    for cell in numbers.iter_mut() {
-        let (n, after) = field(left)?;
-        *cell = n;
-        left = after;
+    let after = read_fields(s, &mut numbers)?;
+    Some((numbers, after))
+}
+
+// A word, as many numbers as there are cells, and LF, the numbers into their cells as they are read.
+fn read_line<'a>(s: &'a [u8], w: &[u8], cells: &mut [u64]) -> Option<&'a [u8]>
+    ensures { beside cells.new result ≡ reads (line w.now (length cells.old)) s.now }
+{
+    let begin = word(s, w)?;
+    let end = read_fields(begin, cells)?;
+    word(end, b"\n")
+}
+
+// A word, as many numbers as there are cells, and LF, where the count is known only as it runs: the bytes after them. Where they are otherwise, the cells
+// hold zeros.
+pub fn fill_line<'a>(s: &'a [u8], w: &[u8], cells: &mut [u64]) -> Option<&'a [u8]>
+    ensures read { beside cells.new result ≡ reads (line w.now (length cells.old)) s.now }
+    ensures none { IfNone result (cells.new ≡ replicate (length cells.old) 0) }
+{
+    match read_line(s, w, cells) {
+        Some(after) => Some(after),
+        None => {
+            cells.fill(0);
+            None
+        }
     }
-    Some((numbers, left))
 }
 
 // A word, N numbers, and LF.
 pub fn line<'a, const N: usize>(s: &'a [u8], w: &[u8]) -> Option<([u64; N], &'a [u8])>
     ensures { and_rest result ≡ reads (line w.now N) s.now }
 {
-    let begin = word(s, w)?;
-    // Without `?`: the check has no rule for it where the length of an array is a parameter.
-    let Some(read) = fields(begin) else {
-        return None;
-    };
-    let (numbers, end) = read;
-    let after = word(end, b"\n")?;
+    let mut numbers = [0; N];
+    let after = read_line(s, w, &mut numbers)?;
     Some((numbers, after))
 }

@@ -54,6 +54,9 @@ module _ (s : ℕ) (ρ : Fraction) (unit : s ≤ 10_000_000) (positive : 0 < ρ.
       pub next_small : p / 10 ≤ 10_000_000
       next_small = omega (arith, next.1, line.below)
 
+      pub next_less : p / 10 < p
+      next_less = omega (arith, next.1, next_positive)
+
       found_before : Found s ρ (10 * (p / 10)) k
       found_before = subst (λ (q : ℕ). Found s ρ q k) next.1 line.found
 
