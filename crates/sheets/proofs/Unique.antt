@@ -1,6 +1,5 @@
 -- No second outcome meets the contract of `put_district`: every cell of the lent array is determined, the length, and what is refused.
--- So are those of the functions inside whose contracts say 'the result is what the definition gives', and what a buffer holds: by `determined` and
--- `both_determined` of `whole`.
+-- So are those of the functions inside whose contracts say 'the result is what the definition gives', and what a buffer holds: by `determined` of `whole`.
 -- Assumes nothing.
 use mathlib.Core.Path.{◌≡◌, ap₂}
 use mathlib.Core.List.{List}
