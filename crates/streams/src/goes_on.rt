@@ -29,4 +29,9 @@ impl<P: Print> Print for GoesOn<'_, P> {
         let _ = self.0.write_all(bytes);
         Ok(())
     }
+
+    // Of some of the bytes: who asks how many were written is told of a failure too.
+    fn write_some(&self, bytes: &[u8]) -> io::Result<usize> {
+        self.0.write_some(bytes)
+    }
 }

@@ -1,5 +1,5 @@
-// What a reader gives, for the programs: where its bytes are known, those that came stand in the cells in their order, and no other is gone. And how they
-// print.
+// What a reader gives, for the programs: where its bytes are known, those that came stand in the cells in their order, and no other is gone. And how the
+// programs `run_*` print.
 #![tactic(auto)]
 
 ghost use Rattle.std.specs.Prelude.{◌<◌, length, take, MatchResult, IfOk};

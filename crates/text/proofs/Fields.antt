@@ -10,6 +10,7 @@ use lib.ListN.{length, get_or, take, length-append}
 use lib.Seq.{take-suc}
 use Rattle.text.proofs.Decimal.{decimal_most}
 use Rattle.text.specs.declared.writing.Writer.{Writer}
+use Rattle.text.specs.Line.{lf}
 use Rattle.text.specs.Writing.{field_of, fields_of, laid_out, Room}
 
 fields_join : (l : List ℕ) (n : ℕ) → fields_of (l ++ (n ∷ [])) ≡ fields_of l ++ field_of n
@@ -43,6 +44,10 @@ fields_most (n ∷ ns) = simp length-append (omega (arith, fields_most ns, decim
 pub line_length : (w ns : List ℕ) → length (laid_out w ns) ≡ length w + length (fields_of ns) + 1
 unfolding laid_out
 line_length w ns = simp length-append (omega arith)
+
+pub line_parts : (w ns : List ℕ) → laid_out w ns ≡ (w ++ fields_of ns) ++ lf
+unfolding laid_out
+line_parts w ns = sym (append_assoc w (fields_of ns) lf)
 
 pub line_most : (w ns : List ℕ) → length (laid_out w ns) ≤ length w + 21 * length ns + 1
 line_most w ns = omega (arith, line_length w ns, fields_most ns)

@@ -4,11 +4,11 @@ use mathlib.Core.Path.{◌≡◌, refl, sym, ap, ◌∙◌}
 use mathlib.Core.Bool.{Bool, true, false}
 use mathlib.Core.List.{List, [], ◌∷◌}
 use Prim.Native.Nat.{ℕ, suc, ◌≤◌, ◌<◌}
-use native.Mathlib.Nat.{not-suc-le-zero}
+use native.Mathlib.Nat.{add-zero, not-suc-le-zero}
 use native.Mathlib.Omega.{arith}
 use lib.Dec.{leb}
-use lib.ListN.{length, get_or, take}
-use lib.Seq.{take_all, length-take-le}
+use lib.ListN.{length, get_or, take, drop}
+use lib.Seq.{take_all, length-take-le, get_or-drop}
 use borrow.Author.Tests.{le-leb, lt-leb, leb-true, leb-false}
 use Rattle.whole.proofs.Choice.{by_test}
 use Rattle.limits.specs.Ranges.{in_range}
@@ -102,3 +102,6 @@ module _ (l : List ℕ) (d : Digits) (e : d ≡ counted (take 10 (digits l))) wh
       count_found z =
           number_found l (omega (arith, is_all)) (omega (arith, is_all)) (tests ∙ z)
           ∙ ap (λ (x : Digits). found x.value x.count) (sym all)
+
+pub head_at : (l : List ℕ) (i : ℕ) → get_or (drop i l) 0 0 ≡ get_or l i 0
+head_at l i = get_or-drop i l 0 0 ∙ ap (λ (k : ℕ). get_or l k 0) (add-zero i)

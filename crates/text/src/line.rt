@@ -26,6 +26,13 @@ fn read_fields<'a>(s: &'a [u8], cells: &mut [u64]) -> Option<&'a [u8]>
     Some(left)
 }
 
+// Zeros in every cell.
+fn clear(cells: &mut [u64])
+    ensures { cells.new ≡ replicate (length cells.old) 0 }
+{
+    cells.fill(0);
+}
+
 // As many of them as there are cells, where the count is known only as it runs: the bytes after them. Where they are otherwise, the cells hold zeros.
 pub fn fill_fields<'a>(s: &'a [u8], cells: &mut [u64]) -> Option<&'a [u8]>
     ensures read { beside cells.new result ≡ reads (fields (length cells.old)) s.now }
@@ -34,7 +41,7 @@ pub fn fill_fields<'a>(s: &'a [u8], cells: &mut [u64]) -> Option<&'a [u8]>
     match read_fields(s, cells) {
         Some(after) => Some(after),
         None => {
-            cells.fill(0);
+            clear(cells);
             None
         }
     }
@@ -67,7 +74,7 @@ pub fn fill_line<'a>(s: &'a [u8], w: &[u8], cells: &mut [u64]) -> Option<&'a [u8
     match read_line(s, w, cells) {
         Some(after) => Some(after),
         None => {
-            cells.fill(0);
+            clear(cells);
             None
         }
     }
